@@ -27,7 +27,8 @@ use Rattle.et_event.specs.Moments.{Moment, current_frame, moment}
 use Rattle.et_event.specs.Sites.{Site, decoded_at, site_of}
 use Rattle.et_parts.specs.Places.{IsPlace, site_at}
 use Rattle.et_parts.specs.declared.places.Place.{Place}
-use Rattle.et_builtins.specs.Deferred.{DefersOrAnswers, deferred_at, deferred_by, deferred_call, deferred_in}
+use Rattle.et_event.specs.Selected.{deferred_at, deferred_by, deferred_call, deferred_in}
+use Rattle.et_event.specs.Answered.{DefersOrAnswers}
 
 -- WHICH TURN IT IS
 

@@ -15,7 +15,7 @@ use Rattle.et_event.specs.declared.rows.CallKind.TheVariants.{Virtual, Special, 
 use Rattle.et_event.specs.Calls.{arguments_of, call_fits, dispatched, enters_method, entry_count, fits_resolved, invoke, is_as, is_static_call, special_class, with_method, with_type}
 use Rattle.et_event.specs.declared.rows.CallKind.{CallKind}
 use Rattle.et_builtins.specs.Arguments.{fitting}
-use Rattle.et_builtins.specs.Deferred.{selected_by, selected_from, selected_method, selected_on, with_resolved}
+use Rattle.et_event.specs.Selected.{selected_by, selected_from, selected_method, selected_on, with_resolved}
 use Rattle.et_pool.specs.Descriptors.{MethodType, method_type}
 use Rattle.et_state.specs.Outcome.{Outcome}
 use Rattle.et_event.specs.Checks.{ill_typed_unless, not_null, resolved, after_selection, throws_unless}

@@ -16,7 +16,7 @@ use Rattle.et_event.specs.Checks.{resolved}
 use Rattle.et_event.specs.Errors.{error_of}
 use Rattle.et_event.specs.Moments.{Moment, begins, throws}
 use Rattle.et_event.specs.Sites.{Site, site_member, names_interface, pool_index}
-use Rattle.et_builtins.specs.Deferred.{with_resolved}
+use Rattle.et_event.specs.Selected.{with_resolved}
 use Rattle.et_builtins.proofs.Planning.{resolves}
 use Rattle.et_builtins.proofs.Choosing.{resolved_same}
 

@@ -13,7 +13,7 @@ use Rattle.et_event.specs.Checks.{ill_typed_unless}
 use Rattle.et_event.specs.Moments.{Moment, ill_typed}
 use Rattle.et_event.specs.Sites.{Site, site_member, names_interface, pool_index}
 use Rattle.et_builtins.specs.Arguments.{fitting}
-use Rattle.et_builtins.specs.Deferred.{selected_by, selected_method}
+use Rattle.et_event.specs.Selected.{selected_by, selected_method}
 use Rattle.et_builtins.proofs.Planning.{checks, fitted, fitted_method, invoke_is, resolves, selected_is}
 
 abbrev named_shape : Option Member → Option Shape

@@ -2,5 +2,4 @@ pub mod Arguments
 pub mod Kinds
 pub mod Types
 pub mod Plans
-pub mod Deferred
 pub mod Classes

@@ -51,7 +51,7 @@ fn pass(machine: &mut Machine, call: &Called)
 }
 
 /// The event in which a method gives nothing.
-pub(crate) fn give_nothing(machine: &mut Machine, call: &Called) -> EventEnd
+pub fn give_nothing(machine: &mut Machine, call: &Called) -> EventEnd
     requires frame { HasFrame machine.old.guest call.now.thread }
     requires sound { IsSound (kept_of machine.old) }
     requires clock { machine.old.guest.clock < 2 ^ 40 }
@@ -67,7 +67,7 @@ pub(crate) fn give_nothing(machine: &mut Machine, call: &Called) -> EventEnd
 }
 
 /// The event in which a method gives a value of one entry.
-pub(crate) fn give(machine: &mut Machine, call: &Called, value: Value) -> EventEnd
+pub fn give(machine: &mut Machine, call: &Called, value: Value) -> EventEnd
     requires frame { HasFrame machine.old.guest call.now.thread }
     requires sound { IsSound (kept_of machine.old) }
     requires clock { machine.old.guest.clock < 2 ^ 40 }

@@ -6,7 +6,7 @@ ghost use Rattle.et_heap.specs.Refs.{refs_of_value};
 ghost use Rattle.et_state.specs.State.{kept_of};
 ghost use Rattle.et_state.specs.Words.{HasFrame, top};
 ghost use Rattle.et_program.specs.BootNames.{built_in_class_name};
-ghost use Rattle.et_event.specs.BuiltIns.{class_argument as argument_in_table, class_argument_of as argument_of_method, is_null_or_of_class, is_object_of_class as is_of_class, takes_arguments as takes_in};
+ghost use Rattle.et_event.specs.BuiltIns.{class_argument as argument_in_table, class_argument_of as argument_of_method, is_null_or_of_class, is_object_of_class as is_of_class, takes_arguments as takes_in, text_argument as text_in_table};
 ghost use Rattle.et_event.specs.Calls.{arguments_of, fits_resolved as fits_in};
 ghost use Rattle.et_event.specs.Moments.{begins, moment, object_class};
 ghost use Rattle.et_event.specs.Sound.{IsSoundFor};
@@ -15,7 +15,7 @@ ghost use Rattle.et_builtins.specs.Classes.{named};
 use crate::arguments::argument_at;
 use et_base::{ClassId, MethodId, ObjectId, Steps, ThreadId, Value};
 use et_parts::class_called;
-use et_program::{BuiltIn, BuiltInClass, Program};
+use et_program::{BuiltIn, BuiltInClass, Program, Shown, TextMethod};
 use et_state::Machine;
 use std::sync::ledger::Ledger;
 
@@ -91,6 +91,31 @@ fn class_argument(built_in: BuiltIn) -> Option<ClassArgument>
     }
 }
 
+/// The string that a method of texts takes.
+#[inline(always)]
+fn text_argument(method: TextMethod) -> Option<ClassArgument>
+    ensures { option_map named result ≡ text_in_table method }
+{
+    match method {
+        TextMethod::BeginWith
+        | TextMethod::Append(Shown::Text)
+        | TextMethod::Print(Shown::Text)
+        | TextMethod::PrintLine(Shown::Text) => Some(ClassArgument {
+            place: 1,
+            class: BuiltInClass::String,
+        }),
+        TextMethod::Append(_)
+        | TextMethod::Print(_)
+        | TextMethod::PrintLine(_)
+        | TextMethod::Length
+        | TextMethod::CharAt
+        | TextMethod::Equals
+        | TextMethod::Begin
+        | TextMethod::ToString
+        | TextMethod::EndLine => None,
+    }
+}
+
 /// The argument of one class that a method takes; one with code takes none.
 #[inline(always)]
 fn class_argument_of(program: &Program, method: MethodId) -> Option<ClassArgument>
@@ -100,7 +125,10 @@ fn class_argument_of(program: &Program, method: MethodId) -> Option<ClassArgumen
     if !program.is_deferred(method) {
         return None;
     }
-    class_argument(program.built_in(method)?)
+    match program.text_method(method) {
+        Some(text_method) => text_argument(text_method),
+        None => class_argument(program.built_in(method)?),
+    }
 }
 
 /// Whether a method takes the arguments of a call, by their classes.

@@ -10,5 +10,6 @@ mod plans;
 mod rows;
 
 pub use arguments::{argument_at, operands_are_few, receiver};
+pub use changes::{Called, give, give_nothing};
 pub use events::built_in_method_event;
 pub use plans::{Call, CallPlan, deferred_method, invoke_plan};

@@ -20,7 +20,7 @@ ghost use Rattle.et_event.specs.Moments.{Moment, begins, current_frame, moment};
 ghost use Rattle.et_event.specs.Sites.{Member, Site, natural_of, site_member, names_interface as is_of_interface};
 ghost use Rattle.et_event.specs.Initialization.{state_of};
 ghost use Rattle.et_event.specs.Sound.{IsSoundFor};
-ghost use Rattle.et_builtins.specs.Deferred.{selected_from, selected_method, selected_on, with_resolved};
+ghost use Rattle.et_event.specs.Selected.{selected_from, selected_method, selected_on, with_resolved};
 ghost use Rattle.et_builtins.specs.Plans.{method_entered, call_planned, HasCallRoom, IsCallPlan, resolving};
 
 use crate::arguments::{fitting_call, receiver};

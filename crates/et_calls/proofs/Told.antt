@@ -12,7 +12,8 @@ use Rattle.et_event.specs.Event.{does, event}
 use Rattle.et_event.specs.Moments.{moment}
 use Rattle.et_parts.specs.Places.{IsPlace, site_at}
 use Rattle.et_parts.specs.declared.places.Place.{Place}
-use Rattle.et_builtins.specs.Deferred.{DefersOrAnswers, deferred_at, deferred_call}
+use Rattle.et_event.specs.Selected.{deferred_at, deferred_call}
+use Rattle.et_event.specs.Answered.{DefersOrAnswers}
 use Rattle.et_builtins.proofs.Deferring.{at_place}
 
 -- the answer at a place is that of the turn

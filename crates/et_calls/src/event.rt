@@ -9,7 +9,8 @@ ghost use Rattle.et_state.specs.declared.stage.Turn.TheVariants as turns;
 ghost use Rattle.et_state.specs.State.{kept_of};
 ghost use Rattle.et_state.specs.Threads.{turn_of};
 ghost use Rattle.et_state.specs.Words.{thread_at};
-ghost use Rattle.et_builtins.specs.Deferred.{DefersOrAnswers, deferred_call};
+ghost use Rattle.et_event.specs.Selected.{deferred_call};
+ghost use Rattle.et_event.specs.Answered.{DefersOrAnswers};
 
 use crate::entry::entry_event;
 use crate::rows::call_event;

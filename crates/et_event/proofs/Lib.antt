@@ -4,3 +4,5 @@ mod CallExamples
 mod CheckExamples
 pub mod FamilyTurns
 pub mod BuiltInRoom
+pub mod Told
+pub mod Beside

@@ -3,7 +3,7 @@
 use Rattle.std.specs.Prelude.{ℕ, nat_lt, Bool, true, false, if◌then◌else◌, List, [], ◌∷◌, ◌++◌, length, drop, codes, Option, Some, None, option_and_then, slice_index_or}
 use Rattle.et_base.specs.declared.value.Value.{Value}
 use Rattle.et_base.specs.declared.value.Value.TheVariants.{Unset, Ref}
-use Rattle.et_program.specs.BuiltIns.{built_in_of, is_deferred}
+use Rattle.et_program.specs.BuiltIns.{built_in_of, is_deferred, text_method_of}
 use Rattle.et_program.specs.Entries.{Linked, method_at}
 use Rattle.et_program.specs.Members.{is_subclass}
 use Rattle.et_program.specs.declared.info.MethodInfo.{MethodInfo}
@@ -15,6 +15,9 @@ use Rattle.et_state.specs.Words.{thread_at, with_new_thread}
 use Rattle.et_state.specs.Outcome.{Outcome}
 use Rattle.et_program.specs.BootMethods.BuiltIn.{BuiltIn}
 use Rattle.et_program.specs.BootMethods.BuiltIn.TheVariants.{Nothing, SetMessage, SetMessageAndCause, GetMessage, GetCause, SetTarget, Start, Join, SetReferent, SetReferentAndQueue, GetReferent, ClearReferent, Poll}
+use Rattle.et_program.specs.BootTexts.Shown.TheVariants.{Text}
+use Rattle.et_program.specs.BootTexts.TextMethod.{TextMethod}
+use Rattle.et_program.specs.BootTexts.TextMethod.TheVariants.{BeginWith, Append, Print, PrintLine}
 use Rattle.et_event.specs.declared.errors.GuestError.TheVariants.{AbstractMethodError, IllegalThreadStateException, OutOfMemoryError}
 use Rattle.et_event.specs.Moments.{Moment, Doing, current_frame, doing_with_guest, with_frame, object_class, slot_written, goes, throws}
 use Rattle.et_event.specs.Errors.{class_called}
@@ -122,9 +125,24 @@ abbrev pub class_argument : BuiltIn → Option ClassArgument
 class_argument SetReferentAndQueue = Some (record { place = 2; class = codes "java/lang/ref/ReferenceQueue" })
 class_argument other = None
 
+-- .. and of the methods of texts: the string that a string builder begins with, or that is appended or printed
+abbrev pub string_argument : ClassArgument
+string_argument = record { place = 1; class = codes "java/lang/String" }
+
+abbrev pub text_argument : TextMethod → Option ClassArgument
+text_argument BeginWith = Some string_argument
+text_argument (Append Text) = Some string_argument
+text_argument (Print Text) = Some string_argument
+text_argument (PrintLine Text) = Some string_argument
+text_argument other = None
+
 -- .. of a method of the program; one with code has none
+abbrev pub class_argument_in : Option TextMethod → Option BuiltIn → Option ClassArgument
+class_argument_in (Some m) b = text_argument m
+class_argument_in None b = option_and_then class_argument b
+
 abbrev pub class_argument_of : Linked → ℕ → Option ClassArgument
-class_argument_of p m = if is_deferred p m then option_and_then class_argument (built_in_of (method_at p m)) else None
+class_argument_of p m = if is_deferred p m then class_argument_in (text_method_of p m) (built_in_of (method_at p m)) else None
 
 abbrev pub is_of_its_class : Moment → Doing → List Value → Option ClassArgument → Bool
 is_of_its_class e d arguments None = true

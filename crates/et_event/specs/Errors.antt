@@ -8,7 +8,7 @@ use Rattle.et_program.specs.Members.{class_named}
 use Rattle.et_program.specs.declared.errors.LinkError.{LinkError}
 use Rattle.et_program.specs.declared.errors.LinkError.TheVariants.{NoClassDefFound, NoSuchField, NoSuchMethod, IncompatibleClassChange, AbstractMethod}
 use Rattle.et_event.specs.declared.errors.GuestError.{GuestError}
-use Rattle.et_event.specs.declared.errors.GuestError.TheVariants.{AbstractMethodError, ArithmeticException, ArrayIndexOutOfBoundsException, ArrayStoreException, ClassCastException, ExceptionInInitializerError, IllegalMonitorStateException, IllegalThreadStateException, IncompatibleClassChangeError, InstantiationError, NegativeArraySizeException, NoClassDefFoundError, NoSuchFieldError, NoSuchMethodError, NullPointerException, OutOfMemoryError, StackOverflowError, UnsatisfiedLinkError}
+use Rattle.et_event.specs.declared.errors.GuestError.TheVariants.{AbstractMethodError, ArithmeticException, ArrayIndexOutOfBoundsException, ArrayStoreException, ClassCastException, ExceptionInInitializerError, IllegalMonitorStateException, IllegalThreadStateException, IncompatibleClassChangeError, InstantiationError, NegativeArraySizeException, NoClassDefFoundError, NoSuchFieldError, NoSuchMethodError, NullPointerException, OutOfMemoryError, StackOverflowError, StringIndexOutOfBoundsException, UnsatisfiedLinkError}
 
 abbrev pub class_of_error : GuestError → BuiltInClass
 class_of_error AbstractMethodError = class.AbstractMethodError
@@ -28,6 +28,7 @@ class_of_error NoSuchMethodError = class.NoSuchMethodError
 class_of_error NullPointerException = class.NullPointerException
 class_of_error OutOfMemoryError = class.OutOfMemoryError
 class_of_error StackOverflowError = class.StackOverflowError
+class_of_error StringIndexOutOfBoundsException = class.StringIndexOutOfBoundsException
 class_of_error UnsatisfiedLinkError = class.UnsatisfiedLinkError
 
 abbrev pub error_name : GuestError → List ℕ

@@ -1,5 +1,5 @@
 -- THE INSTRUCTIONS ON FIELDS, ARRAYS AND CLASSES (JVMS 2.11.5, and the sections of 6.5 with their names).
-use Rattle.std.specs.Prelude.{ℕ, zero, suc, ◌+◌, ◌||◌, not, nat_le, ℤ, pos, int_le, Bool, true, false, List, [], ◌∷◌, ◌++◌, length, Option, Some, None, unwrap_or}
+use Rattle.std.specs.Prelude.{ℕ, zero, suc, ◌+◌, ◌==◌, ◌||◌, codes, not, nat_le, ℤ, pos, int_le, Bool, true, false, List, [], ◌∷◌, ◌++◌, length, Option, Some, None, unwrap_or}
 use Rattle.std.specs.List.{list_all}
 use Rattle.et_base.specs.declared.value.Value.{Value}
 use Rattle.et_base.specs.declared.value.Value.TheVariants.{Int, Null, Ref}
@@ -19,12 +19,13 @@ use Rattle.et_state.specs.Outcome.{Outcome}
 use Rattle.et_event.specs.declared.rows.Elements.{Elements}
 use Rattle.et_event.specs.declared.rows.HeapRow.{HeapRow}
 use Rattle.et_event.specs.declared.rows.HeapRow.TheVariants as row
-use Rattle.et_event.specs.declared.errors.GuestError.TheVariants.{ArrayIndexOutOfBoundsException, ArrayStoreException, ClassCastException, IncompatibleClassChangeError, InstantiationError, NegativeArraySizeException}
+use Rattle.et_event.specs.declared.errors.GuestError.TheVariants.{ArrayIndexOutOfBoundsException, ArrayStoreException, ClassCastException, IncompatibleClassChangeError, InstantiationError, NegativeArraySizeException, NoSuchFieldError}
 use Rattle.et_event.specs.Moments.{Moment, Doing, current_frame, begins, with_frame, object_class, next_object, instance_made, array_made, slot_written, static_written, ill_typed, goes, ends_event}
 use Rattle.et_event.specs.Checks.{Reference, with_int, with_reference, with_value, entries_of, ill_typed_unless, resolved, throws_unless, not_null}
 use Rattle.et_event.specs.Sites.{Site, Member, site_member, class_operand, natural_of}
 use Rattle.et_event.specs.Kinds.{kind_of_field, or_zero, narrowed, kind_of_elements, are_elements, is_array_element, kept_element, in_bounds}
 use Rattle.et_class.specs.Operands.{operand_kind}
+use Rattle.et_event.specs.Errors.{class_called}
 use Rattle.et_event.specs.Initialization.{initialized}
 
 -- the instruction is done, and its operands became these
@@ -71,14 +72,20 @@ get_static e at =
     (initialized e (begins e) (field_at e.program f).class (λ d.
     ends_event (leaving_values e at (entries_of (or_zero (operand_kind m.descriptor) (static_at d.state.guest (field_at e.program f).slot)) ++ (current_frame e).operands) d))))))
 
+-- the field is System.out, the one static field of a built-in class
+abbrev pub is_out : Linked → ℕ → Bool
+is_out p f = (field_at p f).class == class_called p (codes "java/lang/System")
+
+-- no instruction writes System.out
 abbrev pub put_static : Moment → Site → Outcome Kept
 put_static e at =
     with_field e (site_member at) (λ m.
     with_value (kind_of_field m.descriptor) (ill_typed e) (current_frame e).operands (λ v below.
     resolved_field e (begins e) m (λ f.
     throws_unless e (begins e) IncompatibleClassChangeError (is_static_at e.program f)
+    (throws_unless e (begins e) NoSuchFieldError (not (is_out e.program f))
     (initialized e (begins e) (field_at e.program f).class (λ d.
-    ends_event (static_written e (field_at e.program f).slot (narrowed m.descriptor v) (leaving_values e at below d)))))))
+    ends_event (static_written e (field_at e.program f).slot (narrowed m.descriptor v) (leaving_values e at below d))))))))
 
 abbrev pub get_field : Moment → Site → Outcome Kept
 get_field e at =

@@ -15,8 +15,13 @@ pub mod Calls
 pub mod Throw
 pub mod Sync
 pub mod Event
+pub mod Selected
+pub mod TextRows
+pub mod Out
+pub mod Told
 pub mod Start
 pub mod Sound
+pub mod SoundTexts
 pub mod Answered
 pub mod PlainRows
 pub mod Programs

@@ -25,6 +25,7 @@ pub enum GuestError {
     NullPointerException,
     OutOfMemoryError,
     StackOverflowError,
+    StringIndexOutOfBoundsException,
     UnsatisfiedLinkError,
 }
 
@@ -65,6 +66,8 @@ impl GuestError {
             GuestError::NullPointerException => BuiltInClass::NullPointerException,
             GuestError::OutOfMemoryError => BuiltInClass::OutOfMemoryError,
             GuestError::StackOverflowError => BuiltInClass::StackOverflowError,
+            GuestError::StringIndexOutOfBoundsException =>
+                BuiltInClass::StringIndexOutOfBoundsException,
             GuestError::UnsatisfiedLinkError => BuiltInClass::UnsatisfiedLinkError,
         }
     }

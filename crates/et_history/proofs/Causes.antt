@@ -36,19 +36,19 @@ error = codes "java/lang/ExceptionInInitializerError"
 abbrev throwable : List ℕ
 throwable = codes "java/lang/Throwable"
 
-error_is : IsRightBelow 32 28 (codes "java/lang/LinkageError")
+error_is : IsRightBelow 35 31 (codes "java/lang/LinkageError")
 unfolding boots
 error_is = record { within = omega arith; superclass = refl; place = refl }
 
-linkage_is : IsRightBelow 28 12 (codes "java/lang/Error")
+linkage_is : IsRightBelow 31 15 (codes "java/lang/Error")
 unfolding boots
 linkage_is = record { within = omega arith; superclass = refl; place = refl }
 
-over_is : IsRightBelow 12 10 throwable
+over_is : IsRightBelow 15 10 throwable
 unfolding boots
 over_is = record { within = omega arith; superclass = refl; place = refl }
 
-error_place : boot_place error ≡ Some 32
+error_place : boot_place error ≡ Some 35
 unfolding boots
 error_place = refl
 
@@ -71,24 +71,24 @@ module _ (files : List LoadedClass) (rows : List Ancestry) (pools : List Constan
       ∙ (ap (λ (l : LinkEntry). supers_over rows l.above) (link_at files k h.within)
       ∙ (ap (λ (o : Option (List ℕ)). supers_over rows (option_and_then (class_place (set_of files)) o)) h.superclass ∙ ap (λ (o : Option ℕ). supers_over rows o) (place_in_set files name s h.place)))
 
-  above_error : supers 32 ≡ 28 ∷ 12 ∷ 10 ∷ supers 10
+  above_error : supers 35 ≡ 31 ∷ 15 ∷ 10 ∷ supers 10
   above_error =
-      right_below 32 28 (codes "java/lang/LinkageError") error_is
-      ∙ (ap (λ (ks : List ℕ). 28 ∷ ks) (right_below 28 12 (codes "java/lang/Error") linkage_is) ∙ ap (λ (ks : List ℕ). 28 ∷ 12 ∷ ks) (right_below 12 10 throwable over_is))
+      right_below 35 31 (codes "java/lang/LinkageError") error_is
+      ∙ (ap (λ (ks : List ℕ). 31 ∷ ks) (right_below 31 15 (codes "java/lang/Error") linkage_is) ∙ ap (λ (ks : List ℕ). 31 ∷ 15 ∷ ks) (right_below 15 10 throwable over_is))
 
-  is_throwable : is_subclass p 32 10 ≡ true
+  is_throwable : is_subclass p 35 10 ≡ true
   is_throwable =
       let n : length (set_of files) ≡ length boots + length files = many in
       let within = error_is.within in
-      let all : (class_at p 32).supers ≡ 28 ∷ 12 ∷ 10 ∷ supers 10 = ap (λ (x : ClassEntry). x.supers) (class_in files rows pools 32 (omega (arith, n, within))) ∙ above_error in
-      ap (λ (ks : List ℕ). (32 == 10) || (list_any (λ k. k == 10) ks || is_above p 10 32)) all
+      let all : (class_at p 35).supers ≡ 31 ∷ 15 ∷ 10 ∷ supers 10 = ap (λ (x : ClassEntry). x.supers) (class_in files rows pools 35 (omega (arith, n, within))) ∙ above_error in
+      ap (λ (ks : List ℕ). (35 == 10) || (list_any (λ k. k == 10) ks || is_above p 10 35)) all
 
   cause_of : IsRunnable p → HasCause p
   cause_of may =
-      let place : class_called p error ≡ 32 = named_in files rows pools error 32 error_place in
+      let place : class_called p error ≡ 35 = named_in files rows pools error 35 error_place in
       let called : class_called p throwable ≡ 10 = named_in files rows pools throwable 10 over_is.place in
-      let lt : 32 < length p.classes = subst (λ (c : ℕ). c < length p.classes) place (may.makes.error ExceptionInInitializerError).class in
-      let k : KeepsFree p 32 2 = may.machine_slots.throwables 32 lt (subst (λ (t : ℕ). is_subclass p 32 t ≡ true) (sym called) is_throwable) in
+      let lt : 35 < length p.classes = subst (λ (c : ℕ). c < length p.classes) place (may.makes.error ExceptionInInitializerError).class in
+      let k : KeepsFree p 35 2 = may.machine_slots.throwables 35 lt (subst (λ (t : ℕ). is_subclass p 35 t ≡ true) (sym called) is_throwable) in
       let room = k.room in
       subst (λ (c : ℕ). 1 < (class_at p c).info.slots) (sym place) (omega (arith, room))
 

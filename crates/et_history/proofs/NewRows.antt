@@ -33,7 +33,7 @@ use Rattle.et_event.specs.declared.rows.Number.{Number}
 use Rattle.et_event.specs.declared.rows.Number.TheVariants as number
 use Rattle.et_event.specs.declared.errors.GuestError.TheVariants as errors
 use Rattle.et_event.specs.Checks.{Reference, entries_of}
-use Rattle.et_event.specs.Heap.{naturals, field_fits, is_static_at, element_of_array, length_of, passes_element, may_be_made, leaving_values, with_field, with_class, with_holder, with_element, resolved_class, resolved_field, get_static, put_static, get_field, put_field, load_element, store_element, array_length, new_instance, new_array_of, new_array, new_reference_array, with_lengths, arrays_made, new_multi_array, cast, type_tested, truth, heap_event}
+use Rattle.et_event.specs.Heap.{naturals, field_fits, is_out, is_static_at, element_of_array, length_of, passes_element, may_be_made, leaving_values, with_field, with_class, with_holder, with_element, resolved_class, resolved_field, get_static, put_static, get_field, put_field, load_element, store_element, array_length, new_instance, new_array_of, new_array, new_reference_array, with_lengths, arrays_made, new_multi_array, cast, type_tested, truth, heap_event}
 use Rattle.et_event.specs.Moments.{Moment, Doing, object_class, current_frame, thread_of, begins, next_object, instance_made, array_made, slot_written, static_written, pending_now, with_frame, with_thread_state, ill_typed, ends_event, goes}
 use Rattle.et_event.specs.Monitors.{OfObject, monitor_of, may_enter, owns, entered, left, left_once}
 use Rattle.et_event.specs.Kinds.{kind_of_field, or_zero, narrowed, are_elements, in_bounds, is_array_element, kept_element, kind_of_elements}
@@ -100,9 +100,10 @@ put_static_new e at here =
     each_value e (ill_typed e) tt (kind_of_field m.descriptor) (current_frame e).operands _ (λ v below.
     field_resolved e m _ here (λ f.
     unless_thrown e (begins e) errors.IncompatibleClassChangeError (is_static_at e.program f) _ (first e here) (
+    unless_thrown e (begins e) errors.NoSuchFieldError (not (is_out e.program f)) _ (first e here) (
     initialized_new e (begins e) (field_at e.program f).class _ (first e here) (λ d h.
     ends_new e (static_written e (field_at e.program f).slot (narrowed m.descriptor v) (leaving_values e at below d))
-    (static_strings e (field_at e.program f).slot (narrowed m.descriptor v) (leaving_values e at below d) (leaving_strings e at below d h)))))))
+    (static_strings e (field_at e.program f).slot (narrowed m.descriptor v) (leaving_values e at below d) (leaving_strings e at below d h))))))))
 
 holder_new : (e : Moment) (f : ℕ) (r : Reference) (go : ℕ → Outcome Kept) → Starts e → ((o : ℕ) → New e (go o)) → New e (with_holder e (begins e) f r go)
 holder_new e f r go here h =

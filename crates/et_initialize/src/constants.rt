@@ -1,5 +1,5 @@
 //! The constant of a static field (JVMS 4.7.2).
-ghost use Rattle.std.specs.Prelude.{◌≡◌, ℕ, ◌+◌, ◌*◌, ◌<◌, ◌++◌, ◌∷◌, [], true, None, List, Contains, IfOk, OnOk, length};
+ghost use Rattle.std.specs.Prelude.{◌≡◌, ℕ, ◌+◌, ◌*◌, ◌<◌, ◌^◌, ◌++◌, ◌∷◌, [], true, None, List, Contains, IfOk, OnOk, length};
 ghost use Rattle.et_base.specs.declared.value.Value.TheVariants.{Unset, Int, Long, Ref};
 ghost use Rattle.et_state.specs.Threads.{lost_room};
 ghost use Rattle.et_heap.specs.Objects.{has_room, new_object};
@@ -41,6 +41,7 @@ fn make_string(
     bytes: &[u8],
     out: &mut Lines,
 ) -> Result<ObjectId, NoMemory>
+    requires short { length bytes.now < 2 ^ 16 }
     requires first { object_of machine.old.guest.interned bytes.now ≡ None }
     requires made { (o : ℕ) →
         Contains (interned_objects machine.old.guest.interned) o → o < length machine.old.heap }
@@ -79,6 +80,7 @@ fn string_of(
     bytes: &[u8],
     out: &mut Lines,
 ) -> Result<ObjectId, NoMemory>
+    requires short { length bytes.now < 2 ^ 16 }
     requires made { (o : ℕ) →
         Contains (interned_objects machine.old.guest.interned) o → o < length machine.old.heap }
     requires fits { fits_heap (interned (moment program.now machine.old thread) bytes.now
@@ -115,6 +117,7 @@ fn set_string(
     bytes: &[u8],
     out: &mut Lines,
 ) -> Result<(), NoMemory>
+    requires short { length bytes.now < 2 ^ 16 }
     requires slot { field.now.slot < length machine.old.guest.statics }
     requires unset { static_at machine.old.guest field.now.slot ≡ Unset }
     requires lost { length machine.old.lost < lost_room }

@@ -19,9 +19,10 @@ use Rattle.et_program.specs.declared.info.FieldInfo.{FieldInfo}
 use Rattle.et_program.specs.declared.kind.Leaf.TheVariants.{Base, Class}
 use Rattle.et_program.specs.Entries.{ClassEntry}
 use Rattle.et_program.specs.Tables.{IsWithinTables, IsInfoWithin, IsLeafBelow, IsTabled}
+use Rattle.et_program.proofs.DeclaredFields.{all_fields}
 use Rattle.et_program.proofs.PlaceLemmas.{position_below, position_within}
 use Rattle.et_program.specs.Files.{boots, set_of, boot_outline, file_outline}
-use Rattle.et_program.specs.MembersOf.{numbered, methods_of, fields_of, boot_method, boot_methods, file_method, file_methods, boot_field, boot_fields, file_field, file_fields}
+use Rattle.et_program.specs.MembersOf.{numbered, methods_of, fields_of, boot_method, boot_methods, file_method, file_methods, boot_field, boot_fields, file_field, file_fields, is_boot_static}
 use Rattle.et_program.specs.Slots.{placed, placed_behind, places_from, slots_above}
 use Rattle.et_program.specs.ArrayTypes.{leaf_at, leaf_or, base_kind}
 use Rattle.et_program.specs.Classes.{Heads, prerequisites_of, set_class, array_class}
@@ -86,8 +87,8 @@ pub fields_within : (files : List LoadedClass) → All (λ (f : FieldInfo). f.cl
 fields_within files =
     let n : length (set_of files) ≡ length boots + length files = length-set files in
     let P = λ (f : FieldInfo). f.class < length (set_of files) in
-    All-append P (numbered boot_fields 0 boots) (numbered file_fields (length boots) files)
-    (numbered_all P boot_fields 0 boots (λ j c le lt. All-map P (boot_field j) c.fields (λ i d l. omega arith)))
+    all_fields P files
+    (λ static. numbered_all P (boot_fields static) 0 boots (λ j c le lt. All-map P (boot_field j) (filter (is_boot_static static) c.fields) (λ i d l. omega arith)))
     (numbered_all P file_fields (length boots) files (λ j c le lt. All-map P (file_field c.pool.slots j) c.fields (λ i d l. omega arith)))
 
 pub length-placed : (base : ℕ → ℕ) (before fs : List FieldInfo) → length (placed_behind base before fs) ≡ length fs

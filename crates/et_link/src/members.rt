@@ -5,11 +5,12 @@ ghost use Rattle.et_pool.specs.Pools.{IsPool};
 ghost use Rattle.et_boot.specs.Shown.{shown, shown_method, shown_code, shown_field};
 ghost use Rattle.et_program.specs.Loaded.{loaded_member, loaded_file};
 ghost use Rattle.et_program.specs.Files.{boots};
-ghost use Rattle.et_program.specs.MembersOf.{numbered, pool_text, boot_body, boot_method, file_method, boot_methods, file_methods, boot_field, file_field, boot_fields, file_fields, fields_of};
+ghost use Rattle.et_program.specs.MembersOf.{numbered, pool_text, boot_body, boot_method, file_method, boot_methods, file_methods, boot_field, file_field, boot_fields, file_fields, fields_of, is_boot_static};
 
 use crate::boots::{boot, boots};
 use et_base::{ClassId, Name, NoMemory};
 use et_boot::{BootClass, BootCode, BootField, BootMethod};
+use et_class::flags::{STATIC, has};
 use et_class::{ClassFile, Member};
 use et_code::{CheckFault, Code, RawCode, check_code};
 use et_pool::{Pool, PoolFault, read_pool};
@@ -90,39 +91,59 @@ fn field_of_boot(alloc: Global, class: ClassId, field: &BootField) -> Result<Fie
     })
 }
 
-/// Puts the fields of a built-in class behind a list.
+/// Whether a field of a built-in class is static, where the static ones are asked for, or isn't.
+fn is_wanted(field: &BootField, statics: bool) -> bool
+    ensures { result ≡ is_boot_static statics (shown_field field.now) }
+{
+    if statics {
+        has(field.flags, STATIC)
+    } else {
+        !has(field.flags, STATIC)
+    }
+}
+
+/// Puts the fields of a built-in class that are static, or those that aren't, behind a list.
 fn add_boot_fields(
     alloc: Global,
     list: &mut Vec<FieldInfo>,
     class: ClassId,
     boot: BootClass,
+    statics: bool,
 ) -> Result<(), NoMemory>
-    ensures { OnOk result (list.new.items ≡ list.old.items ++ boot_fields class (shown boot)) }
+    ensures { OnOk result
+        (list.new.items ≡ list.old.items ++ boot_fields statics class (shown boot)) }
 {
     for field in boot.fields {
-        let info = field_of_boot(alloc, class, field)?;
-        list.push(info)?;
+        if is_wanted(field, statics) {
+            let info = field_of_boot(alloc, class, field)?;
+            list.push(info)?;
+        }
     }
     Ok(())
 }
 
-/// The fields of the built-in classes.
-fn all_boot_fields(alloc: Global) -> Result<Vec<FieldInfo>, NoMemory>
-    ensures { IfOk result (λ fields. fields.items ≡ numbered boot_fields 0 boots) }
+/// Puts the fields of the built-in classes that are static, or those that aren't, behind a list.
+fn add_all_boot_fields(
+    alloc: Global,
+    list: &mut Vec<FieldInfo>,
+    statics: bool,
+) -> Result<(), NoMemory>
+    ensures { OnOk result
+        (list.new.items ≡ list.old.items ++ numbered (boot_fields statics) 0 boots) }
 {
-    let mut list = Vec::new(alloc);
     'classes: for i in 0..boots() {
         let class = class_at_place(i)?;
-        add_boot_fields(alloc, &mut list, class, boot(i))?;
+        add_boot_fields(alloc, list, class, boot(i), statics)?;
     }
-    Ok(list)
+    Ok(())
 }
 
 /// The fields of all classes, without slots yet.
 pub(crate) fn all_fields(alloc: Global, files: &[ClassFile]) -> Result<Vec<FieldInfo>, NoMemory>
     ensures { IfOk result (λ fields. fields.items ≡ fields_of (map loaded_file files.now)) }
 {
-    let mut list = all_boot_fields(alloc)?;
+    let mut list = Vec::new(alloc);
+    add_all_boot_fields(alloc, &mut list, false)?;
     let first = boots();
     for (i, file) in files.iter().enumerate() {
         let Some(place) = first.checked_add(i) else {
@@ -131,6 +152,7 @@ pub(crate) fn all_fields(alloc: Global, files: &[ClassFile]) -> Result<Vec<Field
         let class = class_at_place(place)?;
         add_file_fields(alloc, &mut list, class, file)?;
     }
+    add_all_boot_fields(alloc, &mut list, true)?;
     Ok(list)
 }
 

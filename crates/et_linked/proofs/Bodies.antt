@@ -102,11 +102,11 @@ thread_place : boot_place (codes "java/lang/Thread") ≡ Some 6
 unfolding boots
 thread_place = refl
 
-run_place : position_from (is_method (codes "run") (codes "()V") 6) 0 (numbered boot_methods 0 boots) ≡ Some 7
+run_place : position_from (is_method (codes "run") (codes "()V") 6) 0 (numbered boot_methods 0 boots) ≡ Some 10
 unfolding boots
 run_place = refl
 
-run_within : 7 < length (numbered boot_methods 0 boots)
+run_within : 10 < length (numbered boot_methods 0 boots)
 unfolding boots
 run_within = omega arith
 
@@ -125,13 +125,13 @@ module _ (files : List LoadedClass) (rows : List Ancestry) (pools : List Constan
   abbrev p : Linked
   p = program_with files rows pools
 
-  run_in : method_in p (codes "run") (codes "()V") 6 ≡ Some 7
-  run_in = some_front (is_method (codes "run") (codes "()V") 6) 0 (numbered boot_methods 0 boots) (numbered file_methods (length boots) files) 7 run_place
+  run_in : method_in p (codes "run") (codes "()V") 6 ≡ Some 10
+  run_in = some_front (is_method (codes "run") (codes "()V") 6) 0 (numbered boot_methods 0 boots) (numbered file_methods (length boots) files) 10 run_place
 
-  run_plain : is_static p 7 ≡ false
+  run_plain : is_static p 10 ≡ false
   run_plain =
-      let there : method_at p 7 ≡ slice_index_or (numbered boot_methods 0 boots) 7 no_method = in_front (numbered boot_methods 0 boots) (numbered file_methods (length boots) files) 7 no_method run_within in
-      let h : IsBuiltIn (slice_index_or (numbered boot_methods 0 boots) 7 no_method) = built_in_methods 7 no_method run_within in
+      let there : method_at p 10 ≡ slice_index_or (numbered boot_methods 0 boots) 10 no_method = in_front (numbered boot_methods 0 boots) (numbered file_methods (length boots) files) 10 no_method run_within in
+      let h : IsBuiltIn (slice_index_or (numbered boot_methods 0 boots) 10 no_method) = built_in_methods 10 no_method run_within in
       ap (λ (x : MethodInfo). has x.flags STATIC) there ∙ h.plain
 
   abbrev okay : ℕ → Result ℕ LinkError
@@ -143,10 +143,10 @@ module _ (files : List LoadedClass) (rows : List Ancestry) (pools : List Constan
       refused : Err IncompatibleClassChange ≡ okay m → ⊥
       refused q = cc
 
-      same : okay 7 ≡ okay m → 7 ≡ m
+      same : okay 10 ≡ okay m → 10 ≡ m
       same q = cc
 
-      by : (b : Bool) → cond b (Err IncompatibleClassChange) (okay 7) ≡ okay m → is_static p m ≡ false
+      by : (b : Bool) → cond b (Err IncompatibleClassChange) (okay 10) ≡ okay m → is_static p m ≡ false
       by true q = absurd (refused q)
       by false q = subst (λ (i : ℕ). is_static p i ≡ false) (same q) run_plain
 

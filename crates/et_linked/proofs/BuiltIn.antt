@@ -11,7 +11,7 @@ use Rattle.et_program.specs.declared.info.FieldInfo.{FieldInfo}
 use Rattle.et_program.specs.Files.{boots}
 use Rattle.et_program.specs.MembersOf.{numbered, boot_fields}
 use Rattle.et_event.specs.declared.errors.GuestError.{GuestError}
-use Rattle.et_event.specs.declared.errors.GuestError.TheVariants.{AbstractMethodError, ArithmeticException, ArrayIndexOutOfBoundsException, ArrayStoreException, ClassCastException, ExceptionInInitializerError, IllegalMonitorStateException, IllegalThreadStateException, IncompatibleClassChangeError, InstantiationError, NegativeArraySizeException, NoClassDefFoundError, NoSuchFieldError, NoSuchMethodError, NullPointerException, OutOfMemoryError, StackOverflowError, UnsatisfiedLinkError}
+use Rattle.et_event.specs.declared.errors.GuestError.TheVariants.{AbstractMethodError, ArithmeticException, ArrayIndexOutOfBoundsException, ArrayStoreException, ClassCastException, ExceptionInInitializerError, IllegalMonitorStateException, IllegalThreadStateException, IncompatibleClassChangeError, InstantiationError, NegativeArraySizeException, NoClassDefFoundError, NoSuchFieldError, NoSuchMethodError, NullPointerException, OutOfMemoryError, StackOverflowError, StringIndexOutOfBoundsException, UnsatisfiedLinkError}
 use Rattle.et_event.specs.Errors.{error_name}
 
 abbrev is_none_of : List BootFieldOf → Bool
@@ -85,12 +85,13 @@ each_of_others table (f ∷ fs) h =
     let parts = and_parts (not (has_no_fields table f.class)) (are_of_others table fs) h in
     All-cons (λ (g : FieldInfo). has_no_fields table g.class ≡ false) f fs (not-true (has_no_fields table f.class) parts.0) (each_of_others table fs parts.1)
 
-table_of_others : are_of_others boots (numbered boot_fields 0 boots) ≡ true
+table_of_others : (static : Bool) → are_of_others boots (numbered (boot_fields static) 0 boots) ≡ true
 unfolding boots has_no_fields
-table_of_others = refl
+table_of_others true = refl
+table_of_others false = refl
 
-pub fields_of_others : All (λ (f : FieldInfo). has_no_fields boots f.class ≡ false) (numbered boot_fields 0 boots)
-fields_of_others = each_of_others boots (numbered boot_fields 0 boots) table_of_others
+pub fields_of_others : (static : Bool) → All (λ (f : FieldInfo). has_no_fields boots f.class ≡ false) (numbered (boot_fields static) 0 boots)
+fields_of_others static = each_of_others boots (numbered (boot_fields static) 0 boots) (table_of_others static)
 
 -- A STRING AND THE EXCEPTIONS of the machine are of classes that declare no field
 
@@ -132,6 +133,7 @@ error_fieldless NoSuchMethodError = refl
 error_fieldless NullPointerException = refl
 error_fieldless OutOfMemoryError = refl
 error_fieldless StackOverflowError = refl
+error_fieldless StringIndexOutOfBoundsException = refl
 error_fieldless UnsatisfiedLinkError = refl
 
 string_fieldless : has_fieldless (codes "java/lang/String") ≡ true

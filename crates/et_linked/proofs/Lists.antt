@@ -1,11 +1,11 @@
 -- What holds of each element of lists that are put together.
 use Rattle.std.proofs.Common.{◌≡◌, ℕ, zero, suc, ◌+◌, ◌<◌, ◌==◌, Bool, true, false, cond, List, [], ◌∷◌, ◌++◌, length, reverse, refl, sym, subst, inl, inr, arith, Contains}
 use Rattle.std.specs.Prelude.{All}
-use Rattle.std.specs.List.{slice_index_or, list_any, flat_map}
+use Rattle.std.specs.List.{slice_index_or, list_any, list_all, flat_map}
 use Rattle.std.proofs.lemmas.List.Elements.{All-nil, All-cons, All-head, All-tail, All-append, All-push, All-contains, All-contains_itself, Contains-append_left, Contains-append_right}
 use Rattle.std.proofs.lemmas.List.Sorted.{All-permutation, IsPermutation-reverse}
 use Rattle.std.proofs.lemmas.List.{reverse-reverse}
-use Rattle.std.proofs.lemmas.Bool.{eqb-true}
+use Rattle.std.proofs.lemmas.Bool.{eqb-true, and_parts}
 use Rattle.et_base.proofs.Lists.{Contains-none, Contains-here, Contains-cons, any_contains}
 use Rattle.et_program.specs.Slots.{places_from}
 use Rattle.et_hierarchy.specs.Ancestry.{class_added, added_all}
@@ -107,3 +107,10 @@ pub reverse_has : (xs : List ℕ) (x : ℕ) → Contains xs x → Contains (reve
 reverse_has xs x h =
     let each : All (Contains (reverse xs)) (reverse (reverse xs)) = reverse_all (Contains (reverse xs)) (reverse xs) (All-contains_itself (reverse xs)) in
     All-contains (Contains (reverse xs)) xs x (subst (λ (ys : List ℕ). All (Contains (reverse xs)) ys) (reverse-reverse xs) each) h
+
+-- each element passes a test that all of them pass
+pub all_pass : {X : Type 0} (t : X → Bool) (xs : List X) → list_all t xs ≡ true → All (λ x. t x ≡ true) xs
+all_pass t [] h = All-nil (λ x. t x ≡ true)
+all_pass t (x ∷ xs) h =
+    let parts = and_parts (t x) (list_all t xs) h in
+    All-cons (λ y. t y ≡ true) x xs parts.0 (all_pass t xs parts.1)

@@ -8,7 +8,7 @@ use Rattle.std.specs.Str.{bytes_eq}
 use Rattle.std.proofs.lemmas.Bool.{eqb-true, eq-eqb, or_cases, and_parts, both_ways, cases_Bool, cases_lt, not-true}
 use Rattle.std.proofs.lemmas.List.{length-map, length-replicate}
 use Rattle.std.proofs.lemmas.List.Sums.{sum_by-cons}
-use Rattle.std.proofs.lemmas.List.Elements.{All-nil, All-cons, All-append, All-map}
+use Rattle.std.proofs.lemmas.List.Elements.{All-nil, All-cons, All-map}
 use Rattle.et_base.proofs.Lists.{Contains-here, Contains-there, Contains-cons, has_contains}
 use Rattle.et_base.specs.declared.value.Value.TheVariants.{Unset}
 use Rattle.et_boot.specs.Classes.{no_boot_class}
@@ -27,6 +27,7 @@ use Rattle.et_program.specs.Classes.{set_class}
 use Rattle.et_program.specs.Files.{boots, set_of, boot_outline, file_outline}
 use Rattle.et_program.specs.Loaded.{LoadedClass}
 use Rattle.et_program.specs.LinkFaults.{IsLinkable}
+use Rattle.et_program.proofs.DeclaredFields.{all_fields}
 use Rattle.et_program.specs.MembersOf.{numbered, fields_of, boot_fields, file_fields, file_field}
 use Rattle.et_program.specs.ProgramOf.{heads_of, class_names_of, program_with, IsProgramOf}
 use Rattle.et_program.specs.Slots.{is_static_field, is_instance_of, own_slots, slots_above, slot_of_field}
@@ -40,6 +41,7 @@ use Rattle.et_linked.specs.Interfaces.{HaveStaticFields}
 use Rattle.et_program.proofs.Standing.{place_in_set}
 use Rattle.et_linked.proofs.PlacesAbove.{link_at}
 use Rattle.et_linked.proofs.BuiltIn.{boot_place}
+use Rattle.et_linked.proofs.Lists.{all_pass}
 use Rattle.et_linked.proofs.Chains.{chain_above, apart}
 use Rattle.et_linked.proofs.Counts.{placed_at}
 use Rattle.et_linked.proofs.Making.{numbered_all, placed_all, class_in, named_in}
@@ -95,15 +97,10 @@ is_target f = bytes_eq f.name (codes "target") && bytes_eq f.descriptor (codes "
 abbrev is_target_if : FieldInfo → Bool
 is_target_if f = not (f.class == 6) || is_target f
 
-targets_alone : list_all is_target_if (numbered boot_fields 0 boots) ≡ true
+targets_alone : (static : Bool) → list_all is_target_if (numbered (boot_fields static) 0 boots) ≡ true
 unfolding boots
-targets_alone = refl
-
-all_pass : {X : Type 0} (t : X → Bool) (xs : List X) → list_all t xs ≡ true → All (λ x. t x ≡ true) xs
-all_pass t [] h = All-nil (λ x. t x ≡ true)
-all_pass t (x ∷ xs) h =
-    let parts = and_parts (t x) (list_all t xs) h in
-    All-cons (λ y. t y ≡ true) x xs parts.0 (all_pass t xs parts.1)
+targets_alone true = refl
+targets_alone false = refl
 
 abbrev IsTargetIf : FieldInfo → Type 0
 IsTargetIf f = f.class ≡ 6 → is_target f ≡ true
@@ -118,8 +115,8 @@ target_by f h e =
 targets_in : (files : List LoadedClass) → All IsTargetIf (fields_of files)
 targets_in files =
     let many : 6 < length boots = thread_is.within in
-    All-append IsTargetIf (numbered boot_fields 0 boots) (numbered file_fields (length boots) files)
-    (λ i d lt. target_by (slice_index_or (numbered boot_fields 0 boots) i d) (all_pass is_target_if (numbered boot_fields 0 boots) targets_alone i d lt))
+    all_fields IsTargetIf files
+    (λ static i d lt. target_by (slice_index_or (numbered (boot_fields static) 0 boots) i d) (all_pass is_target_if (numbered (boot_fields static) 0 boots) (targets_alone static) i d lt))
     (numbered_all IsTargetIf file_fields (length boots) files (λ j c le. All-map IsTargetIf (file_field c.pool.slots j) c.fields (λ i d lt e. absurd (omega arith))))
 
 -- no field is one of Throwable
@@ -127,9 +124,10 @@ targets_in files =
 abbrev is_no_throwable : FieldInfo → Bool
 is_no_throwable f = not (f.class == 10)
 
-throwable_bare : list_all is_no_throwable (numbered boot_fields 0 boots) ≡ true
+throwable_bare : (static : Bool) → list_all is_no_throwable (numbered (boot_fields static) 0 boots) ≡ true
 unfolding boots
-throwable_bare = refl
+throwable_bare true = refl
+throwable_bare false = refl
 
 abbrev IsOther : FieldInfo → Type 0
 IsOther f = f.class ≡ 10 → ⊥
@@ -137,10 +135,10 @@ IsOther f = f.class ≡ 10 → ⊥
 others_in : (files : List LoadedClass) → All IsOther (fields_of files)
 others_in files =
     let many : 10 < length boots = throwable_is.within in
-    All-append IsOther (numbered boot_fields 0 boots) (numbered file_fields (length boots) files)
-    (λ i d lt e.
-    let f : FieldInfo = slice_index_or (numbered boot_fields 0 boots) i d in
-    both_ways (f.class == 10) (not-true (f.class == 10) (all_pass is_no_throwable (numbered boot_fields 0 boots) throwable_bare i d lt)) (eq-eqb f.class 10 e))
+    all_fields IsOther files
+    (λ static i d lt e.
+    let f : FieldInfo = slice_index_or (numbered (boot_fields static) 0 boots) i d in
+    both_ways (f.class == 10) (not-true (f.class == 10) (all_pass is_no_throwable (numbered (boot_fields static) 0 boots) (throwable_bare static) i d lt)) (eq-eqb f.class 10 e))
     (numbered_all IsOther file_fields (length boots) files (λ j c le. All-map IsOther (file_field c.pool.slots j) c.fields (λ i d lt e. omega arith)))
 
 -- A PROGRAM

@@ -20,6 +20,7 @@ use Rattle.et_program.specs.Members.{is_subclass, is_above}
 use Rattle.et_program.specs.Loaded.{LoadedClass}
 use Rattle.et_program.specs.Files.{boots, set_of}
 use Rattle.et_program.specs.MembersOf.{numbered, fields_of, boot_fields, file_fields, file_field}
+use Rattle.et_program.proofs.DeclaredFields.{all_fields}
 use Rattle.et_program.specs.Slots.{placed, placed_behind, slots_above}
 use Rattle.et_program.specs.Classes.{Heads, set_class, array_class}
 use Rattle.et_program.specs.ProgramOf.{heads_of, class_names_of, program_with, IsProgramOf}
@@ -45,7 +46,7 @@ numbered_all P f k (x ∷ xs) h = All-append P (f k x) (numbered f (k + 1) xs) (
 
 declared_by_others : (files : List LoadedClass) → All OfOther (fields_of files)
 declared_by_others files =
-    All-append OfOther (numbered boot_fields 0 boots) (numbered file_fields (length boots) files) fields_of_others
+    all_fields OfOther files fields_of_others
     (numbered_all OfOther file_fields (length boots) files (λ j c le. All-map OfOther (file_field c.pool.slots j) c.fields (λ i d lt. none_behind boots j le)))
 
 pub placed_all : (P : ℕ → Type 0) (base : ℕ → ℕ) (before fs : List FieldInfo) → All (λ (f : FieldInfo). P f.class) fs → All (λ (f : FieldInfo). P f.class) (placed_behind base before fs)

@@ -1,12 +1,12 @@
 -- The constants and the initialization of the classes of a program.
 use Rattle.std.proofs.Common.{◌≡◌, ℕ, suc, ◌+◌, ◌<◌, Bool, true, false, ◌&&◌, ◌==◌, List, [], ◌∷◌, ◌++◌, length, map, take, Option, None, Some, IfSome, is_some, refl, sym, ◌∙◌, ap, subst, arith}
 use Rattle.std.specs.Prelude.{All, count_by, codes, if◌then◌else◌}
-use Rattle.std.specs.List.{slice_index_or}
+use Rattle.std.specs.List.{slice_index_or, filter}
 use Rattle.std.specs.Option.{option_to_list}
 use Rattle.std.specs.Str.{bytes_eq}
 use Rattle.std.proofs.lemmas.Bool.{and_parts, not-true, eqb-true, false≢true}
 use Rattle.std.proofs.lemmas.List.{length-map, get_or_default, get_or-append-add}
-use Rattle.std.proofs.lemmas.List.Elements.{All-nil, All-append, All-map, All-weaker}
+use Rattle.std.proofs.lemmas.List.Elements.{All-nil, All-map, All-weaker}
 use Rattle.et_code.specs.Bodies.{Body}
 use Rattle.et_class.specs.Names.{has}
 use Rattle.et_class.specs.declared.flags.TheConstants.{STATIC}
@@ -26,7 +26,8 @@ use Rattle.et_program.specs.Files.{boots, set_of}
 use Rattle.et_program.specs.Heads.{is_initializer, initializer_of, has_constant, constants_of}
 use Rattle.et_program.specs.Loaded.{LoadedClass}
 use Rattle.et_program.specs.LinkFaults.{IsLinkable}
-use Rattle.et_program.specs.MembersOf.{numbered, methods_of, fields_of, boot_field, boot_fields, file_field, file_fields, AreBootPools, HasPools, file_pool}
+use Rattle.et_program.proofs.DeclaredFields.{all_fields}
+use Rattle.et_program.specs.MembersOf.{numbered, methods_of, fields_of, boot_field, boot_fields, file_field, file_fields, is_boot_static, AreBootPools, HasPools, file_pool}
 use Rattle.et_program.specs.ProgramOf.{class_names_of, heads_of, program_with, IsProgramOf}
 use Rattle.et_program.specs.Slots.{is_static_field, is_instance_of, slots_above, slot_of_field}
 use Rattle.et_event.specs.Operands.{operand_kind}
@@ -50,8 +51,8 @@ IsStaticIf f = has_constant f ≡ true → has f.flags STATIC ≡ true
 
 constants_static : (files : List LoadedClass) → All HasStaticConstants files → All IsStaticIf (fields_of files)
 constants_static files static =
-    All-append IsStaticIf (numbered boot_fields 0 boots) (numbered file_fields (length boots) files)
-    (all_numbered IsStaticIf boot_fields 0 boots (λ i c lt e. All-map IsStaticIf (boot_field (0 + i)) c.fields (λ j d l h. absurd (false≢true h))))
+    all_fields IsStaticIf files
+    (λ static. all_numbered IsStaticIf (boot_fields static) 0 boots (λ i c lt e. All-map IsStaticIf (boot_field (0 + i)) (filter (is_boot_static static) c.fields) (λ j d l h. absurd (false≢true h))))
     (all_numbered IsStaticIf file_fields (length boots) files (λ i c lt e. All-map IsStaticIf (file_field c.pool.slots (length boots + i)) c.fields (λ j d l h. subst HasStaticConstants e (static i c lt) j d l (not-true _ h))))
 
 abbrev IsTypedIf : List Constants → FieldInfo → Type 0
@@ -72,8 +73,8 @@ pool_is files pools h i c lt e =
 constants_typed : (files : List LoadedClass) (pools : List Constants) → HasPools files pools → All HasTypedConstants files → All (IsTypedIf pools) (fields_of files)
 constants_typed files pools has_pools typed =
     let T = IsTypedIf pools in
-    All-append T (numbered boot_fields 0 boots) (numbered file_fields (length boots) files)
-    (all_numbered T boot_fields 0 boots (λ i c lt e. All-map T (boot_field (0 + i)) c.fields (λ j d l k h. absurd (false≢true h))))
+    all_fields T files
+    (λ static. all_numbered T (boot_fields static) 0 boots (λ i c lt e. All-map T (boot_field (0 + i)) (filter (is_boot_static static) c.fields) (λ j d l k h. absurd (false≢true h))))
     (all_numbered T file_fields (length boots) files
     (λ i c lt e.
     All-map T (file_field c.pool.slots (length boots + i)) c.fields

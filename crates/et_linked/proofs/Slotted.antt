@@ -2,7 +2,7 @@
 use Rattle.std.proofs.Common.{◌≡◌, ℕ, zero, suc, ◌+◌, ◌-◌, ◌<◌, ◌≤◌, ◌==◌, ◌||◌, ◌&&◌, Bool, true, false, cond, not, List, [], ◌∷◌, ◌++◌, length, take, replicate, refl, sym, ◌∙◌, ap, subst, inl, inr, arith, Contains}
 use mathlib.Core.Logic.{⊎_elim}
 use Rattle.std.specs.Prelude.{All, count_by, nat_lt, nat_le, if◌then◌else◌}
-use Rattle.std.specs.List.{slice_index_or, list_any}
+use Rattle.std.specs.List.{slice_index_or, list_any, list_all}
 use Rattle.std.proofs.lemmas.Bool.{eqb-true, eq-eqb, and_left, or_cases, and_parts, both_ways, cases_lt, leb-true, ltb-true, false≢true, ne_eqb}
 use Rattle.std.proofs.lemmas.List.{length-replicate, get_or-replicate, get_or-append_right, length-append}
 use Rattle.std.proofs.lemmas.List.Sums.{sum_by-append}
@@ -39,6 +39,7 @@ use Rattle.et_linked.specs.Interfaces.{HaveStaticFields}
 use Rattle.et_linked.proofs.PlacesAbove.{NoField}
 use Rattle.et_linked.proofs.Arguments.{no_field_of}
 use Rattle.et_linked.proofs.BuiltIn.{object_fieldless, cloneable_fieldless, serializable_fieldless}
+use Rattle.et_linked.proofs.Lists.{all_pass}
 use Rattle.et_linked.proofs.Chains.{chain_above, apart}
 use Rattle.et_linked.proofs.Counts.{count_none, count_within, count_before, placed_at, StandsIn, places_at}
 use Rattle.et_linked.proofs.Making.{numbered_all, placed_all, fields_elsewhere, class_in}
@@ -48,20 +49,20 @@ use Rattle.et_linked.proofs.Starting.{unset_fits}
 
 abbrev are_enough : List BootClassOf → ℕ → List BootClassOf → Bool
 are_enough table k [] = true
-are_enough table k (c ∷ cs) = nat_le (count_by (is_instance_of k) (numbered boot_fields 0 table)) c.slots && are_enough table (k + 1) cs
+are_enough table k (c ∷ cs) = nat_le (count_by (is_instance_of k) (numbered (boot_fields false) 0 table)) c.slots && are_enough table (k + 1) cs
 
 table_enough : are_enough boots 0 boots ≡ true
 unfolding boots
 table_enough = refl
 
-enough_at : (table : List BootClassOf) (j : ℕ) (cs : List BootClassOf) (k : ℕ) → k < length cs → are_enough table j cs ≡ true → count_by (is_instance_of (j + k)) (numbered boot_fields 0 table) ≤ (slice_index_or cs k no_boot_class).slots
+enough_at : (table : List BootClassOf) (j : ℕ) (cs : List BootClassOf) (k : ℕ) → k < length cs → are_enough table j cs ≡ true → count_by (is_instance_of (j + k)) (numbered (boot_fields false) 0 table) ≤ (slice_index_or cs k no_boot_class).slots
 enough_at table j [] k lt h = absurd (omega arith)
 enough_at table j (c ∷ cs) zero lt h =
-    let here : nat_le (count_by (is_instance_of j) (numbered boot_fields 0 table)) c.slots ≡ true = (and_parts (nat_le (count_by (is_instance_of j) (numbered boot_fields 0 table)) c.slots) (are_enough table (j + 1) cs) h).0 in
-    subst (λ (i : ℕ). count_by (is_instance_of i) (numbered boot_fields 0 table) ≤ c.slots) (let same : j ≡ j + 0 = omega arith in same) (leb-true (count_by (is_instance_of j) (numbered boot_fields 0 table)) c.slots here)
+    let here : nat_le (count_by (is_instance_of j) (numbered (boot_fields false) 0 table)) c.slots ≡ true = (and_parts (nat_le (count_by (is_instance_of j) (numbered (boot_fields false) 0 table)) c.slots) (are_enough table (j + 1) cs) h).0 in
+    subst (λ (i : ℕ). count_by (is_instance_of i) (numbered (boot_fields false) 0 table) ≤ c.slots) (let same : j ≡ j + 0 = omega arith in same) (leb-true (count_by (is_instance_of j) (numbered (boot_fields false) 0 table)) c.slots here)
 enough_at table j (c ∷ cs) (suc k) lt h =
-    let rest : are_enough table (j + 1) cs ≡ true = (and_parts (nat_le (count_by (is_instance_of j) (numbered boot_fields 0 table)) c.slots) (are_enough table (j + 1) cs) h).1 in
-    subst (λ (i : ℕ). count_by (is_instance_of i) (numbered boot_fields 0 table) ≤ (slice_index_or cs k no_boot_class).slots) (let same : j + 1 + k ≡ j + suc k = omega arith in same) (enough_at table (j + 1) cs k (omega arith) rest)
+    let rest : are_enough table (j + 1) cs ≡ true = (and_parts (nat_le (count_by (is_instance_of j) (numbered (boot_fields false) 0 table)) c.slots) (are_enough table (j + 1) cs) h).1 in
+    subst (λ (i : ℕ). count_by (is_instance_of i) (numbered (boot_fields false) 0 table) ≤ (slice_index_or cs k no_boot_class).slots) (let same : j + 1 + k ≡ j + suc k = omega arith in same) (enough_at table (j + 1) cs k (omega arith) rest)
 
 none_of_files : (files : List LoadedClass) (q : ℕ) → q < length boots → count_by (is_instance_of q) (numbered file_fields (length boots) files) ≡ 0
 none_of_files files q lt =
@@ -69,15 +70,33 @@ none_of_files files q lt =
     count_none (is_instance_of q) (numbered file_fields (length boots) files)
     (numbered_all P file_fields (length boots) files (λ j c le. All-map P (file_field c.pool.slots j) c.fields (λ i d l. and_left (j == q) _ (ne_eqb j q (λ e. absurd (omega arith))))))
 
+statics_static : list_all is_static_field (numbered (boot_fields true) 0 boots) ≡ true
+unfolding boots
+statics_static = refl
+
+never_instance : (a b : Bool) → b ≡ true → (a && not b) ≡ false
+never_instance true true e = refl
+never_instance false true e = refl
+never_instance a false e = absurd (false≢true e)
+
+none_of_statics : (q : ℕ) → count_by (is_instance_of q) (numbered (boot_fields true) 0 boots) ≡ 0
+none_of_statics q =
+    let fs : List FieldInfo = numbered (boot_fields true) 0 boots in
+    count_none (is_instance_of q) fs
+    (λ i d lt. let f : FieldInfo = slice_index_or fs i d in never_instance (f.class == q) (is_static_field f) (all_pass is_static_field fs statics_static i d lt))
+
 own_by : (files : List LoadedClass) (q : ℕ) (b : Bool) → nat_lt q (length boots) ≡ b → count_by (is_instance_of q) (fields_of files) ≤ (if b then (slice_index_or boots q no_boot_class).slots else count_by (is_instance_of q) (fields_of files))
 own_by files q true e =
     let lt : q < length boots = ltb-true q (length boots) e in
     let zero_q : 0 + q ≡ q = omega arith in
-    let front : count_by (is_instance_of q) (numbered boot_fields 0 boots) ≤ (slice_index_or boots q no_boot_class).slots =
-    subst (λ (i : ℕ). count_by (is_instance_of i) (numbered boot_fields 0 boots) ≤ (slice_index_or boots q no_boot_class).slots) zero_q (enough_at boots 0 boots q lt table_enough) in
-    let both : count_by (is_instance_of q) (fields_of files) ≡ count_by (is_instance_of q) (numbered boot_fields 0 boots) + count_by (is_instance_of q) (numbered file_fields (length boots) files) =
-    sum_by-append (λ f. cond (is_instance_of q f) 1 0) (numbered boot_fields 0 boots) (numbered file_fields (length boots) files) in
-    omega (arith, none_of_files files q lt)
+    let fields = numbered (boot_fields false) 0 boots in
+    let own = numbered file_fields (length boots) files in
+    let front : count_by (is_instance_of q) fields ≤ (slice_index_or boots q no_boot_class).slots =
+    subst (λ (i : ℕ). count_by (is_instance_of i) fields ≤ (slice_index_or boots q no_boot_class).slots) zero_q (enough_at boots 0 boots q lt table_enough) in
+    let both : count_by (is_instance_of q) (fields ++ own) ≡ count_by (is_instance_of q) fields + count_by (is_instance_of q) own = sum_by-append (λ f. cond (is_instance_of q f) 1 0) fields own in
+    let all : count_by (is_instance_of q) (fields_of files) ≡ count_by (is_instance_of q) (fields ++ own) + count_by (is_instance_of q) (numbered (boot_fields true) 0 boots) =
+    sum_by-append (λ f. cond (is_instance_of q f) 1 0) (fields ++ own) (numbered (boot_fields true) 0 boots) in
+    omega (arith, none_of_files files q lt, none_of_statics q)
 own_by files q false e = omega arith
 
 own_enough : (files : List LoadedClass) (q : ℕ) → count_by (is_instance_of q) (fields_of files) ≤ own_slots (fields_of files) q

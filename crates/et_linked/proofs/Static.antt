@@ -1,11 +1,11 @@
 -- The fields of interfaces are static (JVMS 4.5).
-use Rattle.std.proofs.Common.{◌≡◌, ℕ, ◌+◌, ◌<◌, Bool, true, not, ◌||◌, List, [], ◌∷◌, length, map, refl, sym, ◌∙◌, ap, subst, arith}
+use Rattle.std.proofs.Common.{◌≡◌, ℕ, ◌+◌, ◌<◌, Bool, true, false, not, ◌||◌, List, [], ◌∷◌, length, map, refl, sym, ◌∙◌, ap, subst, arith}
 use mathlib.Core.Logic.{⊎_elim}
 use Rattle.std.specs.Prelude.{All}
-use Rattle.std.specs.List.{slice_index_or, list_all}
+use Rattle.std.specs.List.{slice_index_or, list_all, filter}
 use Rattle.std.proofs.lemmas.Bool.{cases_Bool, and_parts, or_cases, not-true, both_ways}
 use Rattle.std.proofs.lemmas.List.{length-map, get_or-append-add}
-use Rattle.std.proofs.lemmas.List.Elements.{All-nil, All-cons, All-append, All-map}
+use Rattle.std.proofs.lemmas.List.Elements.{All-nil, All-cons, All-map}
 use Rattle.et_boot.specs.Classes.{BootClassOf, no_boot_class}
 use Rattle.et_class.specs.Names.{has}
 use Rattle.et_class.specs.declared.flags.TheConstants.{STATIC, INTERFACE}
@@ -18,7 +18,8 @@ use Rattle.et_program.specs.Members.{is_above}
 use Rattle.et_program.specs.Files.{boots, set_of, boot_outline, file_outline}
 use Rattle.et_program.specs.Loaded.{LoadedClass}
 use Rattle.et_program.specs.LinkFaults.{IsLinkable}
-use Rattle.et_program.specs.MembersOf.{numbered, fields_of, boot_field, boot_fields, file_field, file_fields}
+use Rattle.et_program.specs.MembersOf.{numbered, fields_of, boot_field, boot_fields, file_field, file_fields, is_boot_static}
+use Rattle.et_program.proofs.DeclaredFields.{all_fields}
 use Rattle.et_program.specs.ProgramOf.{program_with, IsProgramOf}
 use Rattle.et_program.specs.Slots.{slots_above}
 use Rattle.et_link.proofs.TabledLemmas.{length-placed, fields_within}
@@ -38,9 +39,10 @@ IsWell set f = (outline_at set f.class).is_interface ≡ true → has f.flags ST
 abbrev is_well : List BootClassOf → FieldInfo → Bool
 is_well table f = not (has (slice_index_or table f.class no_boot_class).flags INTERFACE) || has f.flags STATIC
 
-table_well : list_all (is_well boots) (numbered boot_fields 0 boots) ≡ true
+table_well : (static : Bool) → list_all (is_well boots) (numbered (boot_fields static) 0 boots) ≡ true
 unfolding boots
-table_well = refl
+table_well true = refl
+table_well false = refl
 
 all_well : (table : List BootClassOf) (fs : List FieldInfo) → list_all (is_well table) fs ≡ true → All (λ f. is_well table f ≡ true) fs
 all_well table [] h = All-nil (λ f. is_well table f ≡ true)
@@ -63,8 +65,10 @@ module _ (files : List LoadedClass) (static : All HasStaticFields files) where
       let o : outline_at (set_of files) f.class ≡ boot_outline (slice_index_or boots f.class no_boot_class) = at_map boot_outline boots (map file_outline files) f.class no_boot_class no_outline lt in
       well_by (has (slice_index_or boots f.class no_boot_class).flags INTERFACE) (has f.flags STATIC) h (sym (ap (λ (x : Outline). x.is_interface) o) ∙ e)
 
-  boots_within : All (λ (f : FieldInfo). f.class < length boots) (numbered boot_fields 0 boots)
-  boots_within = all_numbered (λ (f : FieldInfo). f.class < length boots) boot_fields 0 boots (λ i c lt e. All-map (λ (f : FieldInfo). f.class < length boots) (boot_field (0 + i)) c.fields (λ j d l. omega arith))
+  boots_within : (static : Bool) → All (λ (f : FieldInfo). f.class < length boots) (numbered (boot_fields static) 0 boots)
+  boots_within static =
+      all_numbered (λ (f : FieldInfo). f.class < length boots) (boot_fields static) 0 boots
+      (λ i c lt e. All-map (λ (f : FieldInfo). f.class < length boots) (boot_field (0 + i)) (filter (is_boot_static static) c.fields) (λ j d l. omega arith))
 
   file_well : (i : ℕ) (c : LoadedClass) → i < length files → slice_index_or files i c ≡ c → All (IsWell (set_of files)) (file_fields (length boots + i) c)
   file_well i c lt e =
@@ -76,8 +80,8 @@ module _ (files : List LoadedClass) (static : All HasStaticFields files) where
   fields_well : All (IsWell (set_of files)) (fields_of files)
   fields_well =
       let W = IsWell (set_of files) in
-      All-append W (numbered boot_fields 0 boots) (numbered file_fields (length boots) files)
-      (λ i d lt. boot_well (slice_index_or (numbered boot_fields 0 boots) i d) (boots_within i d lt) (all_well boots (numbered boot_fields 0 boots) table_well i d lt))
+      all_fields W files
+      (λ static i d lt. boot_well (slice_index_or (numbered (boot_fields static) 0 boots) i d) (boots_within static i d lt) (all_well boots (numbered (boot_fields static) 0 boots) (table_well static) i d lt))
       (all_numbered W file_fields (length boots) files (λ i c lt e. file_well i c lt e))
 
   module _ (rows : List Ancestry) (pools : List Constants) (linkable : IsLinkable files) (is : IsProgramOf files (program_with files rows pools)) where

@@ -50,6 +50,7 @@ fn make_string(
     next: u32,
     out: &mut Lines,
 ) -> Result<EventEnd, NoMemory>
+    requires short { length bytes.now < 2 ^ 16 }
     requires frame { HasFrame machine.old.guest thread }
     requires sound { IsSound (kept_of machine.old) }
     requires clock { machine.old.guest.clock < 2 ^ 40 }
@@ -84,6 +85,7 @@ pub(crate) fn string_event(
     next: u32,
     out: &mut Lines,
 ) -> Result<EventEnd, NoMemory>
+    requires short { length bytes.now < 2 ^ 16 }
     requires frame { HasFrame machine.old.guest thread }
     requires sound { IsSound (kept_of machine.old) }
     requires clock { machine.old.guest.clock < 2 ^ 40 }

@@ -108,17 +108,17 @@ fn faults_of_methods(rt: HostRuntime) -> Result<(), Fail> {
 #[test]
 fn near_redeclares(rt: HostRuntime) -> Result<(), Fail> {
     let program = link_all(&rt, rt.alloc(), &[&UPPER, &NEAR])??;
-    assert_eq!(rt; program.class_count(), 44);
+    assert_eq!(rt; program.class_count(), 48);
     Ok(())
 }
 
 #[test]
 fn one_box(rt: HostRuntime) -> Result<(), Fail> {
     let program = link_all(&rt, rt.alloc(), &[&BOX])??;
-    // 41 built-in classes, Box, and the arrays of strings
-    assert_eq!(rt; program.class_count(), 43);
+    // 45 built-in classes, Box, and the arrays of strings
+    assert_eq!(rt; program.class_count(), 47);
     let class = program.resolve_class(b"Box")?;
-    assert_eq!(rt; class, ClassId::new(41));
+    assert_eq!(rt; class, ClassId::new(45));
     assert_eq!(rt; program.class(class).name.as_slice(), b"Box".as_slice());
     let main = program.method(program.main());
     assert_eq!(rt; main.name.as_slice(), b"main".as_slice());

@@ -9,3 +9,4 @@ pub mod PoolLemmas
 pub mod SignatureLemmas
 pub mod ShapeLemmas
 pub mod Standing
+pub mod DeclaredFields

@@ -30,3 +30,4 @@ pub use Rattle.et_boot.specs.Names as BootNames
 pub use Rattle.et_boot.specs.declared.built_ins as BootMethods
 pub use Rattle.et_boot.specs.declared.names as BootNamed
 pub use Rattle.et_boot.specs.BuiltIns as BootTable
+pub use Rattle.et_boot.specs.declared.text_methods as BootTexts

@@ -1,5 +1,8 @@
 -- THE MEMBERS that the classes declare, class by class in the order of the set, each with the number of its class.
-use Rattle.std.specs.Prelude.{◌≡◌, ℕ, ◌+◌, false, List, [], ◌∷◌, ◌++◌, map, length, Option, option_map}
+use Rattle.std.specs.Prelude.{◌≡◌, ℕ, ◌+◌, Bool, true, false, not, List, [], ◌∷◌, ◌++◌, map, length, Option, option_map}
+use Rattle.std.specs.List.{filter}
+use Rattle.et_class.specs.Names.{has}
+use Rattle.et_class.specs.declared.flags.TheConstants.{STATIC}
 use Rattle.et_class.specs.Entries.{Item, Constants}
 use Rattle.et_class.specs.Looks.{utf8_at}
 use Rattle.et_class.specs.Pools.{IsPool}
@@ -48,14 +51,21 @@ boot_field k f = record { class = k; name = f.name; descriptor = f.descriptor; f
 abbrev pub file_field : List (Option Item) → ℕ → LoadedMember → FieldInfo
 file_field slots k f = record { class = k; name = pool_text slots f.name; descriptor = pool_text slots f.descriptor; flags = f.flags; slot = 0; constant = f.constant }
 
-abbrev pub boot_fields : ℕ → BootClassOf → List FieldInfo
-boot_fields k c = map (boot_field k) c.fields
+-- it is static, or it isn't
+abbrev pub is_boot_static : Bool → BootFieldOf → Bool
+is_boot_static true f = has f.flags STATIC
+is_boot_static false f = not (has f.flags STATIC)
+
+-- the fields that are static, or those that aren't
+abbrev pub boot_fields : Bool → ℕ → BootClassOf → List FieldInfo
+boot_fields static k c = map (boot_field k) (filter (is_boot_static static) c.fields)
 
 abbrev pub file_fields : ℕ → LoadedClass → List FieldInfo
 file_fields k c = map (file_field c.pool.slots k) c.fields
 
+-- the static fields of the built-in classes stand behind the fields of the files, so that their slots are the last ones
 abbrev pub fields_of : List LoadedClass → List FieldInfo
-fields_of files = numbered boot_fields 0 boots ++ numbered file_fields (length boots) files
+fields_of files = (numbered (boot_fields false) 0 boots ++ numbered file_fields (length boots) files) ++ numbered (boot_fields true) 0 boots
 
 -- POOLS
 

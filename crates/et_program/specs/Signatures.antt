@@ -8,7 +8,7 @@ use Rattle.et_program.specs.declared.signatures.Signature.{Signature}
 use Rattle.et_program.specs.declared.signatures.Sought.{Sought}
 use Rattle.et_program.specs.declared.signatures.Sought.TheVariants.{Named, Like}
 use Rattle.et_program.specs.Entries.{ClassEntry, Linked, method_at}
-use Rattle.et_program.specs.BuiltIns.{built_in_of, is_deferred_in}
+use Rattle.et_program.specs.BuiltIns.{built_in_of, is_deferred_in, text_method_in}
 use Rattle.et_program.specs.Indices.{number_of_name}
 use Rattle.et_program.specs.Indexed.{HasIndexedMethods}
 
@@ -20,6 +20,7 @@ signature_of texts classes m = record {
   shape = shape_in m.descriptor;
   built_in = built_in_of m;
   is_deferred = is_deferred_in classes m;
+  text_method = text_method_in classes m;
   is_constructor = bytes_eq m.name (codes "<init>");
 }
 

@@ -24,7 +24,7 @@ mod types;
 
 pub use class::{Above, Class};
 pub use errors::LinkError;
-pub use et_boot::{BuiltIn, BuiltInClass, boot_count};
+pub use et_boot::{BuiltIn, BuiltInClass, Shown, TextMethod, boot_count};
 pub use fault::LinkFaultKind;
 pub use info::{ClassInfo, Element, FieldInfo, MethodInfo};
 pub use kind::{Kind, Leaf};

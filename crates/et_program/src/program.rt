@@ -16,7 +16,7 @@ use crate::shapes::{PoolShapes, shapes_of};
 use crate::signatures::{Signature, Sought, signatures_of};
 use crate::tables::Tables;
 use et_base::{ClassId, FieldId, MethodId, NoMemory};
-use et_boot::BuiltIn;
+use et_boot::{BuiltIn, TextMethod};
 use et_class::{CallShape, Pool};
 use std::alloc::Global;
 use std::marker::Model;
@@ -163,7 +163,7 @@ impl Program {
     ghost use Rattle.et_program.specs.Resolved.{IsResolved, AreResolved};
     ghost use Rattle.et_class.specs.Operands.{shape_in};
     ghost use Rattle.et_program.specs.Shapes.{shape_referred};
-    ghost use Rattle.et_program.specs.BuiltIns.{built_in_of, is_deferred};
+    ghost use Rattle.et_program.specs.BuiltIns.{built_in_of, is_deferred, text_method_of};
     ghost use Rattle.et_program.specs.Signatures.{IsSought, sought_name, sought_descriptor};
 
     /// The class of this name, or `NoClassDefFound` exactly where the program has none (JVMS 5.4.3.1).
@@ -300,13 +300,22 @@ impl Program {
         self.signatures[method.number() as usize].built_in
     }
 
-    /// Whether a method is a built-in one without code of threads, of weak references or of their queues. It was found out as
-    /// the program was linked.
+    /// Whether a method is a built-in one without code of threads, of weak references or of their queues, or of texts. It was
+    /// found out as the program was linked.
     pub fn is_deferred(&self, method: MethodId) -> bool
         requires { method < length self.now.methods }
         ensures { result ≡ is_deferred self.now method }
     {
         self.signatures[method.number() as usize].is_deferred
+    }
+
+    /// What a method does with texts, where it is one of String, StringBuilder or PrintStream; `None` exactly where it is
+    /// none. It was found out as the program was linked.
+    pub fn text_method(&self, method: MethodId) -> Option<TextMethod>
+        requires { method < length self.now.methods }
+        ensures { result ≡ text_method_of self.now method }
+    {
+        self.signatures[method.number() as usize].text_method
     }
 
     /// Whether a method is named `<init>` (JVMS 2.9.1).

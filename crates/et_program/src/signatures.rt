@@ -1,7 +1,7 @@
 //! The numbers by which methods are looked for, and what calls read off their descriptors and their names.
 
 ghost use Rattle.std.specs.Prelude.{◌≡◌, ◌<◌, length, map, All, IfOk};
-ghost use Rattle.et_program.specs.BuiltIns.{is_deferred_in};
+ghost use Rattle.et_program.specs.BuiltIns.{is_deferred_in, text_method_in};
 ghost use Rattle.et_program.specs.Signatures.{signature_of as signature_in};
 ghost use Rattle.et_program.specs.declared.info.MethodInfo.{MethodInfo as Method};
 
@@ -9,7 +9,7 @@ use crate::class::Class;
 use crate::info::MethodInfo;
 use crate::names::NameIndex;
 use et_base::{MethodId, NoMemory};
-use et_boot::{BuiltIn, built_in_called, is_deferring};
+use et_boot::{BuiltIn, TextMethod, built_in_called, is_deferring, text_method_called};
 use et_class::flags::{ABSTRACT, NATIVE, STATIC, has};
 use et_class::{CallShape, call_shape};
 use std::alloc::Global;
@@ -22,8 +22,10 @@ pub(crate) struct Signature {
     pub shape: Option<CallShape>,
     /// The built-in method that it is where it has no code.
     pub built_in: Option<BuiltIn>,
-    /// Whether it is a built-in method without code of threads, of weak references or of their queues.
+    /// Whether it is a built-in method without code of threads, of weak references or of their queues, or of texts.
     pub is_deferred: bool,
+    /// What it does where it is a method of texts.
+    pub text_method: Option<TextMethod>,
     /// Whether it is named `<init>`.
     pub is_constructor: bool,
 }
@@ -40,7 +42,7 @@ pub(crate) enum Sought<'a> {
     Like(MethodId),
 }
 
-/// Whether a method is a built-in one without code of threads, of weak references or of their queues.
+/// Whether a method is a built-in one without code of threads, of weak references or of their queues, or of texts.
 fn is_deferred(classes: &[Class], method: &MethodInfo) -> bool
     requires { method.now.class < length classes.now }
     ensures { result ≡ is_deferred_in classes.now method.now }
@@ -49,6 +51,16 @@ fn is_deferred(classes: &[Class], method: &MethodInfo) -> bool
     let is_other = has(flags, STATIC) || has(flags, NATIVE) || has(flags, ABSTRACT);
     let class = classes[method.class.number() as usize].info();
     method.code.is_none() && !is_other && is_deferring(class.name.as_slice())
+}
+
+/// What a method does with texts, where it is a method of texts.
+fn text_method(classes: &[Class], method: &MethodInfo) -> Option<TextMethod>
+    requires { method.now.class < length classes.now }
+    ensures { result ≡ text_method_in classes.now method.now }
+{
+    let class = classes[method.class.number() as usize].info();
+    let name = method.name.as_slice();
+    text_method_called(class.name.as_slice(), name, method.descriptor.as_slice())
 }
 
 /// The numbers of the name and descriptor of a method, and what calls read off them. The only error is want of memory.
@@ -73,6 +85,7 @@ fn signature_of(
             built_in_called(name, descriptor)
         },
         is_deferred: is_deferred(classes, method),
+        text_method: text_method(classes, method),
         is_constructor: name == b"<init>".as_slice(),
     })
 }

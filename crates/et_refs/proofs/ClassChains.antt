@@ -6,15 +6,15 @@ use Rattle.et_program.specs.Entries.{field_at}
 use Rattle.et_state.specs.State.{Kept}
 use Rattle.et_state.specs.Words.{static_at}
 use Rattle.et_state.specs.Outcome.{Outcome}
-use Rattle.et_event.specs.declared.errors.GuestError.TheVariants.{IncompatibleClassChangeError, InstantiationError}
+use Rattle.et_event.specs.declared.errors.GuestError.TheVariants.{IncompatibleClassChangeError, InstantiationError, NoSuchFieldError}
 use Rattle.et_event.specs.Moments.{Moment, current_frame, begins, next_object, instance_made, static_written, ill_typed, ends_event}
 use Rattle.et_event.specs.Checks.{with_value, entries_of, ill_typed_unless, throws_unless}
-use Rattle.et_event.specs.Heap.{leaving_values, field_fits, resolved_field, resolved_class, is_static_at, may_be_made}
+use Rattle.et_event.specs.Heap.{leaving_values, field_fits, resolved_field, resolved_class, is_out, is_static_at, may_be_made}
 use Rattle.et_event.specs.Initialization.{initialized}
 use Rattle.et_event.specs.Kinds.{kind_of_field, or_zero, narrowed}
 use Rattle.et_event.specs.Operands.{operand_kind}
 use Rattle.et_event.specs.Sites.{Site, Member}
-use Rattle.std.specs.Prelude.{nat_le, ◌+◌, length}
+use Rattle.std.specs.Prelude.{nat_le, not, ◌+◌, length}
 
 -- GETSTATIC
 
@@ -34,7 +34,7 @@ abbrev pub put : Moment → Site → Member → Value → List Value → ℕ →
 put e at m v below f = initialized e (begins e) (field_at e.program f).class (λ d. ends_event (static_written e (field_at e.program f).slot (narrowed m.descriptor v) (leaving_values e at below d)))
 
 abbrev pub puts_field : Moment → Site → Member → Value → List Value → Outcome Kept
-puts_field e at m v below = resolved_field e (begins e) m (λ f. throws_unless e (begins e) IncompatibleClassChangeError (is_static_at e.program f) (put e at m v below f))
+puts_field e at m v below = resolved_field e (begins e) m (λ f. throws_unless e (begins e) IncompatibleClassChangeError (is_static_at e.program f) (throws_unless e (begins e) NoSuchFieldError (not (is_out e.program f)) (put e at m v below f)))
 
 abbrev pub puts : Moment → Site → Member → Outcome Kept
 puts e at m = with_value (kind_of_field m.descriptor) (ill_typed e) (current_frame e).operands (puts_field e at m)

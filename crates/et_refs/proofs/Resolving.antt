@@ -36,4 +36,4 @@ resolves p s t c name h = resolves_by (record { program = p; before = s; thread 
 
 -- a state of nothing
 pub nowhere : Kept
-nowhere = record { heap = []; guest = let g : GuestState = record { clock = 0; statics = []; threads = []; classes = []; class_monitors = []; interned = [] } in g }
+nowhere = record { heap = []; guest = let g : GuestState = record { clock = 0; statics = []; threads = []; classes = []; class_monitors = []; interned = []; texts = [] } in g }

@@ -1,11 +1,11 @@
 //! Static fields (JVMS 6.5, getstatic, putstatic).
-ghost use Rattle.std.specs.Prelude.{◌≡◌, ℕ, ◌+◌, ◌<◌, ◌≤◌, ◌^◌, length, nat_le, IfOk, OnOk};
+ghost use Rattle.std.specs.Prelude.{◌≡◌, ℕ, ◌+◌, ◌<◌, ◌≤◌, ◌^◌, length, nat_le, not, IfOk, OnOk};
 ghost use Rattle.et_state.specs.State.{Kept, kept_of};
 ghost use Rattle.et_state.specs.Words.{HasFrame, top};
 ghost use Rattle.et_state.specs.Outcome.{Outcome};
-ghost use Rattle.et_event.specs.declared.errors.GuestError.TheVariants.{IncompatibleClassChangeError};
+ghost use Rattle.et_event.specs.declared.errors.GuestError.TheVariants.{IncompatibleClassChangeError, NoSuchFieldError};
 ghost use Rattle.et_event.specs.Checks.{ill_typed_unless as ill_unless, throws_unless as throwing_unless};
-ghost use Rattle.et_event.specs.Heap.{resolved_field, is_static_at, get_static, put_static};
+ghost use Rattle.et_event.specs.Heap.{resolved_field, is_out as is_field_out, is_static_at, get_static, put_static};
 ghost use Rattle.et_event.specs.Moments.{Moment, moment, begins};
 ghost use Rattle.et_event.specs.Sites.{natural_of};
 ghost use Rattle.et_event.specs.Sound.{IsSoundFor};
@@ -26,9 +26,9 @@ use crate::refusals::Refusal;
 use et_base::{FieldId, ThreadId};
 use et_class::flags::{STATIC, has};
 use et_event::GuestError;
-use et_parts::Place;
+use et_parts::{Place, class_called};
 use et_pool::kind_of;
-use et_program::Program;
+use et_program::{BuiltInClass, Program};
 use et_state::Machine;
 
 /// Whether so many entries fit on top.
@@ -73,6 +73,34 @@ fn static_field(program: &Program, named: &NamedField<'_>) -> Result<FieldId, Re
     };
     let is_static = has(program.field(field).flags, STATIC);
     throws_unless(GuestError::IncompatibleClassChangeError, is_static)?;
+    Ok(field)
+}
+
+/// Whether a field is System.out, the one static field of a built-in class.
+fn is_out(program: &Program, field: FieldId) -> bool
+    requires { field < length program.now.fields }
+    ensures { result ≡ is_field_out program.now field }
+{
+    program.field(field).class == class_called(program, BuiltInClass::System)
+}
+
+/// The static field that `putstatic` names. No instruction writes System.out.
+fn written_field(program: &Program, named: &NamedField<'_>) -> Result<FieldId, Refusal>
+    requires { IsAnswered program.now named.now }
+    ensures is { (s : Kept) (t : ℕ) (go : ℕ → Outcome Kept) →
+        resolved_field (record { program = program.now; before = s; thread = t }) (begins
+        (record { program = program.now; before = s; thread = t })) (shown_names named.now.member)
+        (λ f. throwing_unless (record { program = program.now; before = s; thread = t }) (begins
+        (record { program = program.now; before = s; thread = t })) IncompatibleClassChangeError
+        (is_static_at program.now f)
+        (throwing_unless (record { program = program.now; before = s; thread = t }) (begins
+        (record { program = program.now; before = s; thread = t })) NoSuchFieldError
+        (not (is_field_out program.now f)) (go f)))
+        ≡ outcome_of (record { program = program.now; before = s; thread = t }) result go }
+    ensures field { IfOk result (λ f. IsStaticField program.now named.now.member.descriptor.now f) }
+{
+    let field = static_field(program, named)?;
+    throws_unless(GuestError::NoSuchFieldError, !is_out(program, field))?;
     Ok(field)
 }
 
@@ -132,7 +160,7 @@ pub(crate) fn write_field(
         Err(refusal) => return Err(refusal),
     };
     let taken = take_typed(machine, thread, named.member.descriptor)?;
-    let field = static_field(program, &named)?;
+    let field = written_field(program, &named)?;
     let info = program.field(field);
     Ok(Wanted {
         class: info.class,

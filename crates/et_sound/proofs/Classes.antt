@@ -1,6 +1,6 @@
 -- The instructions on static fields, and those that make an object of a class that they name.
 use Rattle.std.proofs.Common.{◌≡◌, ℕ, ◌+◌, ◌<◌, ◌≤◌, true, List, ◌∷◌, ◌++◌, length, Option, Some, None, IfSome, Ok, refl, sym, ap, subst, arith}
-use Rattle.std.specs.Prelude.{nat_le, unwrap_or, slice_index_or}
+use Rattle.std.specs.Prelude.{nat_le, not, unwrap_or, slice_index_or}
 use Rattle.std.proofs.lemmas.Bool.{leb-true}
 use Rattle.std.proofs.lemmas.List.{length-append}
 use Rattle.et_base.specs.declared.value.Value.{Value}
@@ -17,9 +17,9 @@ use Rattle.et_state.specs.State.{Kept}
 use Rattle.et_heap.specs.Objects.{new_object}
 use Rattle.et_state.specs.declared.class_state.ClassState.TheVariants.{Untouched}
 use Rattle.et_state.specs.Words.{static_at, class_state_at}
-use Rattle.et_event.specs.declared.errors.GuestError.TheVariants.{IncompatibleClassChangeError, InstantiationError}
+use Rattle.et_event.specs.declared.errors.GuestError.TheVariants.{IncompatibleClassChangeError, InstantiationError, NoSuchFieldError}
 use Rattle.et_event.specs.Checks.{entries_of, with_int}
-use Rattle.et_event.specs.Heap.{leaving_values, with_class, resolved_class, new_array_of, is_static_at, field_fits, may_be_made, get_static, put_static, new_instance, new_array, new_reference_array}
+use Rattle.et_event.specs.Heap.{leaving_values, with_class, resolved_class, new_array_of, is_out, is_static_at, field_fits, may_be_made, get_static, put_static, new_instance, new_array, new_reference_array}
 use Rattle.et_event.specs.Initialization.{state_of}
 use Rattle.et_event.specs.Kinds.{kind_of_field, or_zero, narrowed, is_array_element}
 use Rattle.et_event.specs.Operands.{operand_kind}
@@ -71,6 +71,7 @@ put_static_sound e at here makes slots initializers =
     taken_value (KeepsSound p) (ill_typed e) e.before.heap (current_frame e).room (kind_of_field m.descriptor) (current_frame e).operands _ tt (operands_there e at here) (λ v below is_kind ops few.
     field_resolved e at (begins e) m _ makes g (λ f is.
     unless_thrown e (begins e) IncompatibleClassChangeError (is_static_at p f) _ makes g (λ static.
+    unless_thrown e (begins e) NoSuchFieldError (not (is_out p f)) _ makes g (λ open_field.
     initialized_sound e (begins e) (field_at p f).class _ here.sound here.clock initializers makes (slots.owners f is.within) g (λ d now further touched.
     let x : Doing = leaving_values e at below d in
     let i : ℕ = (field_at p f).slot in
@@ -80,7 +81,7 @@ put_static_sound e at here makes slots initializers =
     let kind : is_of_kind (operand_kind (field_at p f).descriptor) w ≡ true =
     subst (λ (type : List ℕ). is_of_kind (operand_kind type) w ≡ true) (sym is.descriptor) (narrowed_kind (operand_kind m.descriptor) m.descriptor v (kind_of_one p m.descriptor v (is_field_descriptor m.descriptor) is_kind typed)) in
     ends_sound p (static_written e i w x)
-    (static_well p e i w x well place.0 (subst (λ (k : ℕ). is_of_kind (operand_kind (field_at p k).descriptor) w ≡ true) (sym place.1) kind) (class_touched e d f touched place.1)))))))
+    (static_well p e i w x well place.0 (subst (λ (k : ℕ). is_of_kind (operand_kind (field_at p k).descriptor) w ≡ true) (sym place.1) kind) (class_touched e d f touched place.1))))))))
   where
     class_touched : (q : Moment) (y : Doing) (f : ℕ) → (state_of y (field_at q.program f).class ≡ Untouched → ⊥) → slice_index_or q.program.statics (field_at q.program f).slot 0 ≡ f → class_state_at y.state.guest (field_at q.program (slice_index_or q.program.statics (field_at q.program f).slot 0)).class ≡ Untouched → ⊥
     class_touched q y f touched same = subst (λ (k : ℕ). class_state_at y.state.guest (field_at q.program k).class ≡ Untouched → ⊥) (sym same) touched

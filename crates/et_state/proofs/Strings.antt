@@ -1,9 +1,10 @@
 -- The strings of constants as they are kept.
-use Rattle.std.proofs.Common.{◌≡◌, ℕ, zero, suc, ◌+◌, ◌==◌, ◌||◌, ◌<◌, ◌≤◌, Bool, true, false, cond, List, [], ◌∷◌, ◌++◌, Option, Some, None, map, refl, sym, ap, ◌∙◌, subst, arith}
-use Rattle.std.specs.Prelude.{if◌then◌else◌, find, position, slice_get}
+use Rattle.std.proofs.Common.{◌≡◌, ℕ, zero, suc, ◌+◌, ◌==◌, ◌||◌, ◌<◌, ◌≤◌, ◌^◌, Bool, true, false, cond, List, [], ◌∷◌, ◌++◌, length, Option, Some, None, map, refl, sym, ap, ◌∙◌, subst, arith}
+use Rattle.std.specs.Prelude.{All, IfSome, if◌then◌else◌, find, position, slice_get}
 use Rattle.indexmap.specs.IndexMap.{insert_entry}
 use Rattle.std.proofs.lemmas.Iterator.Adapters.{position_from-zero}
 use Rattle.std.proofs.lemmas.List.{map-append}
+use Rattle.std.proofs.lemmas.List.Elements.{All-head, All-tail}
 use Rattle.std.specs.List.{position_from, list_any}
 use Rattle.std.specs.Option.{option_map}
 use Rattle.std.specs.Map.{lookup}
@@ -118,3 +119,13 @@ objects-added es fs m text o n ks new view added number keys fresh is =
     let last : new ≡ ks ++ n ∷ [] = is ∙ ap (λ b. if b then ks else (ks ++ n ∷ [])) none in
     let same : ks ++ n ∷ [] ≡ interned_objects m ++ o ∷ [] = ap (λ p. ks ++ p ∷ []) number ∙ ap (λ p. p ++ o ∷ []) (keys ∙ ap interned_objects view) in
     last ∙ (same ∙ sym (ap interned_objects added ∙ map-append (λ p. p.1) m ((text, o) ∷ [])))
+
+short_step : (b : Bool) (p : List ℕ × ℕ) (r : Option (List ℕ × ℕ)) → length p.0 < 2 ^ 16 → IfSome (option_map (λ q. q.0) r) (λ t. length t < 2 ^ 16) → IfSome (option_map (λ q. q.0) (cond b (Some p) r)) (λ t. length t < 2 ^ 16)
+short_step true p r here later = here
+short_step false p r here later = later
+
+-- the bytes of an object are few where all are
+pub text-short : (m : List (List ℕ × ℕ)) (o : ℕ) → All (λ (s : List ℕ × ℕ). length s.0 < 2 ^ 16) m → IfSome (interned_text m o) (λ t. length t < 2 ^ 16)
+text-short [] o all = tt
+text-short (x ∷ m) o all =
+    short_step (o == x.1) x (find (λ p. o == p.1) m) (All-head (λ (s : List ℕ × ℕ). length s.0 < 2 ^ 16) x m all) (text-short m o (All-tail (λ (s : List ℕ × ℕ). length s.0 < 2 ^ 16) x m all))

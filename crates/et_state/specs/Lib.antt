@@ -11,8 +11,10 @@ pub mod StackInside
 pub mod ThreadInside
 pub mod Interned
 pub mod InternedInside
+pub mod Texts
 pub mod State
 pub mod Words
+pub mod Spoken
 pub mod Roots
 pub mod Sound
 pub mod Moves

@@ -2,6 +2,7 @@
 use Rattle.std.specs.Prelude.{◌≡◌, ℕ, ◌≤◌, List, length}
 use Rattle.et_state.specs.Threads.{ThreadState, most_threads, unended_of}
 use Rattle.et_state.specs.State.{MachineState}
+use Rattle.et_state.specs.Texts.{no_texts}
 use Rattle.et_state.specs.declared.machine.Machine.TheInside.{Inside}
 
 abbrev pub machine_in : Inside → MachineState
@@ -14,6 +15,7 @@ machine_in m = record {
     classes = m.classes.items;
     class_monitors = m.class_monitors.items;
     interned = m.interned;
+    texts = no_texts;
   };
   lost = m.lost;
 }

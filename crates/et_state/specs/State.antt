@@ -5,6 +5,7 @@ use Rattle.et_heap.specs.declared.monitor.Monitor.{Monitor}
 use Rattle.et_state.specs.declared.class_state.ClassState.{ClassState}
 pub use Rattle.et_heap.specs.Objects.{ObjectState, Objects}
 pub use Rattle.et_state.specs.Threads.{FrameState, ThreadState}
+use Rattle.et_state.specs.Texts.{Texts}
 
 -- all of a state but its objects
 pub record GuestState : Type 0 where
@@ -19,6 +20,8 @@ pub record GuestState : Type 0 where
   pub class_monitors : List Monitor
   -- the strings of constants (JVMS 5.1), each with its object, in the order in which they were made
   pub interned : List (List ℕ × ℕ)
+  -- the texts that strings and builders were given; those of constants are their bytes
+  pub texts : Texts
 
 -- What a machine keeps. Each object stands in the heap at its number, and None where it was reported.
 pub record Kept : Type 0 where

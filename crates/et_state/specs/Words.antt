@@ -8,6 +8,7 @@ use Rattle.et_state.specs.declared.class_state.ClassState.TheVariants.{Untouched
 use Rattle.et_heap.specs.Objects.{ObjectState, free_monitor, new_object, with_object_at}
 use Rattle.et_state.specs.Threads.{FrameState, ThreadState, no_thread, new_thread, top_of, with_top_of}
 use Rattle.et_state.specs.State.{GuestState, MachineState}
+use Rattle.et_state.specs.Texts.{no_texts}
 
 abbrev pub thread_at : GuestState → ℕ → ThreadState
 thread_at g t = slice_index_or g.threads t no_thread
@@ -74,6 +75,7 @@ first_state class classes statics = record {
     classes = classes;
     class_monitors = replicate (length classes) free_monitor;
     interned = [];
+    texts = no_texts;
   };
   lost = [];
 }

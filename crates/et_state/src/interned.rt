@@ -1,5 +1,5 @@
 //! The strings of constants.
-ghost use Rattle.std.specs.Prelude.{◌≡◌, [], ◌∷◌, ◌++◌, OnOk, OnErr, None};
+ghost use Rattle.std.specs.Prelude.{◌≡◌, ◌<◌, ◌^◌, [], ◌∷◌, ◌++◌, length, IfSome, OnOk, OnErr, None};
 ghost use Rattle.std.specs.Option.{option_copied};
 ghost use Rattle.et_state.specs.Interned.{object_of, interned_text, interned_objects};
 
@@ -52,7 +52,8 @@ impl Interned {
 
     /// The bytes of this object.
     pub(crate) fn text(&self, o: ObjectId) -> Option<&[u8]>
-        ensures { option_copied result ≡ interned_text self.now o }
+        ensures value { option_copied result ≡ interned_text self.now o }
+        ensures short { IfSome (option_copied result) (λ bytes. length bytes < 2 ^ 16) }
     {
         let i = self.order.get_index_of(&o.number())?;
         let (text, _) = self.objects.get_index(i)?;
@@ -63,6 +64,7 @@ impl Interned {
     pub(crate) fn add(&mut self, text: &[u8], o: ObjectId) -> Result<(), NoMemory>
         requires text { object_of self.old text.now ≡ None }
         requires object { interned_text self.old o ≡ None }
+        requires short { length text.now < 2 ^ 16 }
         ensures ok { OnOk result (self.new ≡ self.old ++ (text.now, o) ∷ []) }
         ensures err { OnErr result (self.new ≡ self.old) }
     {

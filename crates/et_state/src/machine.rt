@@ -1,10 +1,11 @@
 //! The machine.
-ghost use Rattle.std.specs.Prelude.{◌≡◌, ◌+◌, ◌<◌, ◌≤◌, ◌^◌, ◌∷◌, ◌++◌, [], length, false, IsTrue, None, Some, IfOk, OnOk, OnErr, slice_get, option_to_list};
+ghost use Rattle.std.specs.Prelude.{◌≡◌, ◌+◌, ◌<◌, ◌≤◌, ◌^◌, ◌∷◌, ◌++◌, [], length, false, IsTrue, None, Some, IfSome, IfOk, OnOk, OnErr, slice_get, option_to_list};
 ghost use Rattle.std.specs.Option.{option_copied};
 ghost use Rattle.et_heap.specs.Objects.{IsHeld, object_at, with_object_at, with_slot, slot_of};
 ghost use Rattle.et_heap.specs.Refs.{refs_of, refs_of_value};
 ghost use Rattle.et_state.specs.Threads.{at_pc, pushed, popped, without_operands, with_local, operand_of, local_of, in_clinit, is_before_class, without_top, entered_by, with_pending, as_entered, as_ended, ended_roots, new_thread, turn_of, unended_of, thread_with, most_frames, most_threads, lost_room};
 ghost use Rattle.et_state.specs.NewFrames.{frame_of};
+ghost use Rattle.et_state.specs.Texts.{no_texts};
 ghost use Rattle.et_state.specs.ThreadRoots.{frame_roots};
 ghost use Rattle.et_state.specs.Interned.{object_of, interned_text as text_in};
 ghost use Rattle.et_state.specs.Roots.{roots_of};
@@ -57,6 +58,13 @@ impl Model for Machine {
 }
 
 impl Machine {
+    /// Does nothing. Its contract is that the texts of a machine stand beside it.
+    pub fn has_no_texts(&self)
+        ensures { self.now.guest.texts ≡ no_texts }
+    {
+        let _ = &self.heap;
+    }
+
     /// The first state, with the class of the array of arguments, how far each class is, and what the static slots hold.
     /// Object 1 is that array, of length 0, and thread 0 has it in its entry slot.
     #[tactic(auto, using(crate::proofs::Unended::begins))]
@@ -603,16 +611,18 @@ impl Machine {
 
     /// The bytes of the string of a constant, by its object.
     pub fn text_of(&self, o: ObjectId) -> Option<&[u8]>
-        ensures { option_copied result ≡ text_in self.now.guest.interned o }
+        ensures value { option_copied result ≡ text_in self.now.guest.interned o }
+        ensures short { IfSome (option_copied result) (λ bytes. length bytes < 2 ^ 16) }
     {
         self.interned.text(o)
     }
 
-    /// Makes an object the string of a constant. Neither the bytes nor the object is one yet. After `NoMemory` the machine
-    /// is as before.
+    /// Makes an object the string of a constant, which has fewer than 2^16 bytes. Neither the bytes nor the object is one yet.
+    /// After `NoMemory` the machine is as before.
     pub fn intern(&mut self, bytes: &[u8], o: ObjectId) -> Result<(), NoMemory>
         requires bytes { object_of self.old.guest.interned bytes.now ≡ None }
         requires object { text_in self.old.guest.interned o ≡ None }
+        requires short { length bytes.now < 2 ^ 16 }
         ensures ok { OnOk result (self.new ≡ with_guest self.old
             (with_string self.old.guest bytes.now o)) }
         ensures err { OnErr result (self.new ≡ self.old) }

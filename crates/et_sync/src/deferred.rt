@@ -8,7 +8,7 @@ ghost use Rattle.et_event.specs.Beginning.{BeginsEvent};
 ghost use Rattle.et_event.specs.Calls.{invoke};
 ghost use Rattle.et_event.specs.Moments.{moment};
 ghost use Rattle.et_parts.specs.Places.{IsPlace, site_at};
-ghost use Rattle.et_builtins.specs.Deferred.{deferred_at};
+ghost use Rattle.et_event.specs.Selected.{deferred_at};
 
 use et_base::{NoMemory, Steps, ThreadId};
 use et_builtins::{Call, CallPlan, built_in_method_event, invoke_plan};

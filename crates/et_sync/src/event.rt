@@ -11,7 +11,7 @@ ghost use Rattle.et_event.specs.Event.{does, event};
 ghost use Rattle.et_event.specs.Families.{family_of, family_of_row};
 ghost use Rattle.et_event.specs.Moments.{moment};
 ghost use Rattle.et_parts.specs.Places.{IsPlace, site_at};
-ghost use Rattle.et_builtins.specs.Deferred.{deferred_at, deferred_call};
+ghost use Rattle.et_event.specs.Selected.{deferred_at, deferred_call};
 
 use crate::deferred::deferred_event;
 use crate::ending::end_event;

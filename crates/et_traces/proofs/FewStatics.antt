@@ -1,4 +1,5 @@
--- A linked program has at most 4,096 * 65,535 static fields: it is of at most 4,096 files, of at most 65,535 fields each.
+-- A linked program has at most 4,096 * 65,535 + 1 static fields: it is of at most 4,096 files, of at most 65,535 fields each, and
+-- System.out is one more.
 use Rattle.std.proofs.Common.{◌≡◌, ℕ, ◌+◌, ◌*◌, ◌<◌, ◌≤◌, Bool, true, false, List, [], ◌∷◌, ◌++◌, length, map, refl, inl, inr, arith, length-append}
 use Rattle.std.specs.Prelude.{All, if◌then◌else◌}
 use Rattle.std.proofs.lemmas.Bool.{cases_lt}
@@ -30,8 +31,12 @@ places_behind t n (x ∷ xs) ys = by (t x) (places_behind t (n + 1) xs ys)
     by true le = omega (arith, le)
     by false le = omega (arith, le)
 
--- no built-in class has a static field
-boot_statics : length (places_from is_static_field 0 (numbered boot_fields 0 boots)) ≡ 0
+-- the fields of the built-in classes that are not static, and the one that is
+boot_instances : length (places_from is_static_field 0 (numbered (boot_fields false) 0 boots)) ≡ 0
+unfolding boots
+boot_instances = refl
+
+boot_statics : length (numbered (boot_fields true) 0 boots) ≡ 1
 unfolding boots
 boot_statics = refl
 
@@ -58,10 +63,14 @@ few_files files linkable =
       | inr few ↦ few
     ]
 
-pub few_statics : (files : List LoadedClass) → IsLinkable files → All (λ (c : LoadedClass). length c.fields < 65536) files → length (places_from is_static_field 0 (fields_of files)) ≤ 4096 * 65535
+pub few_statics : (files : List LoadedClass) → IsLinkable files → All (λ (c : LoadedClass). length c.fields < 65536) files → length (places_from is_static_field 0 (fields_of files)) ≤ 4096 * 65535 + 1
 few_statics files linkable few =
-    let places = places_behind is_static_field 0 (numbered boot_fields 0 boots) (numbered file_fields (length boots) files) in
-    let built_in = boot_statics in
+    let fields = numbered (boot_fields false) 0 boots in
+    let own = numbered file_fields (length boots) files in
+    let behind = places_behind is_static_field 0 (fields ++ own) (numbered (boot_fields true) 0 boots) in
+    let places = places_behind is_static_field 0 fields own in
+    let instances = boot_instances in
+    let last = boot_statics in
     let each = file_field_count (length boots) files few in
     let count = few_files files linkable in
-    omega (arith, places, built_in, each, count)
+    omega (arith, behind, places, instances, last, each, count)

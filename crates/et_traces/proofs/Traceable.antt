@@ -22,9 +22,9 @@ use Rattle.et_traces.proofs.ProgramTexts.{HasMethodTexts, methods_told, classes_
 pub file_texts : (classes : List ClassOf) → All IsOfFile classes → All HasTexts (map loaded_class classes)
 file_texts classes of_files = All-map HasTexts loaded_class classes (λ i d lt. has_texts _ (of_files i d lt))
 
-pub statics_within : (files : List LoadedClass) (p : Linked) → All HasTexts files → IsLinkable files → IsProgramOf files p → length p.statics ≤ 4096 * 65535
+pub statics_within : (files : List LoadedClass) (p : Linked) → All HasTexts files → IsLinkable files → IsProgramOf files p → length p.statics ≤ 4096 * 65535 + 1
 statics_within files p texts linkable is =
-    subst (λ (q : Linked). length q.statics ≤ 4096 * 65535) (sym is.tables) (few_statics files linkable (All-weaker HasTexts (λ (c : LoadedClass). length c.fields < 65536) (λ c h. h.few) files texts))
+    subst (λ (q : Linked). length q.statics ≤ 4096 * 65535 + 1) (sym is.tables) (few_statics files linkable (All-weaker HasTexts (λ (c : LoadedClass). length c.fields < 65536) (λ c h. h.few) files texts))
 
 -- of the files that it was linked of
 module _ (files : List LoadedClass) (p : Linked) (texts : All HasTexts files) (named : All HasClassName files) (linkable : IsLinkable files) (is : IsProgramOf files p) where

@@ -94,8 +94,8 @@ pub fn class_names_are_apart()
         bytes_eq (class_at p c).info.name (class_at p d).info.name ≡ true → c ≡ d }
 {}
 
-/// A linked program has at most 4,096 files, each of at most 65,535 fields; so its static fields are fewer than the slots
-/// that a line of a trace can tell, which are 2^28.
+/// A linked program has at most 4,096 files, each of at most 65,535 fields, and System.out is one static field more; so its
+/// static fields are fewer than the slots that a line of a trace can tell, which are 2^28.
 pub fn statics_are_few()
-    ensures { (p : Linked) → IsLinked p → length p.statics ≤ 4096 * 65535 }
+    ensures { (p : Linked) → IsLinked p → length p.statics ≤ 4096 * 65535 + 1 }
 {}

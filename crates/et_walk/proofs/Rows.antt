@@ -3,7 +3,7 @@ use Rattle.et_base.specs.declared.value.Value.{Value}
 use Rattle.et_base.specs.declared.value.Value.TheVariants.{Int, Long, LongHigh, Null, Ref, Unset}
 use Rattle.et_class.specs.Names.{has}
 use Rattle.et_event.specs.Checks.{Reference, entries_of}
-use Rattle.et_event.specs.Heap.{array_length, arrays_made, cast, element_of_array, field_fits, get_field, get_static, heap_event, is_static_at, leaving_values, length_of, load_element, may_be_made, naturals, new_array, new_array_of, new_instance, new_multi_array, new_reference_array, passes_element, put_field, put_static, resolved_class, resolved_field, store_element, truth, type_tested, with_class, with_element, with_field, with_holder}
+use Rattle.et_event.specs.Heap.{array_length, arrays_made, cast, element_of_array, field_fits, get_field, get_static, heap_event, is_out, is_static_at, leaving_values, length_of, load_element, may_be_made, naturals, new_array, new_array_of, new_instance, new_multi_array, new_reference_array, passes_element, put_field, put_static, resolved_class, resolved_field, store_element, truth, type_tested, with_class, with_element, with_field, with_holder}
 use Rattle.et_event.specs.Kinds.{are_elements, in_bounds, is_array_element, kept_element, kind_of_elements, kind_of_field, narrowed, or_zero}
 use Rattle.et_event.specs.Moments.{Doing, Moment, array_made, begins, current_frame, ends_event, goes, ill_typed, instance_made, next_object, number_of_value, object_class, pending_now, slot_written, static_written, thread_of, with_frame, with_thread_state}
 use Rattle.et_event.specs.Monitors.{OfObject, entered, left, may_enter, owns}
@@ -189,11 +189,12 @@ module _ (e : Moment) (ready : Ready e) (framed : IsFramed e) where
       any_value (Leads e) (ill_typed e) tt e.before.heap (kind_of_field m.descriptor) (current_frame e).operands _ operands_fine (λ v below fine typed f.
       field_resolved m _ (λ k is.
       unless_thrown e ready (begins e) errors.IncompatibleClassChangeError (is_static_at e.program k) _ Begins (λ static.
+      unless_thrown e ready (begins e) errors.NoSuchFieldError (not (is_out e.program k)) _ Begins (λ open_field.
       initialized_leads e ready (begins e) (field_at e.program k).class _ Begins (λ d h.
       let x : Doing = leaving_values e at below d in
       end_leads e ready Level (static_written e (field_at e.program k).slot (narrowed m.descriptor v) x)
       (WritesStatic (field_at e.program k).slot (narrowed m.descriptor v) x (leaving_comes at below d h (λ u. later_fine d.state below u f)) (ready.may.slots.statics k is.within static).0
-      (λ u. fine_narrowed x.state.heap m.descriptor v (fine_grows e.before.heap x.state.heap v u.stays fine)) (static_typed m k v named is static typed)))))))
+      (λ u. fine_narrowed x.state.heap m.descriptor v (fine_grows e.before.heap x.state.heap v u.stays fine)) (static_typed m k v named is static typed))))))))
 
   holder_leads : (f : ℕ) (r : Reference) (go : ℕ → Outcome Kept) → FineSome (near e) r → ((o : ℕ) → IsHeld (near e) o → is_subclass e.program (object_at e.before.heap o).class (field_at e.program f).class ≡ true → Leads e (go o)) → Leads e (with_holder e (begins e) f r go)
   holder_leads f r go held h =

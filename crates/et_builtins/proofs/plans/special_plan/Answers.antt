@@ -9,7 +9,7 @@ use Rattle.et_event.specs.Calls.{arguments_of, enters_method, fits_resolved, spe
 use Rattle.et_event.specs.Checks.{after_selection}
 use Rattle.et_event.specs.declared.rows.CallKind.TheVariants as kinds
 use Rattle.et_event.specs.Moments.{moment, begins, object_class}
-use Rattle.et_builtins.specs.Deferred.{selected_on}
+use Rattle.et_event.specs.Selected.{selected_on}
 use Rattle.et_builtins.proofs.Choosing.{special_room}
 use Rattle.et_builtins.proofs.Planning.{special_selected}
 use Rattle.et_builtins.proofs.plans.special_plan.Goals as goal

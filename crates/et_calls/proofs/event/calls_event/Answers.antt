@@ -3,7 +3,7 @@ use Rattle.et_state.specs.declared.stage.Turn.TheVariants.{Entry, Initialize}
 use Rattle.et_state.specs.State.{kept_of}
 use Rattle.et_event.specs.Event.{event}
 use Rattle.et_parts.proofs.Answering.{if_ok}
-use Rattle.et_builtins.specs.Deferred.{deferred_call}
+use Rattle.et_event.specs.Selected.{deferred_call}
 use Rattle.et_builtins.proofs.Deferring.{answered, at_turn, native_exactly, none_deferred}
 use Rattle.et_calls.proofs.event.calls_event.Goals as goal
 

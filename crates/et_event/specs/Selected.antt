@@ -1,29 +1,26 @@
--- DEFERRED CALLS: those of the built-in methods of threads, of weak references and of their queues. The event call that does
--- calls leaves them to the one that does monitors and threads.
-use Rattle.std.specs.Prelude.{◌≡◌, ℕ, Bool, true, false, if◌then◌else◌, List, Option, Some, None, option_and_then, Result, Ok, Err}
+-- DEFERRED CALLS: those of the built-in methods of threads, of weak references and of their queues, and of texts. The event call
+-- that does calls leaves them to the one that does monitors and threads, and to the one that does texts.
+use Rattle.std.specs.Prelude.{ℕ, Bool, true, false, if◌then◌else◌, List, [], Option, None, option_and_then, option_map, Result, Ok, Err}
+use Rattle.std.specs.Option.{option_map_or}
 use Rattle.std.specs.Result.{result_ok}
-use Rattle.et_pool.specs.Descriptors.{MethodType, method_type}
+use Rattle.et_class.specs.Descriptors.{MethodType, method_type}
 use Rattle.et_code.specs.declared.instr.Instr.{Instr}
 use Rattle.et_code.specs.declared.instr.CodeFault.{CodeFault}
-use Rattle.et_program.specs.BuiltIns.{is_deferred}
+use Rattle.et_program.specs.BuiltIns.{is_deferred, text_method_of}
+use Rattle.et_program.specs.BootTexts.TextMethod.{TextMethod}
 use Rattle.et_program.specs.Entries.{Linked, is_static}
 use Rattle.et_program.specs.Members.{kept}
 use Rattle.et_program.specs.Resolution.{resolve_class, resolve_method, select, select_special}
 use Rattle.et_base.specs.declared.value.Value.{Value}
 use Rattle.et_state.specs.declared.stage.Turn.{Turn}
 use Rattle.et_state.specs.declared.stage.Turn.TheVariants.{Instruction}
-use Rattle.et_state.specs.declared.records.Record.{Record}
-use Rattle.et_state.specs.declared.ends.EventEnd.{EventEnd}
-use Rattle.et_state.specs.declared.ends.EventEnd.TheVariants as ends
-use Rattle.et_state.specs.Outcome.{Outcome}
 use Rattle.et_state.specs.Threads.{turn_of}
-use Rattle.et_state.specs.State.{Kept, MachineState}
+use Rattle.et_state.specs.State.{Kept}
 use Rattle.et_event.specs.declared.rows.CallKind.{CallKind}
 use Rattle.et_event.specs.declared.rows.CallKind.TheVariants.{Virtual, Special, Static, Interface}
 use Rattle.et_event.specs.declared.rows.CallRow.TheVariants.{Invoke}
 use Rattle.et_event.specs.declared.rows.Row.{Row}
 use Rattle.et_event.specs.declared.rows.Row.TheVariants.{Call}
-use Rattle.et_event.specs.Answered.{EventAnswers}
 use Rattle.et_event.specs.Calls.{arguments_of, call_fits, entry_count, fits_resolved, is_as, is_static_call, special_class}
 use Rattle.et_event.specs.Frames.{first_reference}
 use Rattle.et_event.specs.Moments.{Moment, begins, object_class, current_frame, thread_of}
@@ -82,7 +79,35 @@ deferred_call p s t =
     let e : Moment = record { program = p; before = s; thread = t } in
     deferred_in e (turn_of (thread_of e))
 
--- WHAT IS ANSWERED BY A CALL THAT DEFERS: the method, and then machine and records are as before. Else it does the event
-abbrev pub DefersOrAnswers : Option ℕ → Outcome Kept → EventEnd → MachineState → MachineState → List Record → List Record → Type 0
-DefersOrAnswers (Some method) o end m m' out out' = (end ≡ ends.Native method) × (m' ≡ m) × (out' ≡ out)
-DefersOrAnswers None o end m m' out out' = EventAnswers o end m m' out out'
+-- THE CALL OF A METHOD OF TEXTS THAT A TURN MAKES, if it makes one: where it stands, what is passed, and the method
+
+pub record TextCall : Type 0 where
+  pub at : Site
+  pub arguments : List Value
+  pub method : TextMethod
+
+-- the entries that an invoke passes
+abbrev pub passed_at : Moment → Site → CallKind → List Value
+passed_at e at kind =
+    option_map_or (λ (type : MethodType). arguments_of e (entry_count (is_static_call kind) type)) (option_and_then (λ (named : Member). method_type named.descriptor) (site_member at)) []
+
+abbrev pub text_call_of : Site → List Value → Option TextMethod → Option TextCall
+text_call_of at arguments method = option_map (λ m. record { at = at; arguments = arguments; method = m }) method
+
+abbrev pub text_call_at : Moment → Site → Row → Option TextCall
+text_call_at e at (Call (Invoke kind)) = option_and_then (λ m. text_call_of at (passed_at e at kind) (text_method_of e.program m)) (deferred_at e at (Call (Invoke kind)))
+text_call_at e at other = None
+
+abbrev pub text_call_by : Moment → Result (Instr × ℕ) CodeFault → Option TextCall
+text_call_by e (Err fault) = None
+text_call_by e (Ok x) = option_and_then (text_call_at e (site_of e.program (current_frame e) x)) (row_of x.0.opcode)
+
+abbrev pub text_call_in : Moment → Turn → Option TextCall
+text_call_in e Instruction = text_call_by e (decoded_at e.program (current_frame e))
+text_call_in e other = None
+
+-- the turn of thread t in state s
+unfoldable pub text_call : Linked → Kept → ℕ → Option TextCall
+text_call p s t =
+    let e : Moment = record { program = p; before = s; thread = t } in
+    text_call_in e (turn_of (thread_of e))

@@ -1,7 +1,0 @@
-use Rattle.std.proofs.Common.{◌≡◌, take}
-use Rattle.et_program.specs.Files.{boots}
-use Rattle.et_program.specs.MembersOf.{numbered, boot_fields}
-use Rattle.et_link.proofs.members.all_boot_fields.Given as goal
-
-abbrev pub invariant-classes : goal.invariant-classes
-invariant-classes l = l.list.items ≡ numbered boot_fields 0 (take l.i boots)
