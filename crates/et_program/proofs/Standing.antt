@@ -70,19 +70,19 @@ thread_at p linked = subst (λ (q : Linked). class_named q (codes "java/lang/Thr
 abbrev run_in : Linked → Option ℕ
 run_in p = method_in p (codes "run") (codes "()V") 6
 
-run_in_tables : (files : List LoadedClass) (rows : List Ancestry) (pools : List Constants) → run_in (program_with files rows pools) ≡ Some 7
+run_in_tables : (files : List LoadedClass) (rows : List Ancestry) (pools : List Constants) → run_in (program_with files rows pools) ≡ Some 10
 unfolding boots
 run_in_tables files rows pools = refl
 
-run_meant : (files : List LoadedClass) (rows : List Ancestry) (pools : List Constants) → resolve_method (program_with files rows pools) 6 false (codes "run") (codes "()V") ≡ Ok 7
+run_meant : (files : List LoadedClass) (rows : List Ancestry) (pools : List Constants) → resolve_method (program_with files rows pools) 6 false (codes "run") (codes "()V") ≡ Ok 10
 unfolding boots
 run_meant files rows pools = refl
 
-pub run_resolved : (p : Linked) → IsLinked p → resolve_method p 6 false (codes "run") (codes "()V") ≡ Ok 7
+pub run_resolved : (p : Linked) → IsLinked p → resolve_method p 6 false (codes "run") (codes "()V") ≡ Ok 10
 run_resolved p linked =
-    subst (λ (q : Linked). resolve_method q 6 false (codes "run") (codes "()V") ≡ Ok 7) (sym linked.program.tables) (run_meant (map loaded_class linked.classes) linked.program.rows p.pools)
+    subst (λ (q : Linked). resolve_method q 6 false (codes "run") (codes "()V") ≡ Ok 10) (sym linked.program.tables) (run_meant (map loaded_class linked.classes) linked.program.rows p.pools)
 
-pub run_within : (p : Linked) → IsLinked p → 7 < length p.methods
+pub run_within : (p : Linked) → IsLinked p → 10 < length p.methods
 run_within p linked =
-    let found : run_in p ≡ Some 7 = subst (λ (q : Linked). run_in q ≡ Some 7) (sym linked.program.tables) (run_in_tables (map loaded_class linked.classes) linked.program.rows p.pools) in
-    method_within p (codes "run") (codes "()V") 6 (Some 7) (sym found)
+    let found : run_in p ≡ Some 10 = subst (λ (q : Linked). run_in q ≡ Some 10) (sym linked.program.tables) (run_in_tables (map loaded_class linked.classes) linked.program.rows p.pools) in
+    method_within p (codes "run") (codes "()V") 6 (Some 10) (sym found)

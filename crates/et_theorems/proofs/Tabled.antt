@@ -1,5 +1,5 @@
 -- A program that was linked of class files, and that has fewer than 2^32 classes, keeps its tables in range.
-use Rattle.std.proofs.Common.{◌≡◌, ℕ, ◌+◌, ◌*◌, ◌<◌, ◌≤◌, ◌^◌, List, [], ◌∷◌, length, map, Option, Some, None, inl, inr, refl, ap, arith, length-append}
+use Rattle.std.proofs.Common.{◌≡◌, ℕ, ◌+◌, ◌*◌, ◌<◌, ◌≤◌, ◌^◌, Bool, true, false, List, [], ◌∷◌, ◌++◌, length, map, Option, Some, None, inl, inr, refl, ap, arith, length-append}
 use Rattle.std.specs.Prelude.{All}
 use Rattle.std.proofs.lemmas.Bool.{cases_lt}
 use Rattle.std.proofs.lemmas.List.{length-map}
@@ -54,9 +54,11 @@ method_count k (c ∷ files) few =
     let rest = method_count (k + 1) files (All-tail HasFewMembers c files few) in
     omega (arith, both, own, first, rest)
 
-boot_field_count : length (numbered boot_fields 0 boots) < 2 ^ 16
+-- the fields of the built-in classes that are not static, and those that are
+boot_field_count : (static : Bool) → length (numbered (boot_fields static) 0 boots) < 2 ^ 16
 unfolding boots
-boot_field_count = omega arith
+boot_field_count true = omega arith
+boot_field_count false = omega arith
 
 boot_method_count : length (numbered boot_methods 0 boots) < 2 ^ 16
 unfolding boots
@@ -99,10 +101,14 @@ tabled_of classes p some of_files linkable is few =
     let all = length-classes (heads_of files is.rows) (set_of files) (class_names_of files) in
     let same = ap (λ (q : Linked). length q.classes) is.tables in
     let number = few_files files linkable in
-    let fields = length-append (numbered boot_fields 0 boots) (numbered file_fields (length boots) files) in
-    let boot_f = boot_field_count in
+    let instances = numbered (boot_fields false) 0 boots in
+    let own = numbered file_fields (length boots) files in
+    let behind = length-append (instances ++ own) (numbered (boot_fields true) 0 boots) in
+    let fields = length-append instances own in
+    let boot_f = boot_field_count false in
+    let boot_s = boot_field_count true in
     let file_f = field_count (length boots) files members in
     let methods = length-append (numbered boot_methods 0 boots) (numbered file_methods (length boots) files) in
     let boot_m = boot_method_count in
     let file_m = method_count (length boots) files members in
-    tabled_program files is.rows p main.0 rows main.1 is.tables (omega (arith, all, same, few)) (omega (arith, methods, boot_m, file_m, number)) (omega (arith, fields, boot_f, file_f, number))
+    tabled_program files is.rows p main.0 rows main.1 is.tables (omega (arith, all, same, few)) (omega (arith, methods, boot_m, file_m, number)) (omega (arith, behind, fields, boot_f, boot_s, file_f, number))

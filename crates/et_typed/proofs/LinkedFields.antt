@@ -4,7 +4,7 @@ use Rattle.std.specs.Prelude.{All, IfSome, codes, if◌then◌else◌, is_some}
 use Rattle.std.specs.List.{list_all, slice_index_or}
 use Rattle.std.specs.Str.{bytes_eq}
 use Rattle.std.proofs.lemmas.Bool.{and_parts, cases_eq, eqb-true, false≢true, true≢false, not-true}
-use Rattle.std.proofs.lemmas.List.Elements.{All-append, All-cons, All-map, All-nil}
+use Rattle.std.proofs.lemmas.List.Elements.{All-cons, All-map, All-nil}
 use Rattle.et_base.proofs.Positions.{Passes, position_passes}
 use Rattle.et_class.specs.Descriptors.{after_class, after_dimensions, after_element, is_base, is_field_descriptor, is_floating, is_text_end}
 use Rattle.et_base.specs.Marks.{Mark}
@@ -29,6 +29,7 @@ use Rattle.et_linked.proofs.Classes.{class_cases}
 use Rattle.et_linked.proofs.Counts.{placed_at}
 use Rattle.et_linked.proofs.Lists.{all_numbered}
 use Rattle.et_linked.proofs.Marks.{AreWell, along_each, well_before, well_behind, well_first, well_rest}
+use Rattle.et_program.proofs.DeclaredFields.{all_fields}
 use Rattle.et_program.specs.Entries.{ClassEntry, Linked, class_at, field_at, method_at, no_field, no_method}
 use Rattle.et_program.specs.Files.{boots}
 use Rattle.et_program.specs.Heads.{initializer_of, is_initializer}
@@ -139,14 +140,15 @@ each_of t Q says (x ∷ xs) h =
     let parts = and_parts (t x) (list_all t xs) h in
     All-cons Q x xs (says x parts.0) (each_of t Q says xs parts.1)
 
-built_in_test : list_all (λ (f : FieldInfo). is_some (operand_kind f.descriptor)) (numbered boot_fields 0 boots) ≡ true
+built_in_test : (static : Bool) → list_all (λ (f : FieldInfo). is_some (operand_kind f.descriptor)) (numbered (boot_fields static) 0 boots) ≡ true
 unfolding boots
-built_in_test = refl
+built_in_test true = refl
+built_in_test false = refl
 
 declared_operands : (files : List LoadedClass) → All HasOperands files → All IsOperand (fields_of files)
 declared_operands files typed =
-    All-append IsOperand (numbered boot_fields 0 boots) (numbered file_fields (length boots) files)
-    (each_of (λ (f : FieldInfo). is_some (operand_kind f.descriptor)) IsOperand (λ x h. h) (numbered boot_fields 0 boots) built_in_test)
+    all_fields IsOperand files
+    (λ static. each_of (λ (f : FieldInfo). is_some (operand_kind f.descriptor)) IsOperand (λ x h. h) (numbered (boot_fields static) 0 boots) (built_in_test static))
     (all_numbered IsOperand file_fields (length boots) files
     (λ i c lt e. All-map IsOperand (file_field c.pool.slots (length boots + i)) c.fields (λ j d l. subst HasOperands e (typed i c lt) j d l)))
 

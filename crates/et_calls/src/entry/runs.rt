@@ -35,7 +35,7 @@ pub(crate) enum RunPlan {
 }
 
 /// The place of `run` of Thread among the methods of a program: those of the built-in classes come first, class by class.
-const RUN: u32 = 7;
+const RUN: u32 = 10;
 
 /// `run` of Thread, as it is resolved in each program.
 fn thread_run(program: &Program) -> MethodId
