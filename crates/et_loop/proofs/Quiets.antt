@@ -12,7 +12,7 @@ use Rattle.et_graph.proofs.Ties.{tied_pair}
 use Rattle.et_state.specs.declared.records.Record.{Record}
 use Rattle.et_state.specs.declared.ends.EventEnd.{EventEnd}
 use Rattle.et_state.specs.declared.ends.EventEnd.TheVariants as ends
-use Rattle.et_state.specs.Answers.{Answers, TicksWhereDone}
+use Rattle.et_state.specs.Answers.{Answers, TicksWhereDone, SaysWhereDone}
 use Rattle.et_state.specs.Outcome.{Outcome, state_after, records_of, end_by}
 use Rattle.et_state.specs.Outcome as outcome
 use Rattle.et_state.specs.Naming.{Mentions, mentions_after, lines_of}
@@ -21,7 +21,7 @@ use Rattle.et_binary.specs.Formats.{lines_written_in}
 use Rattle.et_loop.specs.Kept.{IsStepTo, Settles}
 use Rattle.et_loop.specs.Quiet.{event_at, IsQuiet, AreQuiet, GoesQuietly, GoQuietly, IsStep}
 use Rattle.et_loop.specs.Run.{end_after, StepsTo, StopsAt}
-use Rattle.et_loop.specs.Said.{SaysWhereDone, SaysStep}
+use Rattle.et_loop.specs.Said.{SaysStep}
 use Rattle.et_loop.specs.Stamping.{AreMade, StepsWhereDone}
 use Rattle.et_loop.specs.Told.{IsToldByStamps}
 use Rattle.et_loop.specs.Visits.{visits_of_event}

@@ -5,14 +5,14 @@ use Rattle.et_base.specs.declared.value.End.{End}
 use Rattle.et_graph.specs.Graph.{Graph, Decides}
 use Rattle.et_graph.specs.Listed.{AreListed}
 use Rattle.et_state.specs.declared.records.Record.{Record}
-use Rattle.et_state.specs.Answers.{Answers}
+use Rattle.et_state.specs.Answers.{Answers, SaysWhereDone}
 use Rattle.et_state.specs.Outcome.{Outcome, state_after, records_of, end_by}
 use Rattle.et_state.specs.Naming.{Mentions}
 use Rattle.et_state.specs.History.{Setting, deaths_to, is_gone, is_flush_point, picked_turn, ending, outcome_step}
 use Rattle.et_loop.specs.declared.guest.Stretch.{Stretch}
 use Rattle.et_loop.specs.declared.tracer.Progress.{Progress}
 use Rattle.et_loop.specs.Run.{time_noted, Goes, Turns}
-use Rattle.et_loop.specs.Said.{SaysWhereDone, SaysStep, SaysTurn}
+use Rattle.et_loop.specs.Said.{SaysStep, SaysTurn}
 use Rattle.et_loop.specs.Stamping.{StepsWhereDone, StampsMark, Stamped, Passes}
 use Rattle.et_loop.specs.Visits.{visits_of_event, visits_of_turn}
 

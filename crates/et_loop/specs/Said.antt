@@ -5,20 +5,10 @@ use Rattle.et_base.specs.declared.value.End.{End}
 use Rattle.et_graph.specs.Graph.{Graph}
 use Rattle.et_io.specs.Faults.{count_after}
 use Rattle.et_io.specs.Sink.{with_more, TakesPrefix}
-use Rattle.et_state.specs.declared.ends.EventEnd.{EventEnd}
-use Rattle.et_state.specs.declared.ends.EventEnd.TheVariants as ends
 use Rattle.et_state.specs.declared.records.Record.{Record}
 use Rattle.et_state.specs.History.{Setting, IsLastEvent, ending, left_by, picked_turn, settled}
 use Rattle.et_loop.specs.declared.options.Ran.{Ran}
 use Rattle.et_loop.specs.Visits.{visits_to}
-
--- where an event was done, its bytes stand behind those that were there
-abbrev pub SaysWhereDone : EventEnd → List ℕ → List ℕ → List ℕ → Type 0
-SaysWhereDone ends.Done bytes old new = new ≡ old ++ bytes
-SaysWhereDone ends.Waited bytes old new = new ≡ old ++ bytes
-SaysWhereDone (ends.IllTyped method pc) bytes old new = new ≡ old
-SaysWhereDone ends.ObjectLimit bytes old new = new ≡ old
-SaysWhereDone (ends.Native method) bytes old new = new ≡ old
 
 -- these bytes are what the event after event e prints, which leads from s, where it is done; at the end there are none
 module _ {S : Type 0} (given : Setting S) (said : S → ℕ → List ℕ) (e : ℕ) (s : S) (bytes : List ℕ) where

@@ -11,12 +11,11 @@ use Rattle.et_state.specs.State.{Kept}
 use Rattle.et_state.specs.declared.records.Record.{Record}
 use Rattle.et_state.specs.declared.ends.EventEnd.{EventEnd}
 use Rattle.et_state.specs.declared.ends.EventEnd.TheVariants as ends
-use Rattle.et_state.specs.Answers.{Answers, TicksWhereDone}
+use Rattle.et_state.specs.Answers.{Answers, TicksWhereDone, SaysWhereDone}
 use Rattle.et_state.specs.Outcome.{Outcome, state_after}
 use Rattle.et_loop.specs.Kept.{IsStepTo}
 use Rattle.et_loop.specs.Quiet.{event_at, IsQuiet, AreQuiet, ComesTo, IsStretch, IsBrokenOff}
 use Rattle.et_loop.specs.Run.{end_after}
-use Rattle.et_loop.specs.Said.{SaysWhereDone}
 use Rattle.et_loop.specs.Stamping.{StepsWhereDone, StampsMark, AreMade, HasStamps}
 use Rattle.et_loop.proofs.Marking.{lost_made}
 use Rattle.et_loop.proofs.Quiets.{IsAnswered, answered_is, is_native, step_done, tick_done, reached_there, step_there}

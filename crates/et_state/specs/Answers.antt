@@ -22,3 +22,11 @@ TicksWhereDone ends.Waited old new = new ≡ old + 1
 TicksWhereDone (ends.IllTyped method pc) old new = Unit {0}
 TicksWhereDone ends.ObjectLimit old new = Unit {0}
 TicksWhereDone (ends.Native method) old new = Unit {0}
+
+-- where an event was done, the bytes that it prints stand behind those that were there
+abbrev pub SaysWhereDone : EventEnd → List ℕ → List ℕ → List ℕ → Type 0
+SaysWhereDone ends.Done bytes old new = new ≡ old ++ bytes
+SaysWhereDone ends.Waited bytes old new = new ≡ old ++ bytes
+SaysWhereDone (ends.IllTyped method pc) bytes old new = new ≡ old
+SaysWhereDone ends.ObjectLimit bytes old new = new ≡ old
+SaysWhereDone (ends.Native method) bytes old new = new ≡ old
