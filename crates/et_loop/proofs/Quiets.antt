@@ -12,7 +12,7 @@ use Rattle.et_graph.proofs.Ties.{tied_pair}
 use Rattle.et_state.specs.declared.records.Record.{Record}
 use Rattle.et_state.specs.declared.ends.EventEnd.{EventEnd}
 use Rattle.et_state.specs.declared.ends.EventEnd.TheVariants as ends
-use Rattle.et_state.specs.Answers.{Answers, TicksWhereDone, SaysWhereDone}
+use Rattle.et_state.specs.Answers.{Answers, SaysWhereDone, TicksWhereDone}
 use Rattle.et_state.specs.Outcome.{Outcome, state_after, records_of, end_by}
 use Rattle.et_state.specs.Outcome as outcome
 use Rattle.et_state.specs.Naming.{Mentions, mentions_after, lines_of}

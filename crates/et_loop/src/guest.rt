@@ -10,11 +10,10 @@ ghost use Rattle.et_graph.specs.Cleared.{IsClearedAndTied};
 ghost use Rattle.et_loop.specs.Quiet.{IsStretch, IsBrokenOff};
 ghost use Rattle.et_loop.specs.Stamping.{AreMade, HasStamps};
 
-use crate::output::Output;
 use crate::program::Program;
 use et_base::{NoMemory, ObjectId, Steps, ThreadId};
 use et_graph::{Death, Stamps};
-use et_state::EventEnd;
+use et_state::{EventEnd, Output};
 use std::alloc::Global;
 use std::sync::ledger::Ledger;
 

@@ -10,17 +10,15 @@ mod mentioned;
 mod naming;
 mod next_flush;
 mod options;
-mod output;
 mod program;
 mod run;
 mod schedule;
 mod slices;
 mod tracer;
 
-pub use et_state::{Options, Schedule};
+pub use et_state::{Options, Output, Schedule};
 pub use guest::{Guest, Stretch, TimeSlice};
 pub use marks::stamp_each;
 pub use options::Ran;
-pub use output::Output;
 pub use program::Program;
 pub use run::run_guest;

@@ -18,14 +18,13 @@ use crate::guest::Guest;
 use crate::marks::restamp;
 use crate::naming::Numbering;
 use crate::next_flush::NextFlush;
-use crate::output::Output;
 use crate::program::Program;
 use crate::schedule::Rota;
 use crate::slices::next_slice;
 use et_base::{End, Format, NoMemory, Steps, ThreadId, TraceLine};
 use et_binary::{header_version, write_line_in};
 use et_graph::Stamps;
-use et_state::{EventEnd, Lines, Options};
+use et_state::{EventEnd, Lines, Options, Output};
 use std::alloc::Global;
 use std::sync::ledger::Ledger;
 

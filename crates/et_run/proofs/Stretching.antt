@@ -11,7 +11,7 @@ use Rattle.et_state.specs.State.{Kept}
 use Rattle.et_state.specs.declared.records.Record.{Record}
 use Rattle.et_state.specs.declared.ends.EventEnd.{EventEnd}
 use Rattle.et_state.specs.declared.ends.EventEnd.TheVariants as ends
-use Rattle.et_state.specs.Answers.{Answers, TicksWhereDone, SaysWhereDone}
+use Rattle.et_state.specs.Answers.{Answers, SaysWhereDone, TicksWhereDone}
 use Rattle.et_state.specs.Outcome.{Outcome, state_after}
 use Rattle.et_loop.specs.Kept.{IsStepTo}
 use Rattle.et_loop.specs.Quiet.{event_at, IsQuiet, AreQuiet, ComesTo, IsStretch, IsBrokenOff}

@@ -5,7 +5,7 @@ use Rattle.et_binary.specs.Formats.{lines_written_in}
 use Rattle.et_loop.specs.Options.{setting_of}
 use Rattle.et_loop.specs.Pace.{IsNextFlush, IsRota}
 use Rattle.et_loop.specs.Quiet.{IsStretch, IsBrokenOff, IsStep}
-use Rattle.et_loop.specs.declared.output.Output.{Output}
+use Rattle.et_state.specs.declared.output.Output.{Output}
 use Rattle.et_loop.specs.Stamping.{Restamps}
 use Rattle.et_loop.specs.declared.next_flush.NextFlush.{NextFlush}
 use Rattle.et_loop.specs.declared.schedule.Rota.{Rota}

@@ -1,7 +1,7 @@
 //! What events put out.
 ghost use Rattle.std.specs.Prelude.{◌≡◌, []};
 
-use et_state::Lines;
+use crate::lines::Lines;
 use std::alloc::Global;
 
 /// The records of events, and the bytes that they print.
