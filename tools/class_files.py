@@ -10,13 +10,20 @@ LANG = 'java/lang/'
 # The classes that the machine has itself: (superclass, interfaces, methods). crates/et_boot/src/lib.rt is the table of the
 # program; tests/tools compares the two.
 THROWN = ('<init>()V', '<init>(Ljava/lang/String;)V', '<init>(Ljava/lang/String;Ljava/lang/Throwable;)V')
+SHOWN = ('Ljava/lang/String;', 'I', 'J', 'C', 'Z')
 BUILT_IN = {
     'java/lang/Object': (None, (), ('<init>()V',)),
     'java/lang/Runnable': ('java/lang/Object', (), ('run()V',)),
     'java/lang/Cloneable': ('java/lang/Object', (), ()),
     'java/lang/AutoCloseable': ('java/lang/Object', (), ('close()V',)),
     'java/io/Serializable': ('java/lang/Object', (), ()),
-    'java/lang/String': ('java/lang/Object', (), ()),
+    'java/lang/String': ('java/lang/Object', (), ('length()I', 'charAt(I)C', 'equals(Ljava/lang/Object;)Z')),
+    'java/lang/StringBuilder': ('java/lang/Object', (), (
+        '<init>()V', '<init>(Ljava/lang/String;)V', 'length()I', 'toString()Ljava/lang/String;',
+        *(f'append({shown})Ljava/lang/StringBuilder;' for shown in SHOWN))),
+    'java/io/PrintStream': ('java/lang/Object', (), (
+        *(f'{name}({shown})V' for name in ('print', 'println') for shown in SHOWN), 'println()V')),
+    'java/lang/System': ('java/lang/Object', (), ()),
     'java/lang/Thread': ('java/lang/Object', ('java/lang/Runnable',), (
         '<init>()V', '<init>(Ljava/lang/Runnable;)V', 'start()V', 'join()V', 'run()V')),
     'java/lang/ref/Reference': ('java/lang/Object', (), ('get()Ljava/lang/Object;', 'clear()V')),
@@ -31,7 +38,7 @@ Exception: RuntimeException InterruptedException CloneNotSupportedException
 RuntimeException: ArithmeticException ArrayStoreException ClassCastException IllegalArgumentException
 RuntimeException: IllegalMonitorStateException IllegalStateException IndexOutOfBoundsException
 RuntimeException: NegativeArraySizeException NullPointerException UnsupportedOperationException
-IndexOutOfBoundsException: ArrayIndexOutOfBoundsException
+IndexOutOfBoundsException: ArrayIndexOutOfBoundsException StringIndexOutOfBoundsException
 IllegalArgumentException: IllegalThreadStateException
 Error: LinkageError VirtualMachineError AssertionError
 LinkageError: NoClassDefFoundError ExceptionInInitializerError UnsatisfiedLinkError IncompatibleClassChangeError
@@ -41,7 +48,7 @@ for _line in BELOW.splitlines():
     _above, _, _names = _line.partition(': ')
     BUILT_IN.update({LANG + name: (LANG + _above, (), THROWN) for name in _names.split()})
 # Fields of built-in classes that a name resolves to.
-BUILT_IN_FIELDS = {'java/lang/Thread': ('target Ljava/lang/Runnable;',)}
+BUILT_IN_FIELDS = {'java/lang/Thread': ('target Ljava/lang/Runnable;',), 'java/lang/System': ('out Ljava/io/PrintStream;',)}
 
 # How many bytes of operands the instruction of an opcode has, where it is none of those that step() knows.
 OPERANDS = {op: size for size, ops in {
