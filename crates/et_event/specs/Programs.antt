@@ -26,7 +26,7 @@ use Rattle.et_event.specs.declared.rows.Row.TheVariants.{Heap, Call}
 use Rattle.et_event.specs.Table.{row_of}
 use Rattle.et_event.specs.Calls.{entry_count}
 use Rattle.et_event.specs.Errors.{error_name, class_called}
-use Rattle.et_event.specs.Heap.{may_be_made}
+use Rattle.et_event.specs.Heap.{is_out, may_be_made}
 use Rattle.et_event.specs.Kinds.{is_array_element}
 use Rattle.et_class.specs.Operands.{operand_kind}
 use Rattle.et_event.specs.Sites.{Site, Member, LoadedConstant, AnInt, ALong, AString, constant_at, site_member, pool_of_class, natural_of}
@@ -72,9 +72,10 @@ value_like (AnInt n) = Int n
 value_like (ALong n) = Long n
 value_like (AString bytes) = Null
 
--- f is a static field of class c whose constant, if any, is of its type (JVMS 4.7.2)
+-- f is a static field of class c whose constant, if any, is of its type (JVMS 4.7.2). It isn't System.out, which has none
 pub record HasConstant (p : Linked) (c f : ℕ) : Type 0 where
   pub class : (field_at p f).class ≡ c
+  pub other : is_out p f ≡ false
   pub slot : (field_at p f).slot < length p.statics
   pub place : slice_index_or p.statics (field_at p f).slot 0 ≡ f
   pub typed : (k : LoadedConstant) → constant_at (pool_of_class p (field_at p f).class) (field_at p f).constant ≡ Some k → is_of_kind (operand_kind (field_at p f).descriptor) (value_like k) ≡ true
@@ -122,6 +123,12 @@ pub record KeepsTarget (p : Linked) (c : ℕ) : Type 0 where
 pub record HasMachineSlots (p : Linked) : Type 0 where
   pub throwables : KeepFree p (codes "java/lang/Throwable") 2
   pub threads : (c : ℕ) → c < length p.classes → is_subclass p c (class_called p (codes "java/lang/Thread")) ≡ true → KeepsTarget p c
+
+-- THE CLASSES OF TEXTS: strings and print streams are no arrays
+pub record HasTextClasses (p : Linked) : Type 0 where
+  pub string : (class_at p (class_called p (codes "java/lang/String"))).info.element ≡ NoArray
+  pub stream : (class_at p (class_called p (codes "java/io/PrintStream"))).info.element ≡ NoArray
+  pub stream_within : class_called p (codes "java/io/PrintStream") < length p.classes
 
 -- an instruction of the code of a method
 pub record IsInstruction (p : Linked) (m : ℕ) (x : Instr × ℕ) : Type 0 where

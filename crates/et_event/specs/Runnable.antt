@@ -9,7 +9,7 @@ use Rattle.et_event.specs.declared.errors.GuestError.{GuestError}
 use Rattle.et_event.specs.Errors.{class_called, error_class}
 use Rattle.et_event.specs.InitializationOrder.{IsInOrder}
 use Rattle.et_event.specs.Interfaces.{KnowsInterfaces}
-use Rattle.et_event.specs.Programs.{MakesSound, HasSlots, HasInitializers, HasMachineSlots, HasBuiltInMethods, HasArrays, AreElementsWithin, MayHold}
+use Rattle.et_event.specs.Programs.{MakesSound, HasSlots, HasInitializers, HasMachineSlots, HasBuiltInMethods, HasArrays, AreElementsWithin, HasTextClasses, MayHold}
 
 pub record IsRunnable (p : Linked) : Type 0 where
   pub makes : MakesSound p
@@ -18,6 +18,7 @@ pub record IsRunnable (p : Linked) : Type 0 where
   pub machine_slots : HasMachineSlots p
   pub methods : HasBuiltInMethods p
   pub arrays : HasArrays p
+  pub texts : HasTextClasses p
   -- no superclass is an interface, and each superinterface is one (JVMS 5.3.5)
   pub interfaces : KnowsInterfaces p
   -- arrays have elements of a base type, or of a class of the program

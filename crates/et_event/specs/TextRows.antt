@@ -87,8 +87,7 @@ text_done e at d arguments o BeginWith =
     not_null e d (referent_of (argument arguments 1)) (λ x. rewrites e d o (text_of e.before x) (answering e at arguments [] d))
 text_done e at d arguments o ToString =
     let n = next_object d in
-    ends_with_texts (text_given n (text_of e.before o)
-    (answering e at arguments (value.Ref n ∷ []) (instance_made e (class_called e.program (codes "java/lang/String")) d)))
+    rewrites e d n (text_of e.before o) (answering e at arguments (value.Ref n ∷ []) (instance_made e (class_called e.program (codes "java/lang/String")) d))
 text_done e at d arguments o (Append kind) =
     rewrites e d o (text_of e.before o ++ shown e.before kind (argument arguments 1)) (answering e at arguments (value.Ref o ∷ []) d)
 text_done e at d arguments o (Print kind) = goes (answering e at arguments [] d)

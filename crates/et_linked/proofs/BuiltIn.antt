@@ -93,7 +93,7 @@ table_of_others false = refl
 pub fields_of_others : (static : Bool) → All (λ (f : FieldInfo). has_no_fields boots f.class ≡ false) (numbered (boot_fields static) 0 boots)
 fields_of_others static = each_of_others boots (numbered (boot_fields static) 0 boots) (table_of_others static)
 
--- A STRING AND THE EXCEPTIONS of the machine are of classes that declare no field
+-- STRINGS, PRINT STREAMS AND THE EXCEPTIONS of the machine are of classes that declare no field
 
 -- there is a class of this name, which declares no field
 pub record IsFieldless (name : List ℕ) : Type 0 where
@@ -140,11 +140,18 @@ string_fieldless : has_fieldless (codes "java/lang/String") ≡ true
 unfolding boots has_no_fields
 string_fieldless = refl
 
+stream_fieldless : has_fieldless (codes "java/io/PrintStream") ≡ true
+unfolding boots has_no_fields
+stream_fieldless = refl
+
 pub of_error : (error : GuestError) → IsFieldless (error_name error)
 of_error error = fieldless (error_name error) (error_fieldless error)
 
 pub of_string : IsFieldless (codes "java/lang/String")
 of_string = fieldless (codes "java/lang/String") string_fieldless
+
+pub of_stream : IsFieldless (codes "java/io/PrintStream")
+of_stream = fieldless (codes "java/io/PrintStream") stream_fieldless
 
 -- no class of the table has the name of the type of main's arguments
 pub no_boot_array : boot_place (codes "[Ljava/lang/String;") ≡ None

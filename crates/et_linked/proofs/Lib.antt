@@ -18,6 +18,7 @@ pub mod Methods
 pub mod ArrayNames
 pub mod Arrays
 pub mod Bodies
+pub mod TextClasses
 pub mod Promises
 pub mod Places
 pub mod BuiltIn

@@ -1,10 +1,10 @@
 -- The constants and the initialization of the classes of a program.
-use Rattle.std.proofs.Common.{◌≡◌, ℕ, suc, ◌+◌, ◌<◌, Bool, true, false, ◌&&◌, ◌==◌, List, [], ◌∷◌, ◌++◌, length, map, take, Option, None, Some, IfSome, is_some, refl, sym, ◌∙◌, ap, subst, arith}
+use Rattle.std.proofs.Common.{◌≡◌, ℕ, suc, ◌+◌, ◌<◌, ◌≤◌, Bool, true, false, ◌&&◌, ◌==◌, List, [], ◌∷◌, ◌++◌, length, map, take, Option, None, Some, IfSome, is_some, refl, sym, ◌∙◌, ap, subst, arith}
 use Rattle.std.specs.Prelude.{All, count_by, codes, if◌then◌else◌}
 use Rattle.std.specs.List.{slice_index_or, filter}
 use Rattle.std.specs.Option.{option_to_list}
 use Rattle.std.specs.Str.{bytes_eq}
-use Rattle.std.proofs.lemmas.Bool.{and_parts, not-true, eqb-true, false≢true}
+use Rattle.std.proofs.lemmas.Bool.{and_parts, not-true, eqb-true, false_from_ne_true, false≢true}
 use Rattle.std.proofs.lemmas.List.{length-map, get_or_default, get_or-append-add}
 use Rattle.std.proofs.lemmas.List.Elements.{All-nil, All-map, All-weaker}
 use Rattle.et_code.specs.Bodies.{Body}
@@ -30,13 +30,17 @@ use Rattle.et_program.proofs.DeclaredFields.{all_fields}
 use Rattle.et_program.specs.MembersOf.{numbered, methods_of, fields_of, boot_field, boot_fields, file_field, file_fields, is_boot_static, AreBootPools, HasPools, file_pool}
 use Rattle.et_program.specs.ProgramOf.{class_names_of, heads_of, program_with, IsProgramOf}
 use Rattle.et_program.specs.Slots.{is_static_field, is_instance_of, slots_above, slot_of_field}
+use Rattle.et_event.specs.Errors.{class_called}
+use Rattle.et_event.specs.Heap.{is_out}
 use Rattle.et_event.specs.Operands.{operand_kind}
 use Rattle.et_event.specs.Sites.{LoadedConstant, constant_at, no_constants, pool_of_class}
 use Rattle.et_event.specs.Sound.{is_of_kind, returned_of}
 use Rattle.et_event.specs.Programs.{HasConstant, IsInitializer, HasInitializers, value_like}
 use Rattle.et_base.proofs.Positions.{Passes, position_passes}
 use Rattle.et_event.specs.InitializationOrder.{IsStaticOf, HasConstants, IsInOrder}
+use Rattle.et_linked.proofs.BuiltIn.{boot_place}
 use Rattle.et_linked.proofs.Counts.{placed_at, StandsIn, places_at}
+use Rattle.et_linked.proofs.Making.{named_in}
 use Rattle.et_linked.proofs.Places.{at_mapped}
 use Rattle.et_linked.specs.Fields.{HasStaticConstants, HasTypedConstants}
 use Rattle.et_linked.proofs.Classes.{length_all, class_cases}
@@ -54,6 +58,24 @@ constants_static files static =
     all_fields IsStaticIf files
     (λ static. all_numbered IsStaticIf (boot_fields static) 0 boots (λ i c lt e. All-map IsStaticIf (boot_field (0 + i)) (filter (is_boot_static static) c.fields) (λ j d l h. absurd (false≢true h))))
     (all_numbered IsStaticIf file_fields (length boots) files (λ i c lt e. All-map IsStaticIf (file_field c.pool.slots (length boots + i)) c.fields (λ j d l h. subst HasStaticConstants e (static i c lt) j d l (not-true _ h))))
+
+-- .. are of files, and so none is System.out
+abbrev IsOfFileIf : FieldInfo → Type 0
+IsOfFileIf f = has_constant f ≡ true → length boots ≤ f.class
+
+constants_of_files : (files : List LoadedClass) → All IsOfFileIf (fields_of files)
+constants_of_files files =
+    all_fields IsOfFileIf files
+    (λ static. all_numbered IsOfFileIf (boot_fields static) 0 boots (λ i c lt e. All-map IsOfFileIf (boot_field (0 + i)) (filter (is_boot_static static) c.fields) (λ j d l h. absurd (false≢true h))))
+    (all_numbered IsOfFileIf file_fields (length boots) files (λ i c lt e. All-map IsOfFileIf (file_field c.pool.slots (length boots + i)) c.fields (λ j d l h. omega arith)))
+
+system_place : boot_place (codes "java/lang/System") ≡ Some 13
+unfolding boots
+system_place = refl
+
+system_within : 13 < length boots
+unfolding boots
+system_within = omega arith
 
 abbrev IsTypedIf : List Constants → FieldInfo → Type 0
 IsTypedIf pools f = (k : LoadedConstant) → has_constant f ≡ true → constant_at (slice_index_or pools f.class no_constants).slots f.constant ≡ Some k → is_of_kind (operand_kind f.descriptor) (value_like k) ≡ true
@@ -155,9 +177,20 @@ module _ (files : List LoadedClass) (rows : List Ancestry) (pools : List Constan
     -- INITIALIZATION
 
     module _ (has_pools : HasPools files pools) (typed : All HasTypedConstants files) where
+      -- the class System is none of a file
+      no_system : (f : ℕ) → IsConstant (declared f).class f → is_out p f ≡ false
+      no_system f h =
+          let class : (field_at p f).class ≡ (declared f).class = ap (λ (x : FieldInfo). x.class) (field_is f h.within) in
+          let system : class_called p (codes "java/lang/System") ≡ 13 = named_in files rows pools (codes "java/lang/System") 13 system_place in
+          let of_file : length boots ≤ (declared f).class = constants_of_files files f no_field h.within h.constant in
+          false_from_ne_true (is_out p f) (λ e.
+          let same : (field_at p f).class ≡ class_called p (codes "java/lang/System") = eqb-true (field_at p f).class (class_called p (codes "java/lang/System")) e in
+          absurd (omega (arith, class, system, of_file, same, system_within)))
+
       constant_of_class : (c f : ℕ) → IsConstant c f → HasConstant p c f
       constant_of_class c f h = record {
         class = ap (λ (x : FieldInfo). x.class) (field_is f h.within) ∙ h.class;
+        other = no_system f (record { within = h.within; class = refl; constant = h.constant; stands = h.stands });
         slot = h.stands.within;
         place = h.stands.is;
         typed = λ k.

@@ -33,6 +33,7 @@ use Rattle.et_linked.proofs.Bodies.{have_rules, runs_on_object}
 use Rattle.et_linked.proofs.PromisedFiles.{keeps_method_rules, keeps_code_rules}
 use Rattle.et_linked.proofs.Machine.{has_machine_slots}
 use Rattle.et_linked.proofs.Methods.{has_methods}
+use Rattle.et_linked.proofs.TextClasses.{has_text_classes}
 
 all_of_files : (P : LoadedClass → Type 0) → ((c : ClassOf) → IsOfFile c → P (loaded_class c)) → (cs : List ClassOf) → All IsOfFile cs → All P (map loaded_class cs)
 all_of_files P says cs h = All-map P loaded_class cs (λ i d lt. says (slice_index_or cs i d) (h i d lt))
@@ -81,6 +82,7 @@ module _ (files : List LoadedClass) (rows : List Ancestry) (pools : List Constan
     order = in_order files p constants linkable is;
     methods = has_methods files p some rules.methods rules.code linkable is;
     arrays = has_arrays files p rules.names rules.code is;
+    texts = has_text_classes files p is;
     owners = λ m lt. owner_within m lt;
     rules = λ m body lt e. have_rules files rules.code m no_method lt body e;
     run = λ m e. runs_on_object files rows pools m e;
