@@ -12,7 +12,7 @@ invariant_of-self-2 c =
     let added = strings-added c.self.inside.objects.entries _ _ _ _ _ c.self.view_is c.in_ok-bytes.ensures.items c.requires.text c.in_ok-insert.ensures.entries in
     record {
       ordered = objects-added c.self.inside.objects.entries c.insert.new.self.entries _ _ _ _ _ _ c.self.view_is added c.number.ensures.value (c.in_ok-reserve.ensures.keys ∙ c.self.invariant.ordered) c.requires.object c.in-Ok.ensures.keys;
-      short = subst (All Short) (sym added) (All-push Short c.args.self.old (c.args.text.now, c.args.o) (subst (All Short) c.self.view_is c.self.invariant.short) c.requires.short);
+      short = subst (All Short) (sym added) (All-push Short c.args.self.now (c.args.text.now, c.args.o) (subst (All Short) c.self.view_is c.self.invariant.short) c.requires.short);
     }
 
 pub returns-clause-ok : goal.returns-clause-ok

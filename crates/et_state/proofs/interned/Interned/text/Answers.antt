@@ -1,7 +1,6 @@
-use Rattle.std.proofs.Common.{◌≡◌, ◌<◌, ◌^◌, ◌∙◌, List, length, sym, ap, Some, None, subst}
+use Rattle.std.proofs.Common.{◌≡◌, ℕ, ◌<◌, ◌^◌, ◌∙◌, List, length, Option, sym, ap, Some, subst}
 use Rattle.std.specs.Prelude.{All, IfSome}
 use Rattle.std.specs.Option.{option_copied}
-use Rattle.et_state.specs.Interned.{interned_text}
 use Rattle.et_state.proofs.Strings.{text-missing, text-found, text-short}
 use Rattle.et_state.proofs.interned.Interned.text.Goals as goal
 
