@@ -6,7 +6,7 @@ ghost use Rattle.et_heap.specs.Refs.{refs_of_value};
 ghost use Rattle.et_state.specs.State.{kept_of};
 ghost use Rattle.et_state.specs.Words.{HasFrame, top};
 ghost use Rattle.et_program.specs.BootNames.{built_in_class_name};
-ghost use Rattle.et_event.specs.BuiltIns.{class_argument as argument_in_table, class_argument_of as argument_of_method, is_null_or_of_class, is_object_of_class as is_of_class, takes_arguments as takes_in, text_argument as text_in_table};
+ghost use Rattle.et_event.specs.BuiltIns.{class_argument as argument_in_table, class_argument_of as argument_of_method, is_null_or_of_class, is_object_of_class as is_of_class, is_of_its_class as is_of_class_wanted, takes_arguments as takes_in, text_argument as text_in_table};
 ghost use Rattle.et_event.specs.Calls.{arguments_of, fits_resolved as fits_in};
 ghost use Rattle.et_event.specs.Moments.{begins, moment, object_class};
 ghost use Rattle.et_event.specs.Sound.{IsSoundFor};
@@ -21,7 +21,7 @@ use std::sync::ledger::Ledger;
 
 /// Whether an object is of this built-in class, or of one below it.
 #[tactic(auto, using(crate::proofs::Slots::class_within))]
-pub(crate) fn is_of<L: Ledger>(
+pub fn is_of<L: Ledger>(
     program: &Program,
     machine: &Machine,
     object: ObjectId,
@@ -131,6 +131,32 @@ fn class_argument_of(program: &Program, method: MethodId) -> Option<ClassArgumen
     }
 }
 
+/// Whether the argument of one class, if there is one, is of that class or null.
+#[inline(always)]
+fn is_of_its_class<L: Ledger>(
+    program: &Program,
+    machine: &Machine,
+    thread: ThreadId,
+    argument: Option<ClassArgument>,
+    count: u32,
+    visits: &mut Steps<L>,
+) -> bool
+    requires frame { HasFrame machine.now.guest thread }
+    requires sound { IsSoundFor program.now (kept_of machine.now) }
+    requires operands { count ≤ length (top machine.now.guest thread).operands }
+    ensures value { result ≡ is_of_class_wanted (moment program.now machine.now thread)
+        (begins (moment program.now machine.now thread))
+        (arguments_of (moment program.now machine.now thread) count)
+        (option_map named argument) }
+    ensures visits { visits.new ≤ visits.old + 1 }
+{
+    let Some(argument) = argument else {
+        return true;
+    };
+    let value = argument_at(machine, thread, count, argument.place);
+    is_null_or_of(program, machine, value, argument.class, visits)
+}
+
 /// Whether a method takes the arguments of a call, by their classes.
 #[inline(always)]
 fn takes_arguments<L: Ledger>(
@@ -150,11 +176,29 @@ fn takes_arguments<L: Ledger>(
         (arguments_of (moment program.now machine.now thread) count) method }
     ensures visits { visits.new ≤ visits.old + 1 }
 {
-    let Some(argument) = class_argument_of(program, method) else {
-        return true;
-    };
-    let value = argument_at(machine, thread, count, argument.place);
-    is_null_or_of(program, machine, value, argument.class, visits)
+    let argument = class_argument_of(program, method);
+    is_of_its_class(program, machine, thread, argument, count, visits)
+}
+
+/// Whether a method of texts takes the arguments of a call, by their classes: what is to be a string is null or one.
+pub fn takes_text<L: Ledger>(
+    program: &Program,
+    machine: &Machine,
+    thread: ThreadId,
+    method: TextMethod,
+    count: u32,
+    visits: &mut Steps<L>,
+) -> bool
+    requires frame { HasFrame machine.now.guest thread }
+    requires sound { IsSoundFor program.now (kept_of machine.now) }
+    requires operands { count ≤ length (top machine.now.guest thread).operands }
+    ensures value { result ≡ is_of_class_wanted (moment program.now machine.now thread)
+        (begins (moment program.now machine.now thread))
+        (arguments_of (moment program.now machine.now thread) count) (text_in_table method) }
+    ensures visits { visits.new ≤ visits.old + 1 }
+{
+    let argument = text_argument(method);
+    is_of_its_class(program, machine, thread, argument, count, visits)
 }
 
 /// Whether a receiver of this class may be called by a method that was resolved, with the topmost entries as arguments: it is

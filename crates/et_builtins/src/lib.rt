@@ -11,5 +11,6 @@ mod rows;
 
 pub use arguments::{argument_at, operands_are_few, receiver};
 pub use changes::{Called, give, give_nothing};
+pub use classes::{is_of, takes_text};
 pub use events::built_in_method_event;
 pub use plans::{Call, CallPlan, deferred_method, invoke_plan};
