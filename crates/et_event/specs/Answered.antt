@@ -36,7 +36,7 @@ DefersOrAnswers None o end m m' out out' = EventAnswers o end m m' out out'
 -- .. for an event of a state that has texts, which stand beside the machine
 abbrev pub TextAnswers : Outcome Kept → EventEnd → MachineState → MachineState → Texts → Texts → List Record → List Record → Type 0
 TextAnswers (outcome.Goes next records) ends.Done m m' x x' out out' = Led (kept_of m) (silent next) m' × (x' ≡ next.guest.texts) × (out' ≡ out ++ records)
-TextAnswers (outcome.Waits next) ends.Waited m m' x x' out out' = Led (kept_of m) (silent next) m' × (x' ≡ x) × (out' ≡ out)
+TextAnswers (outcome.Waits next) ends.Waited m m' x x' out out' = Led (kept_of m) (silent next) m' × (x' ≡ next.guest.texts) × (out' ≡ out)
 TextAnswers (outcome.IllTyped method pc) (ends.IllTyped named at) m m' x x' out out' = (named ≡ method) × (at ≡ pc) × (m' ≡ m) × (x' ≡ x) × (out' ≡ out)
 TextAnswers outcome.ObjectLimit ends.ObjectLimit m m' x x' out out' = (m' ≡ m) × (x' ≡ x) × (out' ≡ out)
 TextAnswers o end m m' x x' out out' = ⊥
