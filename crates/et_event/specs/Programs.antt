@@ -124,11 +124,12 @@ pub record HasMachineSlots (p : Linked) : Type 0 where
   pub throwables : KeepFree p (codes "java/lang/Throwable") 2
   pub threads : (c : ℕ) → c < length p.classes → is_subclass p c (class_called p (codes "java/lang/Thread")) ≡ true → KeepsTarget p c
 
--- THE CLASSES OF TEXTS: strings and print streams are no arrays
+-- THE CLASSES OF TEXTS: strings and print streams are no arrays, and System.out is a print stream
 pub record HasTextClasses (p : Linked) : Type 0 where
   pub string : (class_at p (class_called p (codes "java/lang/String"))).info.element ≡ NoArray
   pub stream : (class_at p (class_called p (codes "java/io/PrintStream"))).info.element ≡ NoArray
   pub stream_within : class_called p (codes "java/io/PrintStream") < length p.classes
+  pub out : (f : ℕ) → f < length p.fields → is_out p f ≡ true → (field_at p f).descriptor ≡ codes "Ljava/io/PrintStream;"
 
 -- an instruction of the code of a method
 pub record IsInstruction (p : Linked) (m : ℕ) (x : Instr × ℕ) : Type 0 where

@@ -38,9 +38,9 @@ use Rattle.et_event.specs.Sound.{is_of_kind, returned_of}
 use Rattle.et_event.specs.Programs.{HasConstant, IsInitializer, HasInitializers, value_like}
 use Rattle.et_base.proofs.Positions.{Passes, position_passes}
 use Rattle.et_event.specs.InitializationOrder.{IsStaticOf, HasConstants, IsInOrder}
-use Rattle.et_linked.proofs.BuiltIn.{boot_place}
 use Rattle.et_linked.proofs.Counts.{placed_at, StandsIn, places_at}
 use Rattle.et_linked.proofs.Making.{named_in}
+use Rattle.et_linked.proofs.TextClasses.{system_place, system_within}
 use Rattle.et_linked.proofs.Places.{at_mapped}
 use Rattle.et_linked.specs.Fields.{HasStaticConstants, HasTypedConstants}
 use Rattle.et_linked.proofs.Classes.{length_all, class_cases}
@@ -68,14 +68,6 @@ constants_of_files files =
     all_fields IsOfFileIf files
     (λ static. all_numbered IsOfFileIf (boot_fields static) 0 boots (λ i c lt e. All-map IsOfFileIf (boot_field (0 + i)) (filter (is_boot_static static) c.fields) (λ j d l h. absurd (false≢true h))))
     (all_numbered IsOfFileIf file_fields (length boots) files (λ i c lt e. All-map IsOfFileIf (file_field c.pool.slots (length boots + i)) c.fields (λ j d l h. omega arith)))
-
-system_place : boot_place (codes "java/lang/System") ≡ Some 13
-unfolding boots
-system_place = refl
-
-system_within : 13 < length boots
-unfolding boots
-system_within = omega arith
 
 abbrev IsTypedIf : List Constants → FieldInfo → Type 0
 IsTypedIf pools f = (k : LoadedConstant) → has_constant f ≡ true → constant_at (slice_index_or pools f.class no_constants).slots f.constant ≡ Some k → is_of_kind (operand_kind f.descriptor) (value_like k) ≡ true
