@@ -221,7 +221,7 @@ module _ (e : Moment) (typings : Typings) where
     steps_keep ph d (Starts o x h a) = started o x (steps_keep _ x h)
     steps_keep ph d Ends = own_thread _ (begins e) first
     steps_keep ph d (ClassBecomes q c y x h) = same_parts x (with_state c y x) refl refl (steps_keep q x h)
-    steps_keep ph d (WritesStatic i v x h lt a typed) = wrote_static i v x (steps_keep _ x h)
+    steps_keep ph d (WritesStatic i v x h lt a typed other) = wrote_static i v x (steps_keep _ x h)
     steps_keep ph d (Interns bytes x h) = interned_keeps bytes x (steps_keep _ x h)
     steps_keep ph d (MakesInstance q class x makes h lt plain) = made _ _ x (λ i. unset_slots _ i) (steps_keep q x h)
     steps_keep ph d (MakesArray class n x makes h array) = made _ _ x (λ i. unset_slots _ i) (steps_keep _ x h)

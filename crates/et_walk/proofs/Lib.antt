@@ -7,22 +7,22 @@ pub mod Words
 pub mod Monitors
 mod MonitorFrames
 pub mod Records
-mod Recording
-mod Given
+pub mod Recording
+pub mod Given
 pub mod Held
-mod AtHand
+pub mod AtHand
 mod Small
 mod Constants
 mod Typed
-mod Ways
-mod Rows
+pub mod Ways
+pub mod Rows
 mod Arguments
-mod Calls
+pub mod Calls
 pub mod Turns
 pub mod Folding
 mod Writing
 mod NamedWords
-mod SaysNames
+pub mod SaysNames
 pub mod SaysRecords
 pub mod SaysWrites
 pub mod SaysReached

@@ -30,13 +30,13 @@ use Rattle.et_event.specs.Errors.{error_class}
 use Rattle.et_event.specs.Sound.{IsSoundFor}
 use Rattle.et_walk.specs.Holding.{monitor_row, monitor_row_at, row_decoded, object_on, entered_by_row, left_by_row}
 use Rattle.et_walk.specs.Changing.{KeepsMonitors}
-use Rattle.et_walk.specs.Steps.{IsFramed, Leads}
+use Rattle.et_walk.specs.Steps.{AllObjects, Comes, IsFramed, Leads, Phase}
 use Rattle.et_walk.specs.Values.{Fines, FineFrame}
 use Rattle.et_walk.proofs.Heaps.{new_held}
 use Rattle.et_walk.proofs.Held.{Ready, frame_fine}
 use Rattle.et_walk.proofs.Monitors.{way, entered_still, left_still}
 use Rattle.et_walk.proofs.MonitorFrames.{Does, Fits, Moved, moved_by, pushed_lock, dropped_lock, beyond_none, level_fits}
-use Rattle.et_walk.proofs.SaysMonitors.{by_monitors}
+use Rattle.et_walk.proofs.SaysMonitors.{by_monitors, by_steps}
 use Rattle.et_walk.proofs.Turns.{event_leads}
 use Rattle.et_walk.proofs.WaitingLists.{KeepLists}
 use Rattle.et_walk.proofs.Words.{Still, level, if_case, begun, thread_now, top_still, instance_still, pending_still, given_up_still}
@@ -248,6 +248,12 @@ as_lists e (outcome.Goes next records) h = h.lists
 as_lists e (outcome.Waits next) h = h
 as_lists e (outcome.IllTyped method pc) h = tt
 as_lists e outcome.ObjectLimit h = tt
+
+-- steps of a turn that does no monitor instruction
+pub steps_keep : (e : Moment) → Ready e → monitor_row_at e (turn_of (thread_of e)) ≡ None → (ph : Phase) (d : Doing) → Comes e AllObjects ph d → KeepsMonitors e (goes d) × LeadsLined e (goes d)
+steps_keep e ready none ph d h =
+    let keeps : KeepsSo e (goes d) = subst (λ (r : Option MonitorRow). KeepsBy e r (object_on (current_frame e).operands) (goes d)) (sym none) (by_steps e ready none ph d h) in
+    (keeps.moves, keeps.lists)
 
 module _ (p : Linked) (s : Kept) (t : ℕ) (sound : IsSoundFor p s) (unended : IsUnended s.guest t) (may : IsRunnable p) where
   abbrev now : Moment

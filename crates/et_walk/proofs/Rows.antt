@@ -194,7 +194,8 @@ module _ (e : Moment) (ready : Ready e) (framed : IsFramed e) where
       let x : Doing = leaving_values e at below d in
       end_leads e ready Level (static_written e (field_at e.program k).slot (narrowed m.descriptor v) x)
       (WritesStatic (field_at e.program k).slot (narrowed m.descriptor v) x (leaving_comes at below d h (λ u. later_fine d.state below u f)) (ready.may.slots.statics k is.within static).0
-      (λ u. fine_narrowed x.state.heap m.descriptor v (fine_grows e.before.heap x.state.heap v u.stays fine)) (static_typed m k v named is static typed))))))))
+      (λ u. fine_narrowed x.state.heap m.descriptor v (fine_grows e.before.heap x.state.heap v u.stays fine)) (static_typed m k v named is static typed)
+      (subst (λ (n : ℕ). is_out e.program n ≡ false) (sym (ready.may.slots.statics k is.within static).1) (not-true (is_out e.program k) open_field)))))))))
 
   holder_leads : (f : ℕ) (r : Reference) (go : ℕ → Outcome Kept) → FineSome (near e) r → ((o : ℕ) → IsHeld (near e) o → is_subclass e.program (object_at e.before.heap o).class (field_at e.program f).class ≡ true → Leads e (go o)) → Leads e (with_holder e (begins e) f r go)
   holder_leads f r go held h =

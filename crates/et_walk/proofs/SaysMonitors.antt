@@ -198,7 +198,7 @@ module _ (e : Moment) (ready : Ready e) (none : monitor_row_at e (turn_of (threa
   monitors_come ph d (Starts o x h a) = let g : Still e (level e) x.state = monitors_come Level x h in started_still e o x g (a (under e x g))
   monitors_come ph d Ends = ended_good
   monitors_come ph d (ClassBecomes q c y x h) = class_good q c y x (monitors_come q x h)
-  monitors_come ph d (WritesStatic i v x h lt a typed) = let g : Still e (level e) x.state = monitors_come Level x h in written_static_still e i v x g (a (under e x g))
+  monitors_come ph d (WritesStatic i v x h lt a typed other) = let g : Still e (level e) x.state = monitors_come Level x h in written_static_still e i v x g (a (under e x g))
   monitors_come ph d (Interns bytes x h) = (interned_still e bytes x (monitors_come Level x h)).still
   monitors_come ph d (MakesInstance q class x makes h lt plain) = instance_good q class x (monitors_come q x h)
   monitors_come ph d (MakesArray class n x makes h array) = array_still e class n x (monitors_come Level x h)
@@ -214,11 +214,14 @@ module _ (e : Moment) (ready : Ready e) (none : monitor_row_at e (turn_of (threa
   fits_so Shifted d h = shifts_fit e d.state h
   fits_so Locked d h = absurd h
 
+  pub by_steps : (ph : Phase) (d : Doing) → Comes e AllObjects ph d → Fits e d.state
+  by_steps ph d h = fits_so ph d (monitors_come ph d h)
+
   pub by_monitors : (o : Outcome Kept) → Leads e o → Does e o
   by_monitors (outcome.Goes next records) h =
       let d : Doing = record { state = next; records = records } in
       let made : MadeOf e ready d = comes_so e ready d h in
-      fits_so made.phase d (monitors_come made.phase d made.comes)
+      by_steps made.phase d made.comes
   by_monitors (outcome.Waits next) h = h
   by_monitors (outcome.IllTyped method pc) h = tt
   by_monitors outcome.ObjectLimit h = tt

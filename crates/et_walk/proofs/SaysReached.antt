@@ -1,4 +1,4 @@
--- What an event writes to: its U records are of statics, and of objects that are at hand.
+-- What an event writes to: its U records are of statics, but for that of System.out, and of objects that are at hand.
 use Rattle.et_base.specs.declared.value.Value.{Value}
 use Rattle.et_base.specs.declared.value.Value.TheVariants.{Int, Long, LongHigh, Null, Ref, Unset}
 use Rattle.et_event.specs.Calls.{class_done_by}
@@ -11,7 +11,7 @@ use Rattle.et_event.specs.Runnable.{IsRunnable}
 use Rattle.et_event.specs.Sound.{IsSoundFor}
 use Rattle.et_event.specs.Strings.{interned}
 use Rattle.et_event.specs.Throw.{dropped, left_if_owned}
-use Rattle.et_heap.specs.Objects.{object_at, slot_of, with_object_at, with_slot}
+use Rattle.et_heap.specs.Objects.{IsHeld, object_at, slot_of, with_object_at, with_slot}
 use Rattle.et_program.specs.Entries.{Linked, method_at}
 use Rattle.et_state.specs.Interned.{object_of}
 use Rattle.et_state.specs.Outcome.{Outcome}
@@ -20,32 +20,58 @@ use Rattle.et_state.specs.State.{Kept}
 use Rattle.et_state.specs.Threads.{entered_by, in_clinit, rest_of}
 use Rattle.et_state.specs.Words.{IsUnended, static_at, thread_at, with_static, with_string}
 use Rattle.et_state.specs.declared.records.Record.{Record}
-use Rattle.et_state.specs.declared.records.Record.TheVariants.{Enter, Exit, Unwind, Update}
+use Rattle.et_state.specs.declared.records.Record.TheVariants.{Alloc, Enter, Exit, Unwind, Update}
 use Rattle.et_state.specs.declared.stage.Stage.{Stage}
 use Rattle.et_state.specs.declared.stage.Stage.TheVariants.{Before, Clinit, Plain}
 use Rattle.et_walk.proofs.Folding.{MadeOf, comes_so}
 use Rattle.et_walk.proofs.Held.{Ready}
+use Rattle.et_walk.proofs.Recording.{Told}
+use Rattle.et_walk.proofs.SaysRecords.{records_come, under}
 use Rattle.et_walk.proofs.Turns.{event_leads}
 use Rattle.et_walk.proofs.Words.{if_case}
-use Rattle.et_walk.specs.Steps.{AllObjects, Begins, BeginsClass, Catches, ClassBecomes, Comes, CountsEntered, Drops, Ends, EntersClinit, EntersCode, EntersMonitor, GoesOn, Interns, Leads, LeavesMonitor, Level, MakesArray, MakesInstance, Pends, Phase, Polls, Returns, SetsQueue, SetsReferent, Starts, Unwinds, UnwindsClinit, WritesSlot, WritesStatic, own_lock}
-use Rattle.et_walk.specs.Writes.{IsAtHand, IsOfReached, WritesToReached}
-use Rattle.std.proofs.Common.{List, None, Option, Some, [], inl, inr, refl, ℕ, ◌∷◌, ◌≡◌, ◌⊎◌}
-use Rattle.std.proofs.lemmas.List.Elements.{All-append, All-cons, All-nil}
+use Rattle.et_walk.specs.Steps.{AllObjects, Begins, BeginsClass, Catches, ClassBecomes, Comes, CountsEntered, Drops, Ends, EntersClinit, EntersCode, EntersMonitor, GoesOn, Interns, Leads, LeavesMonitor, Level, MakesArray, MakesInstance, MayWrite, Pends, Phase, Polls, Returns, SetsQueue, SetsReferent, Starts, Unwinds, UnwindsClinit, WritesSlot, WritesStatic, own_lock}
+use Rattle.et_walk.specs.Writes.{IsAtHand, IsBesideOut, IsOfReached, TellsBesideOut, WritesToReached, is_out_slot}
+use Rattle.std.proofs.Common.{List, None, Option, Some, [], false, inl, inr, refl, subst, ℕ, ◌∷◌, ◌≡◌, ◌⊎◌}
+use Rattle.std.proofs.lemmas.List.Elements.{All-append, All-cons, All-nil, All-weaker}
 use Rattle.std.specs.Prelude.{All, codes, is_some, unwrap_or}
+
+-- what a U record is of: a static that isn't that of System.out, or an object at hand
+abbrev IsOf : Moment → (object slot : ℕ) → Type 0
+IsOf e o i = ((o ≡ 0) × (is_out_slot e.program i ≡ false)) ⊎ ((o ≡ 0 → ⊥) × IsAtHand e.before o)
+
+abbrev IsOfSome : Moment → Record → Type 0
+IsOfSome e (Update event thread object slot old new) = IsOf e object slot
+IsOfSome e other = Unit {0}
 
 -- the records of an event so far
 record OfReached (e : Moment) (d : Doing) : Type 0 where
-  all : All (IsOfReached e.before) d.records
+  all : All (IsOfSome e) d.records
 
-module _ (e : Moment) where
+of_reached : (e : Moment) (r : Record) → IsOfSome e r → IsOfReached e.before r
+of_reached e (Alloc event thread object class size elements) h = tt
+of_reached e (Update event thread object slot old new) (inl h) = inl h.0
+of_reached e (Update event thread object slot old new) (inr h) = inr h.1
+of_reached e (Enter event thread method receiver) h = tt
+of_reached e (Exit event thread method) h = tt
+of_reached e (Unwind event thread method exception) h = tt
+
+beside_out : (e : Moment) (r : Record) → IsOfSome e r → IsBesideOut e.program r
+beside_out e (Alloc event thread object class size elements) h = tt
+beside_out e (Update event thread object slot old new) (inl h) = λ none. h.1
+beside_out e (Update event thread object slot old new) (inr h) = λ none. absurd (h.0 none)
+beside_out e (Enter event thread method receiver) h = tt
+beside_out e (Exit event thread method) h = tt
+beside_out e (Unwind event thread method exception) h = tt
+
+module _ (e : Moment) (ready : Ready e) where
   first : OfReached e (begins e)
-  first = record { all = All-nil (IsOfReached e.before) }
+  first = record { all = All-nil (IsOfSome e) }
 
   -- one record more
-  one_more : (r : Record) (d : Doing) → IsOfReached e.before r → OfReached e d → OfReached e (told r d)
-  one_more r d is h = record { all = All-append (IsOfReached e.before) d.records (r ∷ []) h.all (All-cons (IsOfReached e.before) r [] is (All-nil (IsOfReached e.before))) }
+  one_more : (r : Record) (d : Doing) → IsOfSome e r → OfReached e d → OfReached e (told r d)
+  one_more r d is h = record { all = All-append (IsOfSome e) d.records (r ∷ []) h.all (All-cons (IsOfSome e) r [] is (All-nil (IsOfSome e))) }
 
-  updated_so : (o i : ℕ) (old v : Value) (d : Doing) → (o ≡ 0) ⊎ IsAtHand e.before o → OfReached e d → OfReached e (updated e o i old v d)
+  updated_so : (o i : ℕ) (old v : Value) (d : Doing) → IsOf e o i → OfReached e d → OfReached e (updated e o i old v d)
   updated_so o i old Unset d is h = h
   updated_so o i old (Int n) d is h = h
   updated_so o i old (Long n) d is h = h
@@ -53,13 +79,13 @@ module _ (e : Moment) where
   updated_so o i old Null d is h = one_more (Update d.state.guest.clock e.thread o i _ 0) d is h
   updated_so o i old (Ref new) d is h = one_more (Update d.state.guest.clock e.thread o i _ new) d is h
 
-  slot_so : (o i : ℕ) (v : Value) (d : Doing) → IsAtHand e.before o → OfReached e d → OfReached e (slot_written e o i v d)
-  slot_so o i v d is h =
+  slot_so : (o i : ℕ) (v : Value) (d : Doing) → (o ≡ 0 → ⊥) → IsAtHand e.before o → OfReached e d → OfReached e (slot_written e o i v d)
+  slot_so o i v d some is h =
       let x = object_at d.state.heap o in
-      updated_so o i (slot_of x i) v (record { state = record { heap = with_object_at d.state.heap o (with_slot i v x); guest = d.state.guest }; records = d.records }) (inr is) (record { all = h.all })
+      updated_so o i (slot_of x i) v (record { state = record { heap = with_object_at d.state.heap o (with_slot i v x); guest = d.state.guest }; records = d.records }) (inr (some, is)) (record { all = h.all })
 
-  static_so : (i : ℕ) (v : Value) (d : Doing) → OfReached e d → OfReached e (static_written e i v d)
-  static_so i v d h = updated_so 0 i (static_at d.state.guest i) v (doing_with_guest (with_static d.state.guest i v) d) (inl refl) (record { all = h.all })
+  static_so : (i : ℕ) (v : Value) (d : Doing) → is_out_slot e.program i ≡ false → OfReached e d → OfReached e (static_written e i v d)
+  static_so i v d other h = updated_so 0 i (static_at d.state.guest i) v (doing_with_guest (with_static d.state.guest i v) d) (inl (refl, other)) (record { all = h.all })
 
   instance_so : (class : ℕ) (d : Doing) → OfReached e d → OfReached e (instance_made e class d)
   instance_so class d h = one_more _ (record { state = (instance_made e class d).state; records = d.records }) tt (record { all = h.all })
@@ -100,6 +126,12 @@ module _ (e : Moment) where
 
   -- THE STEPS
 
+  -- the object 0 is none
+  held_some : (o i : ℕ) (v : Value) (ph : Phase) (x : Doing) → Comes e AllObjects ph x → (IsUnder e x.state → MayWrite x.state.heap o i v) → o ≡ 0 → ⊥
+  held_some o i v ph x h a none =
+      let told : Told e x = records_come e ready ready.may.texts.string ph x h in
+      told.sound.none (subst (λ (k : ℕ). IsHeld x.state.heap k) none (a (under e x told)).held)
+
   reached_come : (ph : Phase) (d : Doing) → Comes e AllObjects ph d → OfReached e d
   reached_come ph d Begins = first
   reached_come ph d (GoesOn f x h framed a) = record { all = (reached_come Level x h).all }
@@ -131,28 +163,44 @@ module _ (e : Moment) where
   reached_come ph d (Starts o x h a) = record { all = (reached_come Level x h).all }
   reached_come ph d Ends = record { all = first.all }
   reached_come ph d (ClassBecomes q c y x h) = record { all = (reached_come q x h).all }
-  reached_come ph d (WritesStatic i v x h lt a typed) = static_so i v x (reached_come Level x h)
+  reached_come ph d (WritesStatic i v x h lt a typed other) = static_so i v x other (reached_come Level x h)
   reached_come ph d (Interns bytes x h) = interned_so bytes x (reached_come Level x h)
   reached_come ph d (MakesInstance q class x makes h lt plain) = instance_so class x (reached_come q x h)
   reached_come ph d (MakesArray class n x makes h array) = one_more _ (record { state = d.state; records = x.records }) tt (record { all = (reached_come Level x h).all })
-  reached_come ph d (WritesSlot q o i v x h a tells) = slot_so o i v x tells.at_hand (reached_come q x h)
+  reached_come ph d (WritesSlot q o i v x h a tells) = slot_so o i v x (held_some o i v q x h a) tells.at_hand (reached_come q x h)
   reached_come ph d (EntersMonitor o x h at held) = entered_so (OfObject o) x (reached_come Level x h)
   reached_come ph d (LeavesMonitor o x h at held) = left_so (OfObject o) x (reached_come Level x h)
   reached_come ph d (SetsReferent o r x h a) = record { all = (reached_come Level x h).all }
   reached_come ph d (SetsQueue o q x h a) = record { all = (reached_come Level x h).all }
   reached_come ph d (Polls q x h a) = record { all = (reached_come Level x h).all }
 
-  by_reached : Ready e → (o : Outcome Kept) → Leads e o → WritesToReached e.before o
-  by_reached ready (outcome.Goes next records) h =
+  pub by_reached : (o : Outcome Kept) → Leads e o → WritesToReached e.before o
+  by_reached (outcome.Goes next records) h =
       let d : Doing = record { state = next; records = records } in
       let made : MadeOf e ready d = comes_so e ready d h in
-      (reached_come made.phase d made.comes).all
-  by_reached ready (outcome.Waits next) h = tt
-  by_reached ready (outcome.IllTyped method pc) h = tt
-  by_reached ready outcome.ObjectLimit h = tt
+      All-weaker (IsOfSome e) (IsOfReached e.before) (λ r is. of_reached e r is) records (reached_come made.phase d made.comes).all
+  by_reached (outcome.Waits next) h = tt
+  by_reached (outcome.IllTyped method pc) h = tt
+  by_reached outcome.ObjectLimit h = tt
 
-pub event_writes_to_reached : (p : Linked) (s : Kept) (t : ℕ) → IsSoundFor p s → IsUnended s.guest t → IsRunnable p → WritesToReached s (event p s t)
-event_writes_to_reached p s t sound unended may =
-    let e : Moment = record { program = p; before = s; thread = t } in
-    let ready : Ready e = record { knows = record { sound = sound; thread = unended; classes = may.owners }; may = may } in
-    by_reached e ready (event p s t) (event_leads p s t sound unended may)
+  pub by_others : (o : Outcome Kept) → Leads e o → TellsBesideOut e.program o
+  by_others (outcome.Goes next records) h =
+      let d : Doing = record { state = next; records = records } in
+      let made : MadeOf e ready d = comes_so e ready d h in
+      All-weaker (IsOfSome e) (IsBesideOut e.program) (λ r is. beside_out e r is) records (reached_come made.phase d made.comes).all
+  by_others (outcome.Waits next) h = tt
+  by_others (outcome.IllTyped method pc) h = tt
+  by_others outcome.ObjectLimit h = tt
+
+module _ (p : Linked) (s : Kept) (t : ℕ) (sound : IsSoundFor p s) (unended : IsUnended s.guest t) (may : IsRunnable p) where
+  abbrev now : Moment
+  now = record { program = p; before = s; thread = t }
+
+  here : Ready now
+  here = record { knows = record { sound = sound; thread = unended; classes = may.owners }; may = may }
+
+  pub event_writes_to_reached : WritesToReached s (event p s t)
+  event_writes_to_reached = by_reached now here (event p s t) (event_leads p s t sound unended may)
+
+  pub event_tells_beside_out : TellsBesideOut p (event p s t)
+  event_tells_beside_out = by_others now here (event p s t) (event_leads p s t sound unended may)

@@ -166,7 +166,7 @@ module _ (e : Moment) (ready : Ready e) (strings : HasPlainStrings e.program) wh
   records_come ph d (Starts o x h a) = let g : Told e x = records_come Level x h in started_told e o x g (a (under e x g))
   records_come ph d Ends = ended_told
   records_come ph d (ClassBecomes q c y x h) = state_told e c y x (records_come q x h)
-  records_come ph d (WritesStatic i v x h lt a typed) = let g : Told e x = records_come Level x h in written_static_told e i v x g lt (a (under e x g))
+  records_come ph d (WritesStatic i v x h lt a typed other) = let g : Told e x = records_come Level x h in written_static_told e i v x g lt (a (under e x g))
   records_come ph d (Interns bytes x h) = (interned_told e bytes x strings (records_come Level x h)).tells
   records_come ph d (MakesInstance q class x makes h lt plain) = instance_told e class x (records_come q x h) plain
   records_come ph d (MakesArray class n x makes h array) = array_told e class n x (records_come Level x h) array.array
@@ -177,7 +177,7 @@ module _ (e : Moment) (ready : Ready e) (strings : HasPlainStrings e.program) wh
   records_come ph d (SetsQueue o q x h a) = let g : Told e x = records_come Level x h in queue_told e o q x g (a (under e x g)).0 (a (under e x g)).1
   records_come ph d (Polls q x h a) = let g : Told e x = records_come Level x h in first_taken_told e q x g (a (under e x g))
 
-  by_objects : (o : Outcome Kept) → Leads e o → TellsObjects e.program e.before e.thread o
+  pub by_objects : (o : Outcome Kept) → Leads e o → TellsObjects e.program e.before e.thread o
   by_objects (outcome.Goes next records) h =
       let d : Doing = record { state = next; records = records } in
       let made : MadeOf e ready d = comes_so e ready d h in

@@ -175,7 +175,7 @@ module _ (e : Moment) (ready : Ready e) (strings : HasPlainStrings e.program) (c
   writes_come ph d (Starts o x h a) = let g : WritesSo e x = writes_come Level x h in record { statics = g.statics; tells = g.tells }
   writes_come ph d Ends = record { statics = first.statics; tells = first.tells }
   writes_come ph d (ClassBecomes q c y x h) = let g : WritesSo e x = writes_come q x h in record { statics = g.statics; tells = g.tells }
-  writes_come ph d (WritesStatic i v x h lt a typed) = one_static e i v x (writes_come Level x h) lt typed
+  writes_come ph d (WritesStatic i v x h lt a typed other) = one_static e i v x (writes_come Level x h) lt typed
   writes_come ph d (Interns bytes x h) = interned_writes e bytes x (writes_come Level x h)
   writes_come ph d (MakesInstance q class x makes h lt plain) = instance_writes e class x (writes_come q x h)
   writes_come ph d (MakesArray class n x makes h array) =
@@ -202,7 +202,7 @@ module _ (e : Moment) (ready : Ready e) (strings : HasPlainStrings e.program) (c
             told.sound.slots q r (waiting_pair x.state.heap q r (subst (λ (os : List ℕ). Contains os r) (sym is) (Contains-here r more))));
       }
 
-  by_writes : (o : Outcome Kept) → Leads e o → TellsWrites e.before o
+  pub by_writes : (o : Outcome Kept) → Leads e o → TellsWrites e.before o
   by_writes (outcome.Goes next records) h =
       let d : Doing = record { state = next; records = records } in
       let made : MadeOf e ready d = comes_so e ready d h in

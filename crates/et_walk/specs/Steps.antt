@@ -30,7 +30,7 @@ use Rattle.et_state.specs.declared.class_state.ClassState.{ClassState}
 use Rattle.et_state.specs.declared.records.Record.TheVariants.{Enter, Unwind}
 use Rattle.et_walk.specs.Holding.{monitor_row_at}
 use Rattle.et_walk.specs.Values.{Fine, FineFrame, FineSome, Fines, Grows}
-use Rattle.et_walk.specs.Writes.{HasCause, IsAtHand}
+use Rattle.et_walk.specs.Writes.{HasCause, IsAtHand, is_out_slot}
 use Rattle.et_program.specs.Members.{is_subclass}
 use Rattle.std.specs.Prelude.{codes, ◌≤◌, IfSome, List, None, Option, false, length, slice_index_or, true, unwrap_or, ℕ, ◌+◌, ◌<◌, ◌∷◌, ◌≡◌, ◌⊎◌}
 use Rattle.et_state.specs.Outcome as outcome
@@ -145,7 +145,7 @@ pub data Comes (e : Moment) (k : Making) : Phase → Doing → Type 0 where
   Ends : Comes e k Level (with_thread_state e (as_ended (thread_of e)) (begins e))
   -- classes and statics
   ClassBecomes : (ph : Phase) (c : ℕ) (x : ClassState) (d : Doing) → Comes e k ph d → Comes e k ph (with_state c x d)
-  WritesStatic : (i : ℕ) (v : Value) (d : Doing) → Comes e k Level d → i < length e.program.statics → (IsUnder e d.state → Fine d.state.heap v) → IsTyped (kind_of_static e.program i) v
+  WritesStatic : (i : ℕ) (v : Value) (d : Doing) → Comes e k Level d → i < length e.program.statics → (IsUnder e d.state → Fine d.state.heap v) → IsTyped (kind_of_static e.program i) v → is_out_slot e.program i ≡ false
       → Comes e k Level (static_written e i v d)
   Interns : (bytes : List ℕ) (d : Doing) → Comes e k Level d → Comes e k Level (interned e bytes d)
   -- objects: one is made, a slot is written, a monitor is entered or left, a reference is set, a queue is polled

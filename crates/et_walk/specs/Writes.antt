@@ -1,6 +1,6 @@
 -- WHAT THE U RECORDS OF AN EVENT TELL: each write of a reference to a slot of an object or to a static, in order, with the
 -- reference that stood there before; and no U record is without a write.
-use Rattle.std.specs.Prelude.{◌≡◌, ℕ, ◌<◌, ◌≤◌, ◌==◌, ◌&&◌, ◌⊎◌, if◌then◌else◌, List, [], ◌∷◌, length, All}
+use Rattle.std.specs.Prelude.{◌≡◌, ℕ, ◌<◌, ◌≤◌, ◌==◌, ◌&&◌, ◌⊎◌, Bool, false, if◌then◌else◌, List, [], ◌∷◌, length, All, slice_index_or}
 use Rattle.et_graph.specs.Graph.{IsReached}
 use Rattle.et_heap.specs.Objects.{object_at, slot_of}
 use Rattle.et_program.specs.Entries.{Linked, class_at}
@@ -12,6 +12,7 @@ use Rattle.et_state.specs.declared.records.Record.TheVariants.{Update}
 use Rattle.et_state.specs.Outcome.{Outcome}
 use Rattle.et_state.specs.Outcome as outcome
 use Rattle.et_event.specs.Errors.{error_class}
+use Rattle.et_event.specs.Heap.{is_out}
 use Rattle.et_event.specs.Moments.{number_of_value}
 use Rattle.et_event.specs.declared.errors.GuestError.TheVariants.{ExceptionInInitializerError}
 
@@ -57,6 +58,22 @@ WritesToReached s (outcome.Goes next records) = All (IsOfReached s) records
 WritesToReached s (outcome.Waits next) = Unit {0}
 WritesToReached s (outcome.IllTyped method pc) = Unit {0}
 WritesToReached s outcome.ObjectLimit = Unit {0}
+
+-- THE STATIC OF System.out, of which no U record tells
+
+-- the static slot is that of System.out
+abbrev pub is_out_slot : Linked → ℕ → Bool
+is_out_slot p i = is_out p (slice_index_or p.statics i 0)
+
+abbrev pub IsBesideOut : Linked → Record → Type 0
+IsBesideOut p (Update event thread object slot old new) = object ≡ 0 → is_out_slot p slot ≡ false
+IsBesideOut p other = Unit {0}
+
+abbrev pub TellsBesideOut : Linked → Outcome Kept → Type 0
+TellsBesideOut p (outcome.Goes next records) = All (IsBesideOut p) records
+TellsBesideOut p (outcome.Waits next) = Unit {0}
+TellsBesideOut p (outcome.IllTyped method pc) = Unit {0}
+TellsBesideOut p outcome.ObjectLimit = Unit {0}
 
 -- an ExceptionInInitializerError has a slot for its cause
 abbrev pub HasCause : Linked → Type 0

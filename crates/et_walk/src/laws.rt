@@ -11,7 +11,7 @@ ghost use Rattle.et_walk.specs.Changing.{KeepsMonitors, LeadsToSound};
 ghost use Rattle.et_walk.specs.Records.{HasPlainStrings, TellsObjects};
 ghost use Rattle.et_walk.specs.Steps.{Leads};
 ghost use Rattle.et_walk.specs.Telling.{IsToldOf};
-ghost use Rattle.et_walk.specs.Writes.{HasCause, TellsWrites, WritesToReached};
+ghost use Rattle.et_walk.specs.Writes.{HasCause, TellsBesideOut, TellsWrites, WritesToReached};
 
 /// Each event of a thread that has not ended, in a sound state of a program that may be run, is made of steps, in order, with
 /// their records. Where the thread waits, the clock alone goes on. At the limits of the heap the event would be made of
@@ -54,6 +54,12 @@ pub fn events_tell_writes()
 pub fn events_write_to_what_is_reached()
     ensures { (p : Linked) (s : Kept) (t : ℕ) →
         IsSoundFor p s → IsUnended s.guest t → IsRunnable p → WritesToReached s (event p s t) }
+{}
+
+/// No record of an event tells of the static of System.out.
+pub fn events_tell_nothing_of_out()
+    ensures { (p : Linked) (s : Kept) (t : ℕ) →
+        IsSoundFor p s → IsUnended s.guest t → IsRunnable p → TellsBesideOut p (event p s t) }
 {}
 
 /// Each event of a thread that has not ended enters and leaves the monitors that its instruction and its frames say, and
