@@ -28,7 +28,7 @@ abbrev pub is_deferred : Linked → ℕ → Bool
 is_deferred p m = is_deferred_in p.classes (method_at p m)
 
 -- what a method does with texts, if it is a method of texts
-abbrev pub text_method_in : List ClassEntry → MethodInfo → Option TextMethod
+unfoldable pub text_method_in : List ClassEntry → MethodInfo → Option TextMethod
 text_method_in classes m = text_method_called (slice_index_or classes m.class no_class).info.name m.name m.descriptor
 
 abbrev pub text_method_of : Linked → ℕ → Option TextMethod

@@ -1,6 +1,8 @@
 //! The numbers by which methods are looked for, and what calls read off their descriptors and their names.
 
 ghost use Rattle.std.specs.Prelude.{◌≡◌, ◌<◌, length, map, All, IfOk};
+ghost use Rattle.std.specs.List.{slice_index_or};
+ghost use Rattle.et_program.specs.Entries.{no_class};
 ghost use Rattle.et_program.specs.BuiltIns.{is_deferred_in, text_method_in};
 ghost use Rattle.et_program.specs.Signatures.{signature_of as signature_in};
 ghost use Rattle.et_program.specs.declared.info.MethodInfo.{MethodInfo as Method};
@@ -42,6 +44,17 @@ pub(crate) enum Sought<'a> {
     Like(MethodId),
 }
 
+/// The name of the class that declares a method.
+fn class_name<'a>(classes: &'a [Class], method: &MethodInfo) -> &'a [u8]
+    requires { method.now.class < length classes.now }
+    ensures { result.now ≡ (slice_index_or classes.now method.now.class no_class).info.name }
+{
+    classes[method.class.number() as usize]
+        .info()
+        .name
+        .as_slice()
+}
+
 /// Whether a method is a built-in one without code of threads, of weak references or of their queues, or of texts.
 fn is_deferred(classes: &[Class], method: &MethodInfo) -> bool
     requires { method.now.class < length classes.now }
@@ -49,8 +62,7 @@ fn is_deferred(classes: &[Class], method: &MethodInfo) -> bool
 {
     let flags = method.flags;
     let is_other = has(flags, STATIC) || has(flags, NATIVE) || has(flags, ABSTRACT);
-    let class = classes[method.class.number() as usize].info();
-    method.code.is_none() && !is_other && is_deferring(class.name.as_slice())
+    method.code.is_none() && !is_other && is_deferring(class_name(classes, method))
 }
 
 /// What a method does with texts, where it is a method of texts.
@@ -58,9 +70,12 @@ fn text_method(classes: &[Class], method: &MethodInfo) -> Option<TextMethod>
     requires { method.now.class < length classes.now }
     ensures { result ≡ text_method_in classes.now method.now }
 {
-    let class = classes[method.class.number() as usize].info();
     let name = method.name.as_slice();
-    text_method_called(class.name.as_slice(), name, method.descriptor.as_slice())
+    text_method_called(
+        class_name(classes, method),
+        name,
+        method.descriptor.as_slice(),
+    )
 }
 
 /// The numbers of the name and descriptor of a method, and what calls read off them. The only error is want of memory.
