@@ -1,8 +1,10 @@
 -- Lists that grow by one element after another.
-use Rattle.std.proofs.Common.{◌≡◌, ℕ, ◌+◌, ◌<◌, suc, List, [], ◌∷◌, ◌++◌, length, take, get_or, map, Option, None, Some, refl, sym, ◌∙◌, ap, subst, arith, append_assoc, append-nil}
-use Rattle.std.specs.List.{filter_map, cons_option}
+use Rattle.std.proofs.Common.{◌≡◌, ℕ, ◌+◌, ◌<◌, suc, Bool, true, false, List, [], ◌∷◌, ◌++◌, length, take, get_or, map, Option, None, Some, refl, sym, ◌∙◌, ap, subst, arith, append_assoc, append-nil}
+use Rattle.std.specs.Prelude.{if◌then◌else◌}
+use Rattle.std.specs.List.{filter, filter_map, cons_option}
 use Rattle.std.specs.Option.{option_to_list}
-use Rattle.std.proofs.lemmas.List.{take_more, length-take-le, length-map}
+use Rattle.std.proofs.lemmas.List.{take_more, length-take-le, length-map, map-append}
+use Rattle.std.proofs.lemmas.List.Elements.{filter-append}
 use Rattle.et_pool.specs.Entries.{Constants}
 use Rattle.et_boot.specs.Classes.{BootClassOf}
 use Rattle.et_program.specs.MembersOf.{numbered, IsBootPool, AreBootPools}
@@ -89,3 +91,20 @@ filter_map-push f (z ∷ xs) x = ap (cons_option (f z)) (filter_map-push f xs x)
 
 pub filter_map_more : {X Y : Type 0} (f : X → Option Y) (xs : List X) (i : ℕ) (d : X) → i < length xs → filter_map f (take (i + 1) xs) ≡ filter_map f (take i xs) ++ option_to_list (f (get_or xs i d))
 filter_map_more f xs i d lt = ap (filter_map f) (take_more xs i d lt) ∙ filter_map-push f (take i xs) (get_or xs i d)
+
+-- WHAT PASSES A TEST, of a longer list
+
+passing_push : {X Y Z : Type 0} (f : Y → Z) (t : Y → Bool) (g : X → Y) (xs : List X) (x : X) → map f (filter t (map g (xs ++ x ∷ []))) ≡ map f (filter t (map g xs)) ++ map f (filter t (g x ∷ []))
+passing_push f t g xs x =
+    ap (λ l. map f (filter t l)) (map_push g xs x) ∙ (ap (map f) (filter-append t (map g xs) (g x ∷ [])) ∙ map-append f (filter t (map g xs)) (filter t (g x ∷ [])))
+
+-- one more element, and what it gives
+pub passing_more : {X Y Z : Type 0} (f : Y → Z) (t : Y → Bool) (g : X → Y) (xs : List X) (i : ℕ) (d x : X) → i < length xs → x ≡ get_or xs i d → map f (filter t (map g (take (i + 1) xs))) ≡ map f (filter t (map g (take i xs))) ++ map f (filter t (g x ∷ []))
+passing_more f t g xs i d x lt is =
+    ap (λ l. map f (filter t (map g l))) (take_more xs i d lt) ∙ (passing_push f t g (take i xs) (get_or xs i d) ∙ ap (λ y. map f (filter t (map g (take i xs))) ++ map f (filter t (g y ∷ []))) (sym is))
+
+pub one_passes : {Y Z : Type 0} (f : Y → Z) (t : Y → Bool) (y : Y) → t y ≡ true → map f (filter t (y ∷ [])) ≡ f y ∷ []
+one_passes f t y e = ap (λ (b : Bool). map f (if b then y ∷ [] else [])) e
+
+pub none_passes : {Y Z : Type 0} (f : Y → Z) (t : Y → Bool) (y : Y) → t y ≡ false → map f (filter t (y ∷ [])) ≡ []
+none_passes f t y e = ap (λ (b : Bool). map f (if b then y ∷ [] else [])) e

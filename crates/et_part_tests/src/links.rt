@@ -5,12 +5,13 @@ ghost use Rattle.et_class.specs.Classes.{HasItsParts};
 ghost use Rattle.et_link.specs.Declaring.{HasItsFile};
 
 use crate::link_files::{
-    ALL, BAD, BOTH, BOX, GRID, LEFT, LOOP, LOWER, MID, NEAR, NONE, ONE, OPEN, RIGHT, SUB, TEXT,
-    TOP, UPPER,
+    ALL, BAD, BOTH, BOX, GRID, HELD, LEFT, LOOP, LOWER, MID, NEAR, NONE, ONE, OPEN, RIGHT, SUB,
+    TEXT, TOP, UPPER,
 };
 use et_base::{ClassId, MethodId};
 use et_class::{ClassFault, ClassFile, read_class};
 use et_link::{LinkError, LinkFault, LinkFaultKind, Program, link};
+use et_program::{Shown, TextMethod};
 use std::alloc::Global;
 use std::process::Abort;
 use std::test::Fail;
@@ -133,6 +134,60 @@ fn one_box(rt: HostRuntime) -> Result<(), Fail> {
     let object = program.resolve_class(b"java/lang/Object")?;
     assert_eq!(rt; program.init_order(class), [object, class].as_slice());
     assert!(rt; program.passes(strings, object));
+    Ok(())
+}
+
+#[test]
+fn out_is_the_last_static_field(rt: HostRuntime) -> Result<(), Fail> {
+    let program = link_all(&rt, rt.alloc(), &[&HELD])??;
+    let class = program.resolve_class(b"Held")?;
+    let held = program.resolve_field(class, b"held", b"LHeld;")?;
+    let system = program.resolve_class(b"java/lang/System")?;
+    let out = program.resolve_field(system, b"out", b"Ljava/io/PrintStream;")?;
+    assert_eq!(rt; program.statics(), [held, out].as_slice());
+    assert_eq!(rt; program.field(held).slot, 0);
+    assert_eq!(rt; program.field(out).slot, 1);
+    assert_eq!(rt;
+        program.resolve_field(system, b"out", b"Ljava/lang/Object;"),
+        Err(LinkError::NoSuchField)
+    );
+    Ok(())
+}
+
+/// What a method of a class does with texts.
+fn text_method(
+    program: &Program,
+    class: &[u8],
+    name: &[u8],
+    descriptor: &[u8],
+) -> Result<Option<TextMethod>, LinkError> {
+    let class = program.resolve_class(class)?;
+    let method = program.resolve_method(class, false, name, descriptor)?;
+    Ok(program.text_method(method))
+}
+
+#[test]
+fn methods_of_texts(rt: HostRuntime) -> Result<(), Fail> {
+    let program = link_all(&rt, rt.alloc(), &[&BOX])??;
+    let with_text = b"(Ljava/lang/String;)V";
+    let builder = b"java/lang/StringBuilder";
+    assert_eq!(rt;
+        text_method(&program, builder, b"append", b"(C)Ljava/lang/StringBuilder;"),
+        Ok(Some(TextMethod::Append(Shown::Char)))
+    );
+    assert_eq!(rt;
+        text_method(&program, b"java/io/PrintStream", b"println", with_text),
+        Ok(Some(TextMethod::PrintLine(Shown::Text)))
+    );
+    assert_eq!(rt;
+        text_method(&program, builder, b"<init>", with_text),
+        Ok(Some(TextMethod::BeginWith))
+    );
+    // a throwable's constructor has the same name and descriptor
+    assert_eq!(rt;
+        text_method(&program, b"java/lang/Error", b"<init>", with_text),
+        Ok(None)
+    );
     Ok(())
 }
 

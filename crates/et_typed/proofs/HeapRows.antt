@@ -157,11 +157,12 @@ module _ (e : Moment) (typings : Typings) (m : ℕ) (at : Site) (r : HeapRow) (t
       (value_taken P (ill_typed e) h.kind [] ops ts.operands us.operands _ here.operands h.taken (λ v below rest of_kind are last.
       field_resolved x _ (λ f found.
       thrown errors.IncompatibleClassChangeError (is_static_at e.program f) _ (λ static.
+      thrown errors.NoSuchFieldError (not (is_out e.program f)) _ (λ other.
       where_initialized e typings here.calm (field_at e.program f).class (begins e) _ refl (begun_well e typings here.calm) (λ d same well.
       let y : Doing = leaving_values e at below d in
       let z : Doing = static_written e (field_at e.program f).slot (narrowed x.descriptor v) y in
       ends_leave e typings z (own_by e typings y z (static_threads e (field_at e.program f).slot (narrowed x.descriptor v) y)
-      (leaves e typings m at (rows.Heap r) ts us here below d same refl refl (are ∙ some_same rest us.operands last)))))))))
+      (leaves e typings m at (rows.Heap r) ts us here below d same refl refl (are ∙ some_same rest us.operands last))))))))))
 
   -- the object of a field, so far below the top
   holder : (x : Member) (f : ℕ) (z : Reference) (place : Member → ℕ) (go : ℕ → Outcome Kept) → site_member at ≡ Some x → Found x f → operand_of (current_frame e) (place x) ≡ referent_value z → (FailsHolder e at place → FailsRow e at (rows.Heap r))
