@@ -1,6 +1,6 @@
--- Which turns call a deferred method, and what is answered then.
-use Rattle.std.proofs.Common.{◌≡◌, ℕ, Bool, true, false, ◌&&◌, List, Option, Some, None, Result, Ok, Err, refl, sym, ◌∙◌, ap, subst}
-use Rattle.std.specs.Prelude.{◌||◌, ◌↔◌, not, if◌then◌else◌, is_none, option_and_then, IsSome}
+-- Which turns call a deferred method, and which methods those are.
+use Rattle.std.proofs.Common.{◌≡◌, ℕ, Bool, true, false, ◌&&◌, Option, Some, None, Result, Ok, Err, refl, sym, ◌∙◌, ap}
+use Rattle.std.specs.Prelude.{◌||◌, not, if◌then◌else◌, is_none, option_and_then, IsSome}
 use Rattle.et_code.specs.Bodies.{Body}
 use Rattle.et_code.specs.declared.instr.Instr.{Instr}
 use Rattle.et_code.specs.declared.instr.CodeFault.{CodeFault}
@@ -12,23 +12,16 @@ use Rattle.et_program.specs.Entries.{Linked, class_at, method_at, is_abstract, i
 use Rattle.et_program.specs.Members.{kept}
 use Rattle.et_state.specs.declared.stage.Turn.{Turn}
 use Rattle.et_state.specs.declared.stage.Turn.TheVariants.{Instruction}
-use Rattle.et_state.specs.declared.records.Record.{Record}
-use Rattle.et_state.specs.declared.ends.EventEnd.{EventEnd}
-use Rattle.et_state.specs.declared.ends.EventEnd.TheVariants as ends
-use Rattle.et_state.specs.Outcome.{Outcome}
-use Rattle.et_state.specs.Outcome as outcome
 use Rattle.et_state.specs.Threads.{turn_of}
 use Rattle.et_state.specs.State.{Kept, MachineState, kept_of}
 use Rattle.et_state.specs.Words.{thread_at, top}
 use Rattle.et_event.specs.declared.rows.Row.{Row}
-use Rattle.et_event.specs.Answered.{EventAnswers}
 use Rattle.et_event.specs.Families.{row_at}
 use Rattle.et_event.specs.Moments.{Moment, current_frame, moment}
 use Rattle.et_event.specs.Sites.{Site, decoded_at, site_of}
 use Rattle.et_parts.specs.Places.{IsPlace, site_at}
 use Rattle.et_parts.specs.declared.places.Place.{Place}
 use Rattle.et_event.specs.Selected.{deferred_at, deferred_by, deferred_call, deferred_in}
-use Rattle.et_event.specs.Answered.{DefersOrAnswers}
 
 -- WHICH TURN IT IS
 
@@ -51,11 +44,6 @@ no_row e (Ok x) none = ap (λ (r : Option Row). option_and_then (deferred_at e (
 
 pub at_no_place : (p : Linked) (m : MachineState) (t : ℕ) → turn_of (thread_at m.guest t) ≡ Instruction → row_at (decoded_at p (top m.guest t)) ≡ None → deferred_call p (kept_of m) t ≡ None
 at_no_place p m t turn none = at_turn p (kept_of m) t Instruction turn ∙ no_row (moment p m t) (decoded_at p (top m.guest t)) none
-
--- no method is called where none is deferred
-pub none_deferred : (r : Option ℕ) → r ≡ None → IsSome r → ⊥
-none_deferred None none some = cc
-none_deferred (Some m) none some = cc
 
 -- A DEFERRED METHOD has no code and is not native
 
@@ -84,20 +72,3 @@ kept_by false m h = cc
 
 pub kept_is : (p : Linked) (m : ℕ) → IsSome (kept (is_deferred p) (Some m)) → is_deferred p m ≡ true
 kept_is p m h = kept_by (is_deferred p m) m h
-
--- WHAT IS ANSWERED
-
-pub answered : (r : Option ℕ) (o : Outcome Kept) (end : EventEnd) (m m' : MachineState) (out out' : List Record) → r ≡ None → EventAnswers o end m m' out out' → DefersOrAnswers r o end m m' out out'
-answered r o end m m' out out' none a = subst (λ (q : Option ℕ). DefersOrAnswers q o end m m' out out') (sym none) a
-
-not_answered : (o : Outcome Kept) (method : ℕ) (m m' : MachineState) (out out' : List Record) → EventAnswers o (ends.Native method) m m' out out' → ⊥
-not_answered (outcome.Goes next records) method m m' out out' a = a
-not_answered (outcome.Waits next) method m m' out out' a = a
-not_answered (outcome.IllTyped k pc) method m m' out out' a = a
-not_answered outcome.ObjectLimit method m m' out out' a = a
-
-pub native_exactly : (r : Option ℕ) (o : Outcome Kept) (end : EventEnd) (m m' : MachineState) (out out' : List Record) → DefersOrAnswers r o end m m' out out' → (method : ℕ) → (end ≡ ends.Native method) ↔ (r ≡ Some method)
-native_exactly None o end m m' out out' a method = (λ is. absurd (not_answered o method m m' out out' (subst (λ (x : EventEnd). EventAnswers o x m m' out out') is a)), λ is. cc)
-native_exactly (Some k) o end m m' out out' a method =
-    let named : end ≡ ends.Native k = a.0 in
-    (λ is. cc, λ is. cc)

@@ -1,6 +1,9 @@
 -- Texts beside a state: the graph, what the table answers, and soundness don't see them.
-use Rattle.std.proofs.Common.{◌≡◌, ℕ, List, Option, Some, None, refl, sym, ap, subst, ◌∙◌}
-use Rattle.et_program.specs.Entries.{Linked}
+use Rattle.std.proofs.Common.{◌≡◌, ℕ, Bool, true, false, List, ◌∷◌, Option, Some, None, refl, sym, ap, subst, ◌∙◌}
+use Rattle.std.specs.Prelude.{codes, if◌then◌else◌}
+use Rattle.et_base.specs.declared.value.Value.{Value}
+use Rattle.et_base.specs.declared.value.Value.TheVariants.{Unset, Int, Long, LongHigh, Null, Ref}
+use Rattle.et_program.specs.Entries.{Linked, field_at}
 use Rattle.et_heap.specs.declared.monitor.Monitor.{Monitor}
 use Rattle.et_state.specs.declared.class_state.ClassState.{ClassState}
 use Rattle.et_state.specs.declared.class_state.ClassState.TheVariants.{Untouched, Begun, Done, Failed}
@@ -16,9 +19,16 @@ use Rattle.et_state.specs.Moves.{Led}
 use Rattle.et_state.specs.State.{GuestState, Kept, MachineState, kept_of}
 use Rattle.et_state.specs.Spoken.{spoken, silent}
 use Rattle.et_state.specs.Texts.{Texts, no_texts}
+use Rattle.et_state.specs.Words.{static_at, with_static}
 use Rattle.et_event.specs.Answered.{EventAnswers, TextAnswers}
+use Rattle.et_event.specs.Errors.{class_called}
+use Rattle.et_event.specs.Heap.{leaving_values}
+use Rattle.et_event.specs.Moments.{Moment, Doing, begins, current_frame, doing_with_guest, ends_event, fits_heap, instance_made, moment, next_object}
+use Rattle.et_event.specs.Out.{OutRead, out_read, out_row, out_turn}
+use Rattle.et_event.specs.Sites.{Site}
 use Rattle.et_event.specs.Sound.{HasThreadObject, IsSoundClassState, IsSoundFor, IsSoundMonitor, IsSoundStatic, IsSoundThread}
-use Rattle.et_event.specs.Told.{keeping}
+use Rattle.et_event.specs.Told.{event_with_texts, keeping}
+use Rattle.et_event.proofs.Told.{of_out, out-blind}
 
 -- the graph has no texts
 pub graph-blind : (x : Texts) (s : Kept) → graph_of (spoken x s) ≡ graph_of s
@@ -46,6 +56,46 @@ texts-answered x (outcome.Waits next) ends.Waited m m' out out' none h = (led-si
 texts-answered x (outcome.IllTyped method pc) (ends.IllTyped named at) m m' out out' none h = (h.0, h.1, h.2, refl, h.3)
 texts-answered x outcome.ObjectLimit ends.ObjectLimit m m' out out' none h = (h.0, refl, h.1)
 texts-answered x _ _ m m' out out' none h = absurd h
+
+-- THE READING OF System.out doesn't see texts, and they stay
+
+ends-beside : (x : Texts) (s : Kept) (records : List Record) (b : Bool) → (if b then outcome.Goes (spoken x s) records else outcome.ObjectLimit) ≡ keeping x (if b then outcome.Goes s records else outcome.ObjectLimit)
+ends-beside x s records true = refl
+ends-beside x s records false = refl
+
+abbrev ends-as : Texts → Doing → Type 0
+ends-as x d = (if fits_heap d.state.heap then outcome.Goes (spoken x d.state) d.records else outcome.ObjectLimit) ≡ keeping x (ends_event d)
+
+ends_as : (x : Texts) (d : Doing) → ends-as x d
+ends_as x d = ends-beside x d.state d.records (fits_heap d.state.heap)
+
+abbrev beside : Texts → Moment → Moment
+beside x e = record { program = e.program; before = spoken x e.before; thread = e.thread }
+
+abbrev made : Moment → Site → ℕ → Doing
+made e at slot =
+    let n = next_object (begins e) in
+    let d = instance_made e (class_called e.program (codes "java/io/PrintStream")) (begins e) in
+    leaving_values e at (Ref n ∷ (current_frame e).operands) (doing_with_guest (with_static d.state.guest slot (Ref n)) d)
+
+read-beside : (e : Moment) (x : Texts) (at : Site) (slot : ℕ) (v : Value) → out_read (beside x e) at slot v (begins (beside x e)) ≡ keeping x (out_read e at slot v (begins e))
+read-beside e x at slot Unset = ends_as x (made e at slot)
+read-beside e x at slot (Int n) = ends_as x (made e at slot)
+read-beside e x at slot (Long n) = ends_as x (made e at slot)
+read-beside e x at slot LongHigh = ends_as x (made e at slot)
+read-beside e x at slot Null = ends_as x (made e at slot)
+read-beside e x at slot (Ref o) = ends_as x (leaving_values e at (Ref o ∷ (current_frame e).operands) (begins e))
+
+pub out-beside : (e : Moment) (x : Texts) (y : OutRead) → out_row (beside x e) y ≡ keeping x (out_row e y)
+out-beside e x y = let slot = (field_at e.program y.field).slot in read-beside e x y.at slot (static_at e.before.guest slot)
+
+pub out_answered : (p : Linked) (x : Texts) (m m' : MachineState) (t : ℕ) (y : OutRead) (end : EventEnd) (out out' : List Record) → m'.guest.texts ≡ no_texts → out_turn p (kept_of m) t ≡ Some y
+    → EventAnswers (out_row (moment p m t) y) end m m' out out' → TextAnswers (event_with_texts p (spoken x (kept_of m)) t) end m m' x x out out'
+out_answered p x m m' t y end out out' none read h =
+    let e : Moment = moment p m t in
+    subst (λ (o : Outcome Kept). TextAnswers o end m m' x x out out')
+    (sym (of_out p (spoken x (kept_of m)) t y (out-blind p x (kept_of m) t ∙ read) ∙ out-beside e x y))
+    (texts-answered x (out_row e y) end m m' out out' none h)
 
 -- A STATE IS SOUND WITH ANY TEXTS
 

@@ -6,3 +6,5 @@ pub mod FamilyTurns
 pub mod BuiltInRoom
 pub mod Told
 pub mod Beside
+pub mod Deferrals
+pub mod OutTurns

@@ -63,14 +63,19 @@ with_holder e d f r go =
     not_null e d r (λ o.
     ill_typed_unless e (is_subclass e.program (object_class d o) (field_at e.program f).class) (go o))
 
-abbrev pub get_static : Moment → Site → Outcome Kept
-get_static e at =
+-- getstatic, once it is known which static field is named, and that its value fits
+abbrev pub with_static_field : Moment → Site → (Member → ℕ → Outcome Kept) → Outcome Kept
+with_static_field e at go =
     with_field e (site_member at) (λ m.
     ill_typed_unless e (field_fits e (current_frame e).operands m)
     (resolved_field e (begins e) m (λ f.
-    throws_unless e (begins e) IncompatibleClassChangeError (is_static_at e.program f)
-    (initialized e (begins e) (field_at e.program f).class (λ d.
-    ends_event (leaving_values e at (entries_of (or_zero (operand_kind m.descriptor) (static_at d.state.guest (field_at e.program f).slot)) ++ (current_frame e).operands) d))))))
+    throws_unless e (begins e) IncompatibleClassChangeError (is_static_at e.program f) (go m f))))
+
+abbrev pub get_static : Moment → Site → Outcome Kept
+get_static e at =
+    with_static_field e at (λ m f.
+    initialized e (begins e) (field_at e.program f).class (λ d.
+    ends_event (leaving_values e at (entries_of (or_zero (operand_kind m.descriptor) (static_at d.state.guest (field_at e.program f).slot)) ++ (current_frame e).operands) d)))
 
 -- the field is System.out, the one static field of a built-in class
 abbrev pub is_out : Linked → ℕ → Bool

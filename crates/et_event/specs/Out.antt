@@ -1,6 +1,6 @@
 -- System.out (JLS 12.4: System is a built-in class, and initialized from the start). Its print stream is made at the first
 -- getstatic that reads it, which is no write that a record tells, and stays in the static slot.
-use Rattle.std.specs.Prelude.{ℕ, ◌&&◌, Bool, true, false, if◌then◌else◌, ◌∷◌, codes, Option, Some, None, Result, Ok, Err, option_and_then, option_map}
+use Rattle.std.specs.Prelude.{ℕ, ◌&&◌, Bool, true, false, if◌then◌else◌, ◌∷◌, codes, Option, Some, None, unwrap_or, Result, Ok, Err, option_and_then, option_map}
 use Rattle.std.specs.Result.{result_ok}
 use Rattle.et_base.specs.declared.value.Value.{Value}
 use Rattle.et_base.specs.declared.value.Value.TheVariants.{Ref}
@@ -10,7 +10,7 @@ use Rattle.et_class.specs.Descriptors.{is_field_descriptor}
 use Rattle.et_program.specs.Entries.{Linked, field_at}
 use Rattle.et_program.specs.Resolution.{resolve_class, resolve_field}
 use Rattle.et_state.specs.State.{Kept}
-use Rattle.et_state.specs.Words.{class_state_at, static_at, with_static}
+use Rattle.et_state.specs.Words.{class_state_at, static_at, top, with_static}
 use Rattle.et_state.specs.Outcome.{Outcome}
 use Rattle.et_state.specs.Threads.{turn_of}
 use Rattle.et_state.specs.declared.class_state.ClassState.{ClassState}
@@ -21,7 +21,7 @@ use Rattle.et_event.specs.declared.rows.HeapRow.TheVariants.{GetStatic}
 use Rattle.et_event.specs.declared.rows.Row.{Row}
 use Rattle.et_event.specs.declared.rows.Row.TheVariants.{Heap}
 use Rattle.et_event.specs.Errors.{class_called}
-use Rattle.et_event.specs.Heap.{field_fits, is_out, leaving_values}
+use Rattle.et_event.specs.Heap.{field_fits, is_out, is_static_at, leaving_values}
 use Rattle.et_event.specs.Moments.{Moment, Doing, begins, current_frame, doing_with_guest, ends_event, instance_made, next_object, thread_of}
 use Rattle.et_event.specs.Sites.{Member, Site, decoded_at, site_member, site_of}
 use Rattle.et_event.specs.Table.{row_of}
@@ -43,9 +43,10 @@ field_read e m =
     then option_and_then (λ owner. result_ok (resolve_field e.program owner m.name m.descriptor)) (result_ok (resolve_class e.program m.owner))
     else None
 
--- .. where it is System.out
+-- .. where it is the static field of System
 abbrev pub out_of : Moment → ℕ → Option ℕ
-out_of e f = if is_out e.program f && is_done (class_state_at e.before.guest (field_at e.program f).class) then Some f else None
+out_of e f =
+    if is_static_at e.program f && (is_out e.program f && is_done (class_state_at e.before.guest (field_at e.program f).class)) then Some f else None
 
 abbrev pub out_at : Moment → Site → Row → Option OutRead
 out_at e at (Heap GetStatic) = option_map (λ f. record { at = at; field = f }) (option_and_then (out_of e) (option_and_then (field_read e) (site_member at)))
@@ -65,13 +66,20 @@ out_turn p s t =
     let e : Moment = record { program = p; before = s; thread = t } in
     out_in e (turn_of (thread_of e))
 
+-- .. and the method whose frame reads it, which is that of an event without meaning
+abbrev pub out_method : Linked → Kept → ℕ → Option ℕ
+out_method p s t = option_map (λ (x : OutRead). unwrap_or (top s.guest t).method 0) (out_turn p s t)
+
 -- WHAT IS READ: the print stream, which is made where there is none yet
+
+abbrev pub out_made : Moment → Site → ℕ → Doing → Outcome Kept
+out_made e at slot d =
+    let x = instance_made e (class_called e.program (codes "java/io/PrintStream")) d in
+    ends_event (leaving_values e at (Ref (next_object d) ∷ (current_frame e).operands) (doing_with_guest (with_static x.state.guest slot (Ref (next_object d))) x))
 
 abbrev pub out_read : Moment → Site → ℕ → Value → Doing → Outcome Kept
 out_read e at slot (Ref o) d = ends_event (leaving_values e at (Ref o ∷ (current_frame e).operands) d)
-out_read e at slot other d =
-    let x = instance_made e (class_called e.program (codes "java/io/PrintStream")) d in
-    ends_event (leaving_values e at (Ref (next_object d) ∷ (current_frame e).operands) (doing_with_guest (with_static x.state.guest slot (Ref (next_object d))) x))
+out_read e at slot other d = out_made e at slot d
 
 abbrev pub out_row : Moment → OutRead → Outcome Kept
 out_row e x = let slot = (field_at e.program x.field).slot in out_read e x.at slot (static_at e.before.guest slot) (begins e)

@@ -27,7 +27,8 @@ use Rattle.et_builtins.specs.Plans.{method_entered, call_planned}
 use Rattle.et_builtins.specs.declared.plans.CallPlan.{CallPlan}
 use Rattle.et_builtins.specs.declared.plans.CallPlan.TheVariants.{Enters}
 use Rattle.et_builtins.proofs.ByCode.{built_in_called}
-use Rattle.et_builtins.proofs.Deferring.{at_place, at_turn, deferred_codeless, deferred_not_native, kept_is, none_deferred}
+use Rattle.et_event.proofs.Deferrals.{none_deferred}
+use Rattle.et_builtins.proofs.Deferring.{at_place, at_turn, deferred_codeless, deferred_not_native, kept_is}
 
 -- THE ROW OF SUCH A TURN
 

@@ -4,7 +4,8 @@ use Rattle.et_state.specs.State.{kept_of}
 use Rattle.et_event.specs.Event.{event}
 use Rattle.et_parts.proofs.Answering.{if_ok}
 use Rattle.et_event.specs.Selected.{deferred_call}
-use Rattle.et_builtins.proofs.Deferring.{answered, at_turn, native_exactly, none_deferred}
+use Rattle.et_event.proofs.Deferrals.{answered, native_exactly, none_deferred}
+use Rattle.et_builtins.proofs.Deferring.{at_turn}
 use Rattle.et_calls.proofs.event.calls_event.Goals as goal
 
 pub returns-in-Entry-clause-event : goal.returns-in-Entry-clause-event
