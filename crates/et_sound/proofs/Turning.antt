@@ -1,10 +1,11 @@
 -- The event of a thread that has not ended, by its turn.
-use Rattle.std.proofs.Common.{◌≡◌, ℕ, ◌<◌, ◌^◌, Bool, true, false, List, [], ◌∷◌, length, Option, Some, None, refl, sym, subst, arith}
+use Rattle.std.proofs.Common.{◌≡◌, ℕ, ◌<◌, ◌^◌, Bool, true, false, List, [], ◌∷◌, length, Option, Some, None, Ok, refl, sym, subst, arith}
 use Rattle.std.specs.Prelude.{pos, if◌then◌else◌}
 use Rattle.std.specs.Option.{is_some}
 use Rattle.std.proofs.lemmas.Bool.{false≢true, true≢false}
 use Rattle.et_base.specs.declared.value.Value.TheVariants.{Ref}
 use Rattle.et_code.specs.declared.body.TableRow.{TableRow}
+use Rattle.et_code.specs.declared.instr.Instr.{Instr}
 use Rattle.et_program.specs.Entries.{Linked}
 use Rattle.et_state.specs.declared.stage.Stage.{Stage}
 use Rattle.et_state.specs.declared.stage.Stage.TheVariants.{Plain, Before, Clinit}
@@ -17,7 +18,7 @@ use Rattle.et_state.specs.Outcome.{Outcome}
 use Rattle.et_event.specs.declared.errors.GuestError.TheVariants.{ExceptionInInitializerError}
 use Rattle.et_event.specs.Event.{initializes, does_turn, event}
 use Rattle.et_event.specs.Moments.{Moment, thread_of, current_frame, begins, object_class}
-use Rattle.et_event.specs.Sites.{Site, site_of, running_method, code_of_frame, pool_of_class}
+use Rattle.et_event.specs.Sites.{Site, site_of, decoded_at, running_method, code_of_frame, pool_of_class}
 use Rattle.et_event.specs.Sound.{IsPc, IsStaged, AreSoundFrames, IsSoundFor}
 use Rattle.et_event.specs.Throw.{catches, handler_of, unwound, unwound_clinit, by_handler, unwinds, unwinding_step}
 use Rattle.et_sound.specs.Outcomes.{KeepsSound}
@@ -59,10 +60,10 @@ no_frame (f ∷ fs) e = absurd (true≢false e)
 
 -- A THREAD IN A SOUND STATE
 
-record HasTurn (e : Moment) : Type 0 where
-  sound : IsSoundFor e.program e.before
-  clock : e.before.guest.clock < 2 ^ 40
-  unended : IsUnended e.before.guest e.thread
+pub record HasTurn (e : Moment) : Type 0 where
+  pub sound : IsSoundFor e.program e.before
+  pub clock : e.before.guest.clock < 2 ^ 40
+  pub unended : IsUnended e.before.guest e.thread
 
 framed : (e : Moment) → HasTurn e → has_frame (thread_of e).frames ≡ true → HasFrame e.before.guest e.thread
 framed e is has = record { thread = is.unended.thread; frame = some_frame (thread_of e).frames has }
@@ -100,14 +101,17 @@ stands e at is has runs next =
     let some : RunsSome e.program (current_frame e) = runs_some e.program (current_frame e) (rest_of (thread_of e).frames) runs (frames_are e is has) in
     record { sound = is.sound; clock = is.clock; frame = has; runs = runs; operands = some.runs.operands; next = next some }
 
-instructs : (e : Moment) → IsRunnable e.program → HasTurn e → turn_of (thread_of e) ≡ Instruction → KeepsSound e.program (does_turn e Instruction)
-instructs e may is turn =
+pub stands_at : (e : Moment) → HasTurn e → turn_of (thread_of e) ≡ Instruction → (x : Instr × ℕ) → decoded_at e.program (current_frame e) ≡ Ok x → StandsAt e (site_of e.program (current_frame e) x)
+stands_at e is turn x decoded =
     let p : Linked = e.program in
     let f : FrameState = current_frame e in
     let h = (parts (thread_of e)).instruction turn in
     let has : HasFrame e.before.guest e.thread = framed e is h.0 in
     let runs : f.method ≡ None → ⊥ = runs_by p f f.stage f.method (staged e f.stage is has refl) h.1 in
-    instruction_sound e (λ x decoded. stands e (site_of p f x) is has runs (λ some. next_pc (code_of_frame p f) f.pc x (pc_there p f some) decoded)) may
+    stands e (site_of p f x) is has runs (λ some. next_pc (code_of_frame p f) f.pc x (pc_there p f some) decoded)
+
+instructs : (e : Moment) → IsRunnable e.program → HasTurn e → turn_of (thread_of e) ≡ Instruction → KeepsSound e.program (does_turn e Instruction)
+instructs e may is turn = instruction_sound e (λ x decoded. stands_at e is turn x decoded) may
 
 -- UNWINDING
 

@@ -143,7 +143,7 @@ module _ (e : Moment) (ready : Ready e) where
 module _ (e : Moment) (ready : Ready e) (framed : IsFramed e) where
   -- BUILT-IN METHODS
 
-  answering_comes : (at : Site) (arguments values : List Value) (d : Doing) → Comes e StringsAlone Level d → (IsUnder e d.state → Fines d.state.heap values) → Comes e StringsAlone Level (answering e at arguments values d)
+  pub answering_comes : (at : Site) (arguments values : List Value) (d : Doing) → Comes e StringsAlone Level d → (IsUnder e d.state → Fines d.state.heap values) → Comes e StringsAlone Level (answering e at arguments values d)
   answering_comes at arguments values d h f =
       on_top e ready framed at.next (values ++ drop (length arguments) (current_frame e).operands) d h (λ u.
       fines_append d.state.heap values (drop (length arguments) (current_frame e).operands) (f u) (fines_drop d.state.heap (length arguments) (current_frame e).operands (later_fine e ready framed d.state (current_frame e).operands u (operands_fine e ready framed))))
@@ -323,7 +323,7 @@ module _ (e : Moment) (ready : Ready e) (framed : IsFramed e) where
   named_leads None go h = tt
   named_leads (Some m) go h = type_leads (method_type m.descriptor) (go m) (λ x typed. h m x refl typed)
 
-  arguments_fine : (count : ℕ) → Fines e.before.heap (arguments_of e count)
+  pub arguments_fine : (count : ℕ) → Fines e.before.heap (arguments_of e count)
   arguments_fine count = fines_reverse e.before.heap (take count (current_frame e).operands) (fines_take e.before.heap count (current_frame e).operands (operands_fine e ready framed))
 
   arguments_near : (count : ℕ) → Fines (near e) (arguments_of e count)

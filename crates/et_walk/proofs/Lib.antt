@@ -1,11 +1,11 @@
-mod Values
+pub mod Values
 pub mod Heaps
 mod Taken
 mod Plain
 pub mod WaitingLists
 pub mod Words
 pub mod Monitors
-mod MonitorFrames
+pub mod MonitorFrames
 pub mod Records
 pub mod Recording
 pub mod Given
@@ -28,4 +28,4 @@ pub mod SaysWrites
 pub mod SaysReached
 mod SaysMonitors
 pub mod MonitorRows
-mod SoundStates
+pub mod SoundStates

@@ -249,11 +249,14 @@ as_lists e (outcome.Waits next) h = h
 as_lists e (outcome.IllTyped method pc) h = tt
 as_lists e outcome.ObjectLimit h = tt
 
--- steps of a turn that does no monitor instruction
-pub steps_keep : (e : Moment) → Ready e → monitor_row_at e (turn_of (thread_of e)) ≡ None → (ph : Phase) (d : Doing) → Comes e AllObjects ph d → KeepsMonitors e (goes d) × LeadsLined e (goes d)
-steps_keep e ready none ph d h =
-    let keeps : KeepsSo e (goes d) = subst (λ (r : Option MonitorRow). KeepsBy e r (object_on (current_frame e).operands) (goes d)) (sym none) (by_steps e ready none ph d h) in
+-- a turn that does no monitor instruction, and steps of one
+pub fits_keep : (e : Moment) → monitor_row_at e (turn_of (thread_of e)) ≡ None → (d : Doing) → Fits e d.state → KeepsMonitors e (goes d) × LeadsLined e (goes d)
+fits_keep e none d h =
+    let keeps : KeepsSo e (goes d) = subst (λ (r : Option MonitorRow). KeepsBy e r (object_on (current_frame e).operands) (goes d)) (sym none) h in
     (keeps.moves, keeps.lists)
+
+pub steps_keep : (e : Moment) → Ready e → monitor_row_at e (turn_of (thread_of e)) ≡ None → (ph : Phase) (d : Doing) → Comes e AllObjects ph d → KeepsMonitors e (goes d) × LeadsLined e (goes d)
+steps_keep e ready none ph d h = fits_keep e none d (by_steps e ready none ph d h)
 
 module _ (p : Linked) (s : Kept) (t : ℕ) (sound : IsSoundFor p s) (unended : IsUnended s.guest t) (may : IsRunnable p) where
   abbrev now : Moment

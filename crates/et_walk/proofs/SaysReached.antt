@@ -29,7 +29,7 @@ use Rattle.et_walk.proofs.Recording.{Told}
 use Rattle.et_walk.proofs.SaysRecords.{records_come, under}
 use Rattle.et_walk.proofs.Turns.{event_leads}
 use Rattle.et_walk.proofs.Words.{if_case}
-use Rattle.et_walk.specs.Steps.{AllObjects, Begins, BeginsClass, Catches, ClassBecomes, Comes, CountsEntered, Drops, Ends, EntersClinit, EntersCode, EntersMonitor, GoesOn, Interns, Leads, LeavesMonitor, Level, MakesArray, MakesInstance, MayWrite, Pends, Phase, Polls, Returns, SetsQueue, SetsReferent, Starts, Unwinds, UnwindsClinit, WritesSlot, WritesStatic, own_lock}
+use Rattle.et_walk.specs.Steps.{AllObjects, Begins, BeginsClass, Catches, ClassBecomes, Comes, CountsEntered, Drops, Ends, EntersClinit, EntersCode, EntersMonitor, GoesOn, Interns, IsUnder, Leads, LeavesMonitor, Level, MakesArray, MakesInstance, MayWrite, Pends, Phase, Polls, Returns, SetsQueue, SetsReferent, Starts, Unwinds, UnwindsClinit, WritesSlot, WritesStatic, own_lock}
 use Rattle.et_walk.specs.Writes.{IsAtHand, IsBesideOut, IsOfReached, TellsBesideOut, WritesToReached, is_out_slot}
 use Rattle.std.proofs.Common.{List, None, Option, Some, [], false, inl, inr, refl, subst, ℕ, ◌∷◌, ◌≡◌, ◌⊎◌}
 use Rattle.std.proofs.lemmas.List.Elements.{All-append, All-cons, All-nil, All-weaker}

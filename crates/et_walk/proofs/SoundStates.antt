@@ -14,7 +14,7 @@ use Rattle.et_sound.proofs.Turning.{event_sound}
 use Rattle.et_walk.specs.Changing.{KeepsMonitors, LeadsToSound}
 use Rattle.et_walk.proofs.MonitorRows.{event_keeps_monitors}
 
-leads : (p : Linked) (s : Kept) (t : ℕ) (o : Outcome Kept) → IsSound s → KeepsMonitors (record { program = p; before = s; thread = t }) o → KeepsSound p o → LeadsToSound p o
+pub leads : (p : Linked) (s : Kept) (t : ℕ) (o : Outcome Kept) → IsSound s → KeepsMonitors (record { program = p; before = s; thread = t }) o → KeepsSound p o → LeadsToSound p o
 leads p s t (outcome.Goes next records) held h keeps = keeps h.changes.sound
 leads p s t (outcome.Waits next) held h keeps = keeps (subst (λ (x : Kept). IsSound x) (sym h) (record { room = held.room; none = held.none; roots = held.roots; slots = held.slots; referents = held.referents }))
 leads p s t (outcome.IllTyped method pc) held h keeps = tt
