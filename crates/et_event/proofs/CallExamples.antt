@@ -7,6 +7,7 @@ use Rattle.et_class.specs.Entries.{Item, Constants, slots_of, Text, Name, Pair}
 use Rattle.et_class.specs.PoolTags.TheConstants.{CLASS, FIELDREF, METHODREF, INTERFACE_METHODREF, NAME_AND_TYPE}
 use Rattle.et_code.specs.Bodies.{Body}
 use Rattle.et_code.specs.declared.body.TableRow.{TableRow}
+use Rattle.et_program.specs.BuiltIns.{text_method_in}
 use Rattle.et_program.specs.Entries.{Linked, ClassEntry}
 use Rattle.et_program.specs.declared.info.MethodInfo.{MethodInfo}
 use Rattle.et_program.specs.declared.info.FieldInfo.{FieldInfo}
@@ -254,7 +255,7 @@ abbrev wrk_start : Kept
 wrk_start = kept_of (first_state 7 (Done ∷ Done ∷ Done ∷ Done ∷ Done ∷ Done ∷ Untouched ∷ Done ∷ []) (replicate 1 Unset))
 
 wrk_records : records_by wrk (1 ∷ 2 ∷ 3 ∷ 4 ∷ 5 ∷ 6 ∷ 7 ∷ 8 ∷ 9 ∷ 10 ∷ 11 ∷ 12 ∷ 13 ∷ 14 ∷ 15 ∷ 16 ∷ 17 ∷ 18 ∷ 19 ∷ 20 ∷ 21 ∷ 22 ∷ 23 ∷ 24 ∷ []) wrk_start ≡ Enter 1 0 10 0 ∷ Alloc 2 0 2 6 24 0 ∷ Enter 4 0 7 2 ∷ Exit 7 0 7 ∷ Enter 9 1 8 2 ∷ Enter 10 0 9 0 ∷ Alloc 12 0 3 0 16 0 ∷ Update 14 0 0 0 0 3 ∷ Exit 16 0 9 ∷ Enter 17 1 9 0 ∷ Exit 18 0 10 ∷ Alloc 19 1 4 0 16 0 ∷ Update 21 1 0 0 3 4 ∷ Exit 22 1 9 ∷ Exit 23 1 8 ∷ []
-unfolding int_wrap event row_of form_of instruction_at after_name after_dimensions types_of turn_by after_picks records_by
+unfolding int_wrap event row_of form_of instruction_at after_name after_dimensions types_of turn_by after_picks records_by text_method_in
 wrk_records = refl
 
 -- a weak reference whose object is got again
@@ -297,7 +298,7 @@ abbrev reviving_start : Kept
 reviving_start = kept_of (first_state 7 (Done ∷ Done ∷ Done ∷ Done ∷ Done ∷ Done ∷ Untouched ∷ Done ∷ []) (replicate 0 Unset))
 
 reviving_records : records_by reviving (0 ∷ 0 ∷ 0 ∷ 0 ∷ 0 ∷ 0 ∷ 0 ∷ 0 ∷ 0 ∷ 0 ∷ 0 ∷ 0 ∷ 0 ∷ 0 ∷ 0 ∷ 0 ∷ 0 ∷ []) reviving_start ≡ Enter 1 0 4 0 ∷ Alloc 2 0 2 5 16 0 ∷ Alloc 4 0 3 6 24 0 ∷ Alloc 6 0 4 6 24 0 ∷ Update 7 0 3 0 0 4 ∷ Exit 16 0 4 ∷ []
-unfolding int_wrap event row_of form_of instruction_at after_name after_dimensions types_of turn_by after_picks records_by
+unfolding int_wrap event row_of form_of instruction_at after_name after_dimensions types_of turn_by after_picks records_by text_method_in
 reviving_records = refl
 
 -- a monitor is left that the thread does not own
@@ -415,11 +416,11 @@ abbrev polling_picks : List ℕ
 polling_picks = 0 ∷ 0 ∷ 0 ∷ 0 ∷ 0 ∷ 0 ∷ 0 ∷ 0 ∷ 0 ∷ 0 ∷ 0 ∷ 0 ∷ 0 ∷ []
 
 polling_records : records_by polling polling_picks queues_start ≡ Enter 1 0 7 0 ∷ Alloc 2 0 2 6 16 0 ∷ Alloc 6 0 3 5 16 0 ∷ Alloc 8 0 4 7 16 0 ∷ Update 13 0 0 0 0 0 ∷ []
-unfolding int_wrap event row_of form_of instruction_at after_name after_dimensions types_of turn_by after_picks records_by
+unfolding int_wrap event row_of form_of instruction_at after_name after_dimensions types_of turn_by after_picks records_by text_method_in
 polling_records = refl
 
 polled_records : records_by polling (0 ∷ 0 ∷ 0 ∷ 0 ∷ 0 ∷ 0 ∷ 0 ∷ []) (after_flush_of 4 (after_picks polling polling_picks queues_start)) ≡ Update 16 0 0 0 0 3 ∷ Update 19 0 0 0 3 0 ∷ Exit 20 0 7 ∷ []
-unfolding int_wrap event row_of form_of instruction_at after_name after_dimensions types_of turn_by after_picks records_by
+unfolding int_wrap event row_of form_of instruction_at after_name after_dimensions types_of turn_by after_picks records_by text_method_in
 polled_records = refl
 
 -- a constructor whose queue is no queue: its event has no meaning
@@ -427,7 +428,7 @@ abbrev no_queue : Linked
 no_queue = with_queues (187 ∷ 0 ∷ 12 ∷ 89 ∷ 187 ∷ 0 ∷ 2 ∷ 187 ∷ 0 ∷ 2 ∷ 183 ∷ 0 ∷ 15 ∷ 87 ∷ 177 ∷ [])
 
 no_queue_ends : event no_queue (after_picks no_queue (0 ∷ 0 ∷ 0 ∷ 0 ∷ 0 ∷ []) queues_start) 0 ≡ IllTyped 7 10
-unfolding int_wrap event row_of form_of instruction_at after_name after_dimensions types_of turn_by after_picks records_by
+unfolding int_wrap event row_of form_of instruction_at after_name after_dimensions types_of turn_by after_picks records_by text_method_in
 no_queue_ends = refl
 
 -- .. also where the constructor is that of WeakReference, and the class that is named lacks it: nothing is selected before
@@ -435,5 +436,5 @@ abbrev no_queue_below : Linked
 no_queue_below = with_queues (187 ∷ 0 ∷ 25 ∷ 1 ∷ 187 ∷ 0 ∷ 2 ∷ 183 ∷ 0 ∷ 26 ∷ 177 ∷ [])
 
 no_queue_below_ends : event no_queue_below (after_picks no_queue_below (0 ∷ 0 ∷ 0 ∷ 0 ∷ []) queues_start) 0 ≡ IllTyped 7 7
-unfolding int_wrap event row_of form_of instruction_at after_name after_dimensions types_of turn_by after_picks records_by
+unfolding int_wrap event row_of form_of instruction_at after_name after_dimensions types_of turn_by after_picks records_by text_method_in
 no_queue_below_ends = refl
