@@ -11,5 +11,5 @@ classes-preserved c =
     let fields = boot_fields c.args.statics in
     c.in_ok-add_boot_fields.ensures
     ∙ (ap (λ l. l ++ fields c.in_ok-class.class (shown c.boot.result)) c.classes.invariant
-    ∙ (append_assoc c.args.list.old.items _ _
-    ∙ ap (λ l. c.args.list.old.items ++ l) (sym (numbered_more fields 0 boots c.classes.i no_boot_class (shown c.boot.result) c.in_ok-class.class (omega arith) c.boot.ensures (omega arith)))))
+    ∙ (append_assoc c.args.list.now.items _ _
+    ∙ ap (λ l. c.args.list.now.items ++ l) (sym (numbered_more fields 0 boots c.classes.i no_boot_class (shown c.boot.result) c.in_ok-class.class (omega arith) c.boot.ensures (omega arith)))))
