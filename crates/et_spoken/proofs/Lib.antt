@@ -1,0 +1,9 @@
+pub mod Called
+mod Read
+mod Rooms
+pub mod Rows
+pub mod Out
+mod Sounding
+pub mod Events
+pub mod Writing
+mod TextsStay
