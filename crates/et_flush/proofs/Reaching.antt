@@ -1,10 +1,11 @@
 -- What the times of a flush tell.
-use Rattle.std.proofs.Common.{◌≡◌, ℕ, suc, ◌+◌, ◌<◌, ◌≤◌, ◌↔◌, Bool, true, false, List, [], ◌∷◌, ◌++◌, length, get_or, All, Option, Some, None, refl, sym, ◌∙◌, ap, subst, inl, inr, arith, true≢false}
+use Rattle.std.proofs.Common.{◌≡◌, ℕ, suc, ◌+◌, ◌<◌, ◌≤◌, ◌↔◌, Bool, true, false, List, [], ◌∷◌, ◌++◌, length, map, get_or, All, Option, Some, None, refl, sym, ◌∙◌, ap, subst, inl, inr, arith, true≢false}
 use Rattle.std.specs.Prelude.{if◌then◌else◌, not, ◌&&◌}
 use Rattle.std.proofs.lemmas.Bool.{cases_Bool, leb-true, le-leb}
 use Rattle.std.proofs.lemmas.List.{length-append}
 use Rattle.std.proofs.lemmas.List.Sums.{sum_by-cons}
-use Rattle.et_graph.specs.Graph.{IsReached, IsDead}
+use Rattle.et_graph.specs.Graph.{IsReached, IsDead, AreDead}
+use Rattle.et_graph.proofs.Deaths.{map_first, first_map}
 use Rattle.et_graph.proofs.Walks.{cases_reached}
 use Rattle.et_heap.specs.Objects.{ObjectState, Objects, IsHeld, is_there, found, object_at, held_count, ones_in}
 use Rattle.et_heap.specs.Remaining.{is_cleared, kept_referent, left_place, remaining}
@@ -63,6 +64,16 @@ module _ (heap : Objects) (roots stamps : List ℕ) (time : ℕ → ℕ) (none :
           let most = greatest.greatest most_is.source.0 most_is.source.1 most_is.source.2 in
           let same : time o ≡ t = omega (arith, least, most, greatest.source.3, most_is.source.3) in
           (are.exact o t).1 (held, same, omega (arith, same, unreached_below o held dead.1)),
+    );
+  }
+
+  -- .. and these are all the dead objects
+  pub below_dead : (deaths : List (ℕ × ℕ)) → AreDyingIn heap time deaths → AreDead (heap_graph heap roots) (map (λ d. d.0) deaths)
+  below_dead deaths are = record {
+    rising = are.rising;
+    exact = λ o. (
+      λ c. let at = first_map deaths o c in (((below_listed deaths are).exact o at.0).0 at.1).0,
+      λ dead. map_first deaths o (time o) ((are.exact o (time o)).1 (dead_held o dead, refl, unreached_below o (dead_held o dead) dead.1)),
     );
   }
 

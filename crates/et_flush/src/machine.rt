@@ -1,6 +1,6 @@
 //! The flush of a machine.
-ghost use Rattle.std.specs.Prelude.{◌≡◌, ℕ, ◌+◌, ◌*◌, ◌<◌, ◌≤◌, ◌↔◌, true, Bool, length, slice_index, OnOk, OnErr};
-ghost use Rattle.et_graph.specs.Graph.{IsReached};
+ghost use Rattle.std.specs.Prelude.{◌≡◌, ℕ, ◌+◌, ◌*◌, ◌<◌, ◌≤◌, ◌↔◌, true, Bool, length, map, slice_index, OnOk, OnErr};
+ghost use Rattle.et_graph.specs.Graph.{AreDead, IsReached};
 ghost use Rattle.et_heap.specs.Objects.{IsHeld, held_count};
 ghost use Rattle.et_state.specs.State.{kept_of};
 ghost use Rattle.et_state.specs.Enqueuing.{flushed_heap};
@@ -30,6 +30,8 @@ pub fn flush_machine<L: Ledger>(
     requires stamps { length machine.old.heap ≤ length stamps.now }
     ensures deaths { OnOk result
         (AreListed (graph_of (kept_of machine.old)) (slice_index stamps.now) room.new.deaths) }
+    ensures dead { OnOk result
+        (AreDead (graph_of (kept_of machine.old)) (map (λ d. d.0) room.new.deaths)) }
     ensures machine { (here : ℕ → Bool) → ((o : ℕ) → IsHeld machine.old.heap o →
         (here o ≡ true) ↔ IsReached (graph_of (kept_of machine.old)) o) → OnOk result
         (machine.new ≡ record machine.old { heap = flushed_heap here machine.old.heap }) }

@@ -1,6 +1,6 @@
 //! The room of a flush, and the flush.
 ghost use Rattle.std.specs.Prelude.{◌≡◌, ℕ, ◌+◌, ◌*◌, ◌<◌, ◌≤◌, ◌↔◌, true, Bool, length, map, slice_index, Contains, OnOk, OnErr, Some};
-ghost use Rattle.et_graph.specs.Graph.{IsReached};
+ghost use Rattle.et_graph.specs.Graph.{AreDead, IsReached};
 ghost use Rattle.et_heap.specs.Objects.{IsHeld, object_at, made_count, held_count};
 ghost use Rattle.et_graph.specs.Listed.{AreListed};
 ghost use Rattle.et_state.specs.Enqueuing.{flushed_heap};
@@ -124,6 +124,8 @@ impl FlushRoom {
         requires places { held_count heap.old ≤ self.old.places }
         ensures deaths { AreListed
             (heap_graph heap.old roots.now) (slice_index stamps.now) self.new.deaths }
+        ensures dead { AreDead
+            (heap_graph heap.old roots.now) (map (λ d. d.0) self.new.deaths) }
         ensures heap { (here : ℕ → Bool) → ((o : ℕ) → IsHeld heap.old o → (here o ≡ true)
             ↔ IsReached (heap_graph heap.old roots.now) o) → heap.new ≡ flushed_heap here heap.old }
         ensures visits { (here : ℕ → Bool) → ((o : ℕ) →
@@ -175,6 +177,7 @@ pub fn flush<L: Ledger>(
     requires places { held_count heap.old ≤ room.old.places }
     ensures deaths { AreListed
         (heap_graph heap.old roots.now) (slice_index stamps.now) room.new.deaths }
+    ensures dead { AreDead (heap_graph heap.old roots.now) (map (λ d. d.0) room.new.deaths) }
     ensures count { result ≡ length room.new.deaths }
     ensures heap { (here : ℕ → Bool) → ((o : ℕ) → IsHeld heap.old o → (here o ≡ true)
         ↔ IsReached (heap_graph heap.old roots.now) o) → heap.new ≡ flushed_heap here heap.old }

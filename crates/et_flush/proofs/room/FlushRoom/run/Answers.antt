@@ -13,7 +13,7 @@ use Rattle.et_flush.specs.Rooms.{Room}
 use Rattle.et_flush.specs.Flushes.{heap_graph, cleared_references, all_enqueued}
 use Rattle.et_flush.proofs.Working.{places_least}
 use Rattle.et_flush.proofs.Holding.{all_counted}
-use Rattle.et_flush.proofs.Reaching.{below_listed, now_reached, tests_same, remaining_same, cleared_same, visits_bound}
+use Rattle.et_flush.proofs.Reaching.{below_listed, below_dead, now_reached, tests_same, remaining_same, cleared_same, visits_bound}
 use Rattle.et_flush.proofs.Arriving.{enqueued_is_flushed}
 use Rattle.et_flush.proofs.Tying.{remaining_pairs, cleared_remain}
 use Rattle.et_state.proofs.UnderWay.{queue_pair}
@@ -64,6 +64,9 @@ settled_after g c =
 
 pub returns-clause-deaths : goal.returns-clause-deaths
 returns-clause-deaths g c = below_listed c.args.heap.now c.args.roots.now c.args.stamps.now (time_of c.find_deaths.new.work.ranks c.find_deaths.new.work.times.items) c.requires.none c.requires.stamps (stamps_below c.as_slice-2.result.now c.args.stamps.now c.as_slice-2.ensures.value c.as_slice-2.ensures.events) (settled_after g c) (death_pairs c.find_deaths.new.work.deaths.items) c.find_deaths.ensures.deaths
+
+pub returns-clause-dead : goal.returns-clause-dead
+returns-clause-dead g c = below_dead c.args.heap.now c.args.roots.now c.args.stamps.now (time_of c.find_deaths.new.work.ranks c.find_deaths.new.work.times.items) c.requires.none c.requires.stamps (stamps_below c.as_slice-2.result.now c.args.stamps.now c.as_slice-2.ensures.value c.as_slice-2.ensures.events) (settled_after g c) (death_pairs c.find_deaths.new.work.deaths.items) c.find_deaths.ensures.deaths
 
 -- a test that says what is reached says what is reached now
 same : (g : given.Over) (c : goal.After-enqueue_all g) (here : ℕ → Bool) → ((o : ℕ) → IsHeld c.args.heap.now o → (here o ≡ true) ↔ IsReached (heap_graph c.args.heap.now c.args.roots.now) o) → (o : ℕ) → IsHeld c.args.heap.now o → is_now (time_of c.find_deaths.new.work.ranks c.find_deaths.new.work.times.items) o ≡ here o
