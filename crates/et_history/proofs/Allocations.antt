@@ -27,7 +27,7 @@ use Rattle.et_state.proofs.Enqueued.{length-flushed, joined_now}
 use Rattle.et_program.specs.Entries.{Linked, class_at}
 use Rattle.et_program.specs.declared.info.Element.{Element}
 use Rattle.et_program.specs.declared.info.Element.TheVariants.{NoArray, Base, Class}
-use Rattle.et_event.specs.Event.{event}
+use Rattle.et_event.specs.Told.{event_with_texts}
 use Rattle.et_event.specs.Kinds.{is_array_element}
 use Rattle.et_event.specs.Moments.{array_size, element_width}
 use Rattle.et_event.specs.Start.{start_records}
@@ -42,7 +42,7 @@ use Rattle.et_history.proofs.Alike.{is_open}
 use Rattle.et_history.proofs.Wholes.{all_match, settled_match, go_on, flushed_here, picked_unended}
 use Rattle.et_walk.proofs.Words.{if_case}
 use Rattle.et_walk.proofs.Records.{alike_itself, alike_then, same_size}
-use Rattle.et_walk.proofs.SaysRecords.{event_tells}
+use Rattle.et_spoken.proofs.Events.{event_tells_objects as event_tells}
 
 -- LINES
 
@@ -241,7 +241,7 @@ module _ (reached : Graph → ℕ → Bool) (p : Linked) (options : Options) (pi
   turn e = history.picked_turn (picked p options pick) (suc e) (settled e).kept
 
   abbrev step : ℕ → Outcome Kept
-  step e = event p (settled e).kept (turn e)
+  step e = event_with_texts p (settled e).kept (turn e)
 
   fewer : (e : ℕ) → Before (suc e) → Before e
   fewer e goes k lt = goes k (omega (arith, lt))

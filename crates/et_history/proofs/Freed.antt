@@ -16,7 +16,7 @@ use Rattle.et_state.specs.Start.{start}
 use Rattle.et_state.specs.State.{State, Kept}
 use Rattle.et_state.specs.declared.options.Options.{Options}
 use Rattle.et_program.specs.Entries.{Linked}
-use Rattle.et_event.specs.Event.{event}
+use Rattle.et_event.specs.Told.{event_with_texts}
 use Rattle.et_walk.specs.Changing.{KeepsMonitors}
 use Rattle.et_history.specs.Histories.{picked, HistoryGoesOn, WholeGoesOn, whole_at, whole_settled_at}
 use Rattle.et_history.specs.Same.{IsHere, IsReportedAs}
@@ -130,13 +130,13 @@ module _ (reached : Graph → ℕ → Bool) (p : Linked) (options : Options) (pi
       let t : State = settled e in
       let on = is_open (length (unended_threads t.kept) == 0) (e == options.limit) _ _ _ (subst (λ (x : Kept). ending (picked p options pick) e x ≡ None) (sym m.0) (goes e (omega arith))) in
       let k : ℕ = history.picked_turn (picked p options pick) (suc e) t.kept in
-      after_here p t k (event p t.kept k) (keeps_at reached p options pick decides run are e t k m.1 (record { some = on.some; within = on.within; thread_is = refl })) o (settled_here e o before h)
+      after_here p t k (event_with_texts p t.kept k) (keeps_at reached p options pick decides run are e t k m.1 (record { some = on.some; within = on.within; thread_is = refl })) o (settled_here e o before h)
 
   next_as : (e o : ℕ) (x : ObjectState) → Before (suc e) → IsReportedAs (now e) o x → IsReportedAs (now (suc e)) o x
   unfolding left_by
   next_as e o x goes h =
       let t : State = settled e in
-      after_as t (event p t.kept (history.picked_turn (picked p options pick) (suc e) t.kept)) o x (settled_as e o x (λ k lt. goes k (omega (arith, lt))) h)
+      after_as t (event_with_texts p t.kept (history.picked_turn (picked p options pick) (suc e) t.kept)) o x (settled_as e o x (λ k lt. goes k (omega (arith, lt))) h)
 
   stays_here : (e n o : ℕ) → Before (e + n) → IsHere (now e) o → IsHere (now (e + n)) o
   stays_here e zero o goes h = subst (λ (k : ℕ). IsHere (now k) o) (none_more e) h

@@ -12,7 +12,7 @@ use Rattle.et_state.proofs.Enqueued.{length-flushed, flushed_held, flushed_same}
 use Rattle.et_state.specs.declared.options.Options.{Options}
 use Rattle.et_state.specs.Options.{AreOptions}
 use Rattle.et_state.specs.History.{left_by, is_flush_point}
-use Rattle.et_event.specs.Event.{event}
+use Rattle.et_event.specs.Told.{event_with_texts}
 use Rattle.et_event.specs.Moments.{Moment}
 use Rattle.et_event.specs.Monitors.{Lock, OfObject, OfClass}
 use Rattle.et_event.specs.Sound.{IsSoundMonitor, IsSoundFor}
@@ -101,7 +101,7 @@ module _ (reached : Graph → ℕ → Bool) (p : Linked) (options : Options) (pi
   unfolding left_by times_held
   next_excludes e lock n h =
       let m : Moment = moment_at reached p options pick e in
-      excludes_event m (event p (settled_at reached p options pick e) m.thread) lock (times lock e) m.thread n.keeps (λ there. (monitor_sound (settled_at reached p options pick e) p lock n.sound there).owned.1) n.done (settled_excludes e lock h)
+      excludes_event m (event_with_texts p (settled_at reached p options pick e) m.thread) lock (times lock e) m.thread n.keeps (λ there. (monitor_sound (settled_at reached p options pick e) p lock n.sound there).owned.1) n.done (settled_excludes e lock h)
 
   pub all_exclude : (e : ℕ) (lock : Lock) → ((k : ℕ) → k < e → HistoryGoesOn reached p options pick k) → Excludes (state_at reached p options pick e) lock (times lock e)
   all_exclude zero lock goes = first_excludes lock

@@ -7,6 +7,7 @@ pub mod Reporting
 mod Deaths
 mod Slots
 mod FlushedLists
+mod FlushedTexts
 mod Waits
 mod Histories
 mod NewStrings
@@ -14,6 +15,7 @@ mod NewArrays
 mod NewWays
 mod NewRows
 mod NewTurns
+mod NewTexts
 mod Reached
 mod Allocations
 mod LinkedSizes

@@ -54,13 +54,13 @@ Starts e = e.thread < length e.before.guest.threads
 pub on_top : (e : Moment) (pc : ℕ) (ops : List Value) (d : Doing) → OfStrings e d.state → OfStrings e (with_frame e (record (current_frame e) { pc = pc; operands = ops }) d).state
 on_top e pc ops d h = top_strings e (record (current_frame e) { pc = pc; operands = ops }) d h
 
-leaving_strings : (e : Moment) (at : Site) (ops : List Value) (d : Doing) → OfStrings e d.state → OfStrings e (leaving_values e at ops d).state
+pub leaving_strings : (e : Moment) (at : Site) (ops : List Value) (d : Doing) → OfStrings e d.state → OfStrings e (leaving_values e at ops d).state
 leaving_strings e at ops d h = on_top e at.next ops d h
 
-done_new : (e : Moment) (at : Site) (ops : List Value) → Starts e → New e (goes (leaving_values e at ops (begins e)))
+pub done_new : (e : Moment) (at : Site) (ops : List Value) → Starts e → New e (goes (leaving_values e at ops (begins e)))
 done_new e at ops here = goes_new e (leaving_values e at ops (begins e)) (leaving_strings e at ops (begins e) (first e here))
 
-ended_new : (e : Moment) (at : Site) (ops : List Value) (d : Doing) → OfStrings e d.state → New e (ends_event (leaving_values e at ops d))
+pub ended_new : (e : Moment) (at : Site) (ops : List Value) (d : Doing) → OfStrings e d.state → New e (ends_event (leaving_values e at ops d))
 ended_new e at ops d h = ends_new e (leaving_values e at ops d) (leaving_strings e at ops d h)
 
 written_new : (e : Moment) (at : Site) (o i : ℕ) (v : Value) (ops : List Value) → Starts e → New e (goes (slot_written e o i v (leaving_values e at ops (begins e))))
@@ -159,7 +159,7 @@ array_length_new e at here =
 
 -- MAKING: what is made stands on top of the operands
 
-on_top_reached : (e : Moment) (at : Site) (o : ℕ) (ops : List Value) (d : Doing) → e.thread < length d.state.guest.threads → IsReached (graph_of (leaving_values e at (Ref o ∷ ops) d).state) o
+pub on_top_reached : (e : Moment) (at : Site) (o : ℕ) (ops : List Value) (d : Doing) → e.thread < length d.state.guest.threads → IsReached (graph_of (leaving_values e at (Ref o ∷ ops) d).state) o
 on_top_reached e at o ops d lt =
     let f : FrameState = record (current_frame e) { pc = at.next; operands = Ref o ∷ ops } in
     root_is_reached (leaving_values e at (Ref o ∷ ops) d).state o (with_top_root d.state.guest e.thread f o lt (operand_root f 0 o (omega arith) (Contains-here o [])))

@@ -18,7 +18,7 @@ use Rattle.et_state.proofs.Places.{ended_root}
 use Rattle.et_state.proofs.UnderWay.{root_is_reached}
 use Rattle.et_state.proofs.Enqueued.{length-flushed}
 use Rattle.et_program.specs.Entries.{Linked}
-use Rattle.et_event.specs.Event.{event}
+use Rattle.et_event.specs.Told.{event_with_texts}
 use Rattle.et_event.specs.Start.{start_records}
 use Rattle.et_loop.proofs.Dates.{deaths_in}
 use Rattle.et_history.specs.Histories.{whole_picked, whole_at, whole_settled_at, WholeGoesOn}
@@ -28,7 +28,7 @@ use Rattle.et_history.specs.Whole.{beside, whole_flushed, whole_start}
 use Rattle.et_history.proofs.Alike.{is_open}
 use Rattle.et_history.proofs.Wholes.{reached_all, is_now, picked_unended}
 use Rattle.et_walk.proofs.Words.{if_case}
-use Rattle.et_history.proofs.NewTurns.{event_reaches}
+use Rattle.et_history.proofs.NewTexts.{event_with_texts_reaches as event_reaches}
 
 -- AN EVENT
 
@@ -71,11 +71,11 @@ module _ (reached : Graph → ℕ → Bool) (p : Linked) (options : Options) (pi
       let on = is_open (length (unended_threads t.kept) == 0) (e == options.limit) _ _ _ goes in
       let k : ℕ = history.picked_turn (whole_picked p options pick) (suc e) t in
       let unended : IsUnended t.kept.guest k = picked_unended t.kept (pick (suc e)) on.some in
-      let after : State = state_after t (beside t.reported (event p t.kept k)) in
+      let after : State = state_after t (beside t.reported (event_with_texts p t.kept k)) in
       let len : length t.kept.heap ≡ length (now e).kept.heap = settled_length e in
       let le : length t.kept.heap ≤ o = omega (arith, above, len) in
       let lt : o < length after.kept.heap = omega (arith, above, within) in
-      is_now (reached (graph after) o) ((decides (graph after) o).1 (after_reached t (event p t.kept k) (event_reaches p t.kept k unended.thread) o le lt))
+      is_now (reached (graph after) o) ((decides (graph after) o).1 (after_reached t (event_with_texts p t.kept k) (event_reaches p t.kept k unended.thread) o le lt))
 
   pub made_then : Decides reached → (e n o : ℕ) → suc e ≡ n → WholeGoesOn reached p options pick e → (graph (now e)).made < o → o ≤ (graph (now n)).made → IsNow n o true
   made_then decides e n o is goes above = subst (λ (k : ℕ). o ≤ (graph (now k)).made → IsNow k o true) is (made_reached decides e o goes above)

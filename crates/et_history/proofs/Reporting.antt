@@ -13,7 +13,7 @@ use Rattle.et_state.specs.Past.{first_of, reporting}
 use Rattle.et_state.specs.Roots.{graph}
 use Rattle.et_state.specs.State.{State, Kept}
 use Rattle.et_state.specs.declared.options.Options.{Options}
-use Rattle.et_event.specs.Event.{event}
+use Rattle.et_event.specs.Told.{event_with_texts}
 use Rattle.et_history.specs.Histories.{whole_picked, whole_at, whole_settled_at}
 use Rattle.et_history.specs.Same.{IsReportedAs}
 use Rattle.et_history.specs.Whole.{beside, cleared, whole_flushed}
@@ -135,7 +135,7 @@ module _ (reached : Graph → ℕ → Bool) (p : Linked) (options : Options) (pi
   unfolding left_by
   reported_next f =
       let t : State = whole_settled_at reached p options pick f in
-      after_reported t (event p t.kept (history.picked_turn (whole_picked p options pick) (suc f) t))
+      after_reported t (event_with_texts p t.kept (history.picked_turn (whole_picked p options pick) (suc f) t))
 
   reported_first : (o : ℕ) → IsHeld (now 0).reported o → ⊥
   unfolding left_by

@@ -25,16 +25,16 @@ use Rattle.et_state.specs.declared.records.Record.{Record}
 use Rattle.et_state.specs.declared.records.Record.TheVariants.{Alloc, Update, Enter, Exit, Unwind}
 use Rattle.et_state.proofs.Enqueued.{length-flushed, flushed_held, flushed_same}
 use Rattle.et_state.proofs.UnderWay.{sound_graph}
-use Rattle.et_event.specs.Event.{event}
+use Rattle.et_event.specs.Told.{event_with_texts}
 use Rattle.et_event.specs.Moments.{number_of_value}
 use Rattle.et_event.specs.Sound.{IsSoundFor}
 use Rattle.et_event.specs.Start.{start_records}
 use Rattle.et_walk.specs.Changing.{KeepsMonitors}
 use Rattle.et_walk.specs.Records.{AreRecordsOf, HasPlainStrings, TellsObjects, next_after}
-use Rattle.et_walk.specs.Writes.{HasCause, IsAtHand, IsOfReached, TellWrites, TellsWrites, WritesToReached, after_record, reference_at}
-use Rattle.et_walk.proofs.SaysReached.{event_writes_to_reached}
-use Rattle.et_walk.proofs.SaysRecords.{event_tells}
-use Rattle.et_walk.proofs.SaysWrites.{event_tells_writes}
+use Rattle.et_walk.specs.Writes.{HasCause, IsAtHand, IsOfReached, TellWrites, WritesToReached, after_record, is_out_slot, reference_at}
+use Rattle.et_spoken.specs.Writing.{TellsOtherWrites, reference_told}
+use Rattle.et_spoken.proofs.Events.{event_tells_objects as event_tells, event_writes_to_what_is_reached as event_writes_to_reached}
+use Rattle.et_spoken.proofs.Writing.{event_tells_other_writes, told_is, told_there}
 use Rattle.et_walk.proofs.Words.{if_case}
 use Rattle.et_history.specs.Histories.{picked, WholeGoesOn, whole_at, whole_picked, whole_settled_at}
 use Rattle.et_history.specs.Settings.{IsSoundRun, unended_threads}
@@ -116,6 +116,10 @@ by_object b x y z same = ap (λ (n : ℕ). if b then x else n) same
 same_reference : (g : GuestState) (h h' : Objects) (o i : ℕ) → number_at h' o i ≡ number_at h o i → reference_at (record { heap = h'; guest = g }) o i ≡ reference_at (record { heap = h; guest = g }) o i
 same_reference g h h' o i same = by_object (o == 0) (number_of_value (static_at g i)) (number_at h' o i) (number_at h o i) same
 
+-- .. as records tell them
+same_told : (p : Linked) (s s' : Kept) (o i : ℕ) → reference_at s' o i ≡ reference_at s o i → reference_told p s' o i ≡ reference_told p s o i
+same_told p s s' o i same = by_object ((o == 0) && is_out_slot p i) 0 (reference_at s' o i) (reference_at s o i) same
+
 -- A FLUSH changes no slot
 flushed_reference : (here : ℕ → Bool) (s : State) (o i : ℕ) → IsPlace (whole_flushed here s).kept o → reference_at (whole_flushed here s).kept o i ≡ reference_at s.kept o i
 flushed_reference here s o i (inl none) = subst (λ (k : ℕ). reference_at (whole_flushed here s).kept k i ≡ reference_at s.kept k i) (sym none) refl
@@ -144,11 +148,11 @@ was_place p t k (outcome.Waits next) o keeps place = subst (λ (s : Kept). IsPla
 was_place p t k (outcome.IllTyped method pc) o keeps place = place
 was_place p t k outcome.ObjectLimit o keeps place = place
 
-event_tells_there : (t : State) (x : Outcome Kept) (f : ℕ → ℕ → ℕ) (o i : ℕ) → TellsWrites t.kept x → f o i ≡ reference_at t.kept o i → after_records f (records t x) o i ≡ reference_at (after t x).kept o i
-event_tells_there t (outcome.Goes next rs) f o i tells same = tells_there f (reference_at t.kept) (reference_at next) rs o i same tells
-event_tells_there t (outcome.Waits next) f o i tells same = same ∙ sym (tells o i)
-event_tells_there t (outcome.IllTyped method pc) f o i tells same = same
-event_tells_there t outcome.ObjectLimit f o i tells same = same
+event_tells_there : (p : Linked) (t : State) (x : Outcome Kept) (f : ℕ → ℕ → ℕ) (o i : ℕ) → TellsOtherWrites p t.kept x → f o i ≡ reference_told p t.kept o i → after_records f (records t x) o i ≡ reference_told p (after t x).kept o i
+event_tells_there p t (outcome.Goes next rs) f o i tells same = tells_there f (reference_told p t.kept) (reference_told p next) rs o i same tells
+event_tells_there p t (outcome.Waits next) f o i tells same = same ∙ sym (tells o i)
+event_tells_there p t (outcome.IllTyped method pc) f o i tells same = same
+event_tells_there p t outcome.ObjectLimit f o i tells same = same
 
 event_elsewhere : (t : State) (x : Outcome Kept) (f : ℕ → ℕ → ℕ) (o i : ℕ) → WritesToReached t.kept x → 0 < o → (IsAtHand t.kept o → ⊥) → after_records f (records t x) o i ≡ f o i
 event_elsewhere t (outcome.Goes next rs) f o i all some out = all_elsewhere t.kept o i some out f rs all
@@ -178,9 +182,10 @@ both_none : (b : Bool) (x y : ℕ) → x ≡ 0 → y ≡ 0 → (if b then x else
 both_none true x y none other = none
 both_none false x y none other = other
 
-start_empty : (p : Linked) (o i : ℕ) → reference_at (start p) o i ≡ 0
+start_empty : (p : Linked) (o i : ℕ) → reference_told p (start p) o i ≡ 0
 start_empty p o i =
-    both_none (o == 0) (number_of_value (static_at (start p).guest i)) (number_at (start p).heap o i) (ap (λ (v : Value). number_of_value v) (no_static (length p.statics) i)) (start_slot p o i)
+    both_none ((o == 0) && is_out_slot p i) 0 (reference_at (start p) o i) refl
+    (both_none (o == 0) (number_of_value (static_at (start p).guest i)) (number_at (start p).heap o i) (ap (λ (v : Value). number_of_value v) (no_static (length p.statics) i)) (start_slot p o i))
 
 -- an object that is reached and made is held
 reached_is_held : (s : Kept) (p : Linked) (o : ℕ) → IsSoundFor p s → 0 < o → o < length s.heap → IsReached (graph_of s) o → IsHeld s.heap o
@@ -205,7 +210,7 @@ module _ (reached : Graph → ℕ → Bool) (p : Linked) (options : Options) (pi
   turn e = history.picked_turn (picked p options pick) (suc e) (settled e).kept
 
   abbrev step : ℕ → Outcome Kept
-  step e = event p (settled e).kept (turn e)
+  step e = event_with_texts p (settled e).kept (turn e)
 
   abbrev told : ℕ → (object slot : ℕ) → ℕ
   told e = told_by reached (whole_picked p options pick) (whole_start p) (start_records p) e
@@ -228,10 +233,11 @@ module _ (reached : Graph → ℕ → Bool) (p : Linked) (options : Options) (pi
       let on = is_open (length (unended_threads t.kept) == 0) (e == options.limit) _ _ _ (goes e (omega arith)) in
       keeps_at reached p options pick decides run are e t (turn e) (stands_at e (fewer e goes)) (record { some = on.some; within = on.within; thread_is = refl })
 
-  settled_reference : (e o i : ℕ) → IsPlace (settled e).kept o → reference_at (settled e).kept o i ≡ reference_at (now e).kept o i
+  settled_reference : (e o i : ℕ) → IsPlace (settled e).kept o → reference_told p (settled e).kept o i ≡ reference_told p (now e).kept o i
   settled_reference e o i =
       let here : ℕ → Bool = reached (graph (now e)) in
-      if_case (λ (s : State). IsPlace s.kept o → reference_at s.kept o i ≡ reference_at (now e).kept o i) (is_flush_point options.interval e) (whole_flushed here (now e)) (now e) (flushed_reference here (now e) o i) (λ place. refl)
+      if_case (λ (s : State). IsPlace s.kept o → reference_told p s.kept o i ≡ reference_told p (now e).kept o i) (is_flush_point options.interval e) (whole_flushed here (now e)) (now e)
+      (λ place. same_told p (now e).kept (whole_flushed here (now e)).kept o i (flushed_reference here (now e) o i place)) (λ place. refl)
 
   settled_place : (e o : ℕ) → IsPlace (settled e).kept o → IsPlace (now e).kept o
   settled_place e o =
@@ -258,18 +264,22 @@ module _ (reached : Graph → ℕ → Bool) (p : Linked) (options : Options) (pi
   told_next e o i = refl
 
   module _ (plain : HasPlainStrings p) (cause : HasCause p) where
-    all_told : (e : ℕ) → Before e → (o i : ℕ) → IsPlace (now e).kept o → told e o i ≡ reference_at (now e).kept o i
+    all_told : (e : ℕ) → Before e → (o i : ℕ) → IsPlace (now e).kept o → told e o i ≡ reference_told p (now e).kept o i
     unfolding told_by left_by
     all_told zero goes o i place = sym (start_empty p o i)
     all_told (suc e) goes o i place =
         let t : State = settled e in
         let was : IsPlace t.kept o = was_place p t (turn e) (step e) o (keeps e goes) place in
-        let before : told e o i ≡ reference_at t.kept o i = all_told e (fewer e goes) o i (settled_place e o was) ∙ sym (settled_reference e o i was) in
-        event_tells_there t (step e) (told e) o i (event_tells_writes p t.kept (turn e) (stands_at e (fewer e goes)).state (unended_at e goes) run.runnable plain cause) before
+        let before : told e o i ≡ reference_told p t.kept o i = all_told e (fewer e goes) o i (settled_place e o was) ∙ sym (settled_reference e o i was) in
+        event_tells_there p t (step e) (told e) o i (event_tells_other_writes p t.kept (turn e) (stands_at e (fewer e goes)).state (unended_at e goes) run.runnable plain cause) before
 
-    pub slots_told : (e o i : ℕ) → Before e → (o ≡ 0) ⊎ IsHeld (now e).kept.heap o → told e o i ≡ reference_at (now e).kept o i
-    slots_told e o i goes (inl none) = all_told e goes o i (inl none)
-    slots_told e o i goes (inr held) = all_told e goes o i (inr (inl held))
+    pub slots_told : (e o i : ℕ) → Before e → (o ≡ 0) ⊎ IsHeld (now e).kept.heap o → (o ≡ 0 → is_out_slot p i ≡ false) → told e o i ≡ reference_at (now e).kept o i
+    slots_told e o i goes (inl none) other = all_told e goes o i (inl none) ∙ told_is p (reference_at (now e).kept) o i (told_there p o i other)
+    slots_told e o i goes (inr held) other = all_told e goes o i (inr (inl held)) ∙ told_is p (reference_at (now e).kept) o i (told_there p o i other)
+
+    -- .. and nothing of System.out
+    pub out_told : (e i : ℕ) → Before e → is_out_slot p i ≡ true → told e 0 i ≡ 0
+    out_told e i goes is = all_told e goes 0 i (inl refl) ∙ ap (λ (b : Bool). if b then 0 else reference_at (now e).kept 0 i) is
 
   pub records_are_of : HasPlainStrings p → (e : ℕ) → Before e → All (IsOfEvent e) (records_at reached (whole_picked p options pick) (whole_start p) (start_records p) e)
   records_are_of plain zero goes = All-cons (IsOfEvent 0) _ [] refl (All-nil (IsOfEvent 0))

@@ -19,14 +19,15 @@ use Rattle.et_state.specs.State.{State, Kept}
 use Rattle.et_state.specs.declared.options.Options.{Options}
 use Rattle.et_state.proofs.UnderWay.{lead_pair, reached_by_pair}
 use Rattle.et_program.specs.Entries.{Linked}
-use Rattle.et_event.specs.Event.{event}
+use Rattle.et_event.specs.Told.{event_with_texts}
 use Rattle.et_history.specs.Allocations.{object_in}
 use Rattle.et_history.specs.Histories.{picked, WholeGoesOn, whole_at, whole_settled_at}
 use Rattle.et_history.specs.Settings.{IsSoundRun, unended_threads}
 use Rattle.et_history.specs.Waiting.{WaitsIn, WaitsSomewhere}
 use Rattle.et_history.specs.Whole.{beside, whole_flushed, whole_start}
 use Rattle.et_history.proofs.Alike.{is_open}
-use Rattle.et_walk.proofs.MonitorRows.{event_keeps_lists, LeadsLined}
+use Rattle.et_walk.proofs.MonitorRows.{LeadsLined}
+use Rattle.et_spoken.proofs.Events.{event_with_texts_keeps_lists as event_keeps_lists}
 use Rattle.et_history.proofs.FlushedLists.{flush_lined}
 use Rattle.et_walk.proofs.WaitingLists.{AreLined}
 use Rattle.et_history.proofs.Wholes.{Stands, all_match, settled_match, go_on, picked_unended, same_reached, tells}
@@ -101,7 +102,7 @@ module _ (reached : Graph → ℕ → Bool) (p : Linked) (options : Options) (pi
       let t : State = whole_settled_at reached p options pick e in
       let on = is_open (length (unended_threads t.kept) == 0) (e == options.limit) _ _ _ (goes e (omega arith)) in
       let k : ℕ = history.picked_turn (picked p options pick) (suc e) t.kept in
-      after_lined p options e t k (event p t.kept k) m.1 (event_keeps_lists p t.kept k m.1.state (picked_unended t.kept (pick (suc e)) on.some) run.runnable) (settled_lined e before lined)
+      after_lined p options e t k (event_with_texts p t.kept k) m.1 (event_keeps_lists p t.kept k m.1.state (picked_unended t.kept (pick (suc e)) on.some) run.runnable) (settled_lined e before lined)
 
   pub all_lined : (e : ℕ) → Before e → Now (state e)
   unfolding left_by

@@ -19,8 +19,9 @@ use Rattle.et_state.specs.Roots.{graph, graph_of}
 use Rattle.et_state.specs.Sound.{IsSound}
 use Rattle.et_state.specs.Start.{start}
 use Rattle.et_state.specs.State.{State, Kept}
+use Rattle.et_state.specs.Texts.{texts_left}
 use Rattle.et_state.specs.Words.{IsUnended}
-use Rattle.et_state.specs.Enqueuing.{newcomers, begins_to_wait}
+use Rattle.et_state.specs.Enqueuing.{newcomers, begins_to_wait, flushed_heap}
 use Rattle.et_state.proofs.Enqueued.{past_flushed, length-flushed, joined_held}
 use Rattle.et_state.proofs.Pasts.{reached_kept}
 use Rattle.et_program.specs.Entries.{Linked}
@@ -29,11 +30,10 @@ use Rattle.et_state.specs.Options.{AreOptions, pick_of}
 use Rattle.et_state.specs.History.{Setting, Rule, IsLastEvent, trace_of}
 use Rattle.et_state.specs.Outcome.{Outcome, end_by}
 use Rattle.et_state.specs.Outcome as outcome
-use Rattle.et_event.specs.Event.{event}
+use Rattle.et_event.specs.Told.{event_with_texts}
 use Rattle.et_event.specs.Sound.{IsSoundFor}
 use Rattle.et_event.specs.Start.{start_records}
-use Rattle.et_sound.specs.Outcomes.{KeepsSound}
-use Rattle.et_sound.proofs.Turning.{event_sound}
+use Rattle.et_event.proofs.Beside.{sound-spoken}
 use Rattle.et_linked.proofs.Flushing.{sound_left}
 use Rattle.et_io.specs.Sink.{with_more, TakesPrefix}
 use Rattle.et_loop.specs.declared.options.Ran.{Ran}
@@ -43,12 +43,12 @@ use Rattle.et_loop.specs.Kept.{IsKeptPart}
 use Rattle.et_loop.specs.Said.{said_to, Says, SaysPrefix, IsCutSaid}
 use Rattle.et_loop.specs.Visits.{allowed_visits, IsCut}
 use Rattle.et_history.specs.Settings.{IsSoundRun, flush_visits_of, setting, unended_threads, flushed_of}
-use Rattle.et_walk.specs.Changing.{KeepsMonitors}
+use Rattle.et_walk.specs.Changing.{KeepsMonitors, LeadsToSound}
 use Rattle.et_history.specs.Histories.{picked, state_at, settled_at, HistoryGoesOn, WholeGoesOn, moment_at, whole_picked, whole_at, whole_settled_at}
 use Rattle.et_history.specs.Same.{TellsTheSame, IsHere}
 use Rattle.et_history.specs.Whole.{beside, cleared, whole_event, whole_flushed, whole_setting, whole_start, whole_visits_of, whole_said}
 use Rattle.et_history.proofs.Alike.{is_open, settled_alike, LooksAlike, LeadsAlike, IsTurn, Mirrors, all_alike, looks_alike, last_alike, deaths_alike, lines_alike, trace_alike, last_there, last_back, goes_back, allowed_alike, cut_alike, said_alike, cut_said_alike}
-use Rattle.et_walk.proofs.MonitorRows.{event_keeps_monitors}
+use Rattle.et_spoken.proofs.Events.{event_with_texts_keeps_monitors as event_keeps_monitors, event_with_texts_leads_to_sound as event_leads_to_sound}
 use Rattle.et_history.proofs.Unended.{unended_thread}
 
 -- THE GRAPHS
@@ -219,7 +219,7 @@ full_on t h was stays new o some lt = elim (cases_lt o (length t.kept.heap)) [
   | inr le ↦ inl (new o le lt)
 ]
 
-after_event : (p : Linked) (options : Options) (e : ℕ) (t : State) (thread : ℕ) (x : Outcome Kept) → KeepsMonitors (record { program = p; before = t.kept; thread = thread }) x → KeepsSound p x → Stands p options e t → e < options.limit
+after_event : (p : Linked) (options : Options) (e : ℕ) (t : State) (thread : ℕ) (x : Outcome Kept) → KeepsMonitors (record { program = p; before = t.kept; thread = thread }) x → LeadsToSound p x → Stands p options e t → e < options.limit
     → LeadsAlike (λ a b. Matches p options (suc e) a b) thread t.kept t x (beside t.reported x)
 after_event p options e t thread (outcome.Goes next records) h keeps stands below = record {
   ends = refl;
@@ -230,7 +230,7 @@ after_event p options e t thread (outcome.Goes next records) h keeps stands belo
       past = past_on t.kept.heap next.heap t.reported h.changes.longer (λ o held. elim (h.changes.fresh o held) [ inl was ↦ inl was | inr new ↦ inr new.0 ]) stands.past;
       none = stands.none;
       full = full_on t next.heap stands.full h.changes.stays h.changes.full;
-      state = keeps h.changes.sound;
+      state = keeps;
       clock = (let a = h.changes.clock in omega (arith, stands.clock));
       within = omega (arith, below);
     },
@@ -245,7 +245,7 @@ after_event p options e t thread (outcome.Waits next) h keeps stands below = rec
       past = subst (λ (x : Kept). IsPast x.heap t.reported) (sym h) (record { within = stands.past.within; apart = stands.past.apart });
       none = stands.none;
       full = subst (λ (x : Kept). (o : ℕ) → 0 < o → o < length x.heap → IsHeld x.heap o ⊎ IsHeld t.reported o) (sym h) stands.full;
-      state = (let held = stands.state.held in keeps (subst (λ (x : Kept). IsSound x) (sym h) (record { room = held.room; none = held.none; roots = held.roots; slots = held.slots; referents = held.referents })));
+      state = keeps;
       clock = ap (λ (x : Kept). x.guest.clock) h ∙ (let a = stands.clock in omega arith);
       within = omega (arith, below);
     },
@@ -287,7 +287,8 @@ module _ (reached : Graph → ℕ → Bool) (p : Linked) (options : Options) (pi
       let now : ℕ → Bool = reached (graph_of k) in
       let all : ℕ → Bool = reached (graph t) in
       let alike : flushed_of all k ≡ flushed_of now k = ap (λ (h : ℕ → Bool). flushed_of h k) (sym (same e t m.1)) in
-      let state : IsSoundFor p (flushed_of now k) = sound_left p k now m.1.state (λ o held. tells (graph_of k) now (decides (graph_of k)) o) in
+      let left : Kept = record { heap = flushed_heap now k.heap; guest = k.guest } in
+      let state : IsSoundFor p (flushed_of now k) = sound-spoken p left (texts_left now k.guest.texts) (sound_left p k now m.1.state (λ o held. tells (graph_of k) now (decides (graph_of k)) o)) in
       subst (λ (x : Kept). M e (flushed_of (reached (graph_of x)) x) (whole_flushed all t)) m.0 (
         alike,
         record {
@@ -301,19 +302,19 @@ module _ (reached : Graph → ℕ → Bool) (p : Linked) (options : Options) (pi
       )
 
   -- what the event of the turn does to the heap
-  pub keeps_at : (e : ℕ) (t : State) (thread : ℕ) → Stands p options e t → IsTurn reached given whole M e t.kept thread → KeepsMonitors (record { program = p; before = t.kept; thread = thread }) (event p t.kept thread)
+  pub keeps_at : (e : ℕ) (t : State) (thread : ℕ) → Stands p options e t → IsTurn reached given whole M e t.kept thread → KeepsMonitors (record { program = p; before = t.kept; thread = thread }) (event_with_texts p t.kept thread)
   keeps_at e t thread stands turn =
       event_keeps_monitors p t.kept thread stands.state (subst (λ (i : ℕ). IsUnended t.kept.guest i) (sym turn.thread_is) (picked_unended t.kept (pick (suc e)) turn.some)) run.runnable
 
-  turn : (e : ℕ) (s : Kept) (t : State) (thread : ℕ) → M e s t → IsTurn reached given whole M e s thread → LeadsAlike (λ a b. M (suc e) a b) thread s t (event p s thread) (whole_event p t thread)
+  turn : (e : ℕ) (s : Kept) (t : State) (thread : ℕ) → M e s t → IsTurn reached given whole M e s thread → LeadsAlike (λ a b. M (suc e) a b) thread s t (event_with_texts p s thread) (whole_event p t thread)
   turn e s t thread m =
-      subst (λ (x : Kept). IsTurn reached given whole M e x thread → LeadsAlike (λ a b. M (suc e) a b) thread x t (event p x thread) (whole_event p t thread)) m.0
+      subst (λ (x : Kept). IsTurn reached given whole M e x thread → LeadsAlike (λ a b. M (suc e) a b) thread x t (event_with_texts p x thread) (whole_event p t thread)) m.0
       (λ turn.
       let k : Kept = t.kept in
       let unended : IsUnended k.guest thread = subst (λ (i : ℕ). IsUnended k.guest i) (sym turn.thread_is) (picked_unended k (pick (suc e)) turn.some) in
       let below : e < options.limit = below_limit e options.limit m.1.within (not_same e options.limit turn.within) in
       let few : k.guest.clock < 2 ^ 40 = (let clock = m.1.clock in omega (arith, below, are.limit)) in
-      after_event p options e t thread (event p k thread) (event_keeps_monitors p k thread m.1.state unended run.runnable) (event_sound p k thread m.1.state few unended run.runnable) m.1 below)
+      after_event p options e t thread (event_with_texts p k thread) (event_keeps_monitors p k thread m.1.state unended run.runnable) (event_leads_to_sound p k thread m.1.state unended run.runnable few) m.1 below)
 
   pub mirrors : Mirrors reached given whole M
   mirrors = record { unended = λ e s t m. ap (λ (x : Kept). unended_threads x) (sym m.0); looks = looks; flush = flush; event = turn }
@@ -382,8 +383,8 @@ module _ (reached : Graph → ℕ → Bool) (p : Linked) (options : Options) (pi
   -- what is known of event e + 1
   pub record Next (e : ℕ) : Type 0 where
     pub sound : IsSoundFor p (settled_at reached p options pick e)
-    pub keeps : KeepsMonitors (moment_at reached p options pick e) (event p (settled_at reached p options pick e) (moment_at reached p options pick e).thread)
-    pub done : end_by (moment_at reached p options pick e).thread (event p (settled_at reached p options pick e) (moment_at reached p options pick e).thread) ≡ None
+    pub keeps : KeepsMonitors (moment_at reached p options pick e) (event_with_texts p (settled_at reached p options pick e) (moment_at reached p options pick e).thread)
+    pub done : end_by (moment_at reached p options pick e).thread (event_with_texts p (settled_at reached p options pick e) (moment_at reached p options pick e).thread) ≡ None
 
   pub next : (e : ℕ) → ((k : ℕ) → k < suc e → HistoryGoesOn reached p options pick k) → Next e
   next e goes =
@@ -391,7 +392,7 @@ module _ (reached : Graph → ℕ → Bool) (p : Linked) (options : Options) (pi
       let thread : ℕ = (moment_at reached p options pick e).thread in
       let m = settled_match e (λ k lt. goes k (omega (arith, lt))) in
       let sound : IsSoundFor p s = subst (λ (x : Kept). IsSoundFor p x) m.0 m.1.state in
-      let on = is_open (length (unended_threads s) == 0) (e == options.limit) Finished EventLimit (end_by thread (event p s thread)) (goes e (omega arith)) in
+      let on = is_open (length (unended_threads s) == 0) (e == options.limit) Finished EventLimit (end_by thread (event_with_texts p s thread)) (goes e (omega arith)) in
       record {
         sound = sound;
         keeps = event_keeps_monitors p s thread sound (picked_unended s (pick (suc e)) on.some) run.runnable;

@@ -6,7 +6,7 @@ use Rattle.et_state.specs.State.{Kept, State}
 use Rattle.et_state.specs.declared.options.Options.{Options}
 use Rattle.et_state.specs.History.{Setting, left_by, settled}
 use Rattle.et_state.specs.History as history
-use Rattle.et_event.specs.Event.{event}
+use Rattle.et_event.specs.Told.{event_with_texts}
 use Rattle.et_event.specs.Moments.{Moment}
 use Rattle.et_event.specs.Monitors.{Lock}
 use Rattle.et_state.specs.Start.{start}
@@ -53,5 +53,5 @@ module _ (reached : Graph → ℕ → Bool) (p : Linked) (options : Options) (pi
   unfoldable pub times_held : ℕ → Lock → ℕ → ℕ
   times_held t lock zero = 0
   times_held t lock (suc e) =
-      if (moment_at e).thread == t then times_after (moment_at e) lock (times_held t lock e) (event p (settled_at e) (moment_at e).thread)
+      if (moment_at e).thread == t then times_after (moment_at e) lock (times_held t lock e) (event_with_texts p (settled_at e) (moment_at e).thread)
       else times_held t lock e

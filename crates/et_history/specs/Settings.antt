@@ -1,19 +1,22 @@
 -- THE HISTORY OF A PROGRAM OVER WHAT A MACHINE KEEPS: what its events lead to, which threads take turns, what is reached, and
 -- what a flush leaves.
-use Rattle.std.specs.Prelude.{ℕ, ◌+◌, ◌*◌, Bool, List, [], length}
+use Rattle.std.specs.Prelude.{ℕ, ◌+◌, ◌*◌, Bool, List, length}
 use Rattle.et_heap.specs.Objects.{held_count}
 use Rattle.et_state.specs.Enqueuing.{flushed_heap}
 use Rattle.et_state.specs.Threads as threads
 use Rattle.et_state.specs.Roots.{graph_of}
 use Rattle.et_state.specs.State.{Kept}
+use Rattle.et_state.specs.Texts.{texts_left}
 use Rattle.et_state.specs.History.{Setting}
 use Rattle.et_state.specs.declared.options.Options.{Options}
 use Rattle.et_program.specs.Entries.{Linked}
 use Rattle.et_program.specs.Tables.{IsTabled}
 use Rattle.et_flush.specs.Flushes.{cleared_references}
-use Rattle.et_event.specs.Event.{event}
+pub use Rattle.et_event.specs.Told.{said_by}
+use Rattle.et_event.specs.Told.{event_with_texts}
 use Rattle.et_event.specs.Runnable.{IsRunnable}
 use Rattle.et_event.specs.Sound.{IsSoundFor}
+use Rattle.et_event.specs.SoundTexts.{HasSoundTexts}
 use Rattle.et_walk.specs.Telling.{names_of_program}
 use Rattle.et_loop.specs.Options.{setting_of}
 
@@ -21,22 +24,20 @@ use Rattle.et_loop.specs.Options.{setting_of}
 abbrev pub unended_threads : Kept → List ℕ
 unended_threads s = threads.unended_of s.guest.threads
 
--- a flush takes out what isn't here, clears what refers to it weakly, and puts what it cleared in its queue
+-- a flush takes out what isn't here, clears what refers to it weakly, puts what it cleared in its queue, and forgets the texts
+-- of what it took out
 abbrev pub flushed_of : (ℕ → Bool) → Kept → Kept
-flushed_of here s = record { heap = flushed_heap here s.heap; guest = s.guest }
+flushed_of here s = record { heap = flushed_heap here s.heap; guest = record s.guest { texts = texts_left here s.guest.texts } }
 
 abbrev pub setting : Linked → Options → Setting Kept
-setting p options = setting_of (event p) unended_threads graph_of flushed_of (names_of_program p) options
+setting p options = setting_of (event_with_texts p) unended_threads graph_of flushed_of (names_of_program p) options
 
--- WHAT THE EVENT OF A THREAD PRINTS: nothing, since no built-in method prints
-abbrev pub said_by : Linked → Kept → ℕ → List ℕ
-said_by p s t = []
-
--- the program may be run, and the state is one of its sound ones
+-- the program may be run, and the state is one of its sound ones, with sound texts
 pub record IsSoundRun (p : Linked) (s : Kept) : Type 0 where
   pub tabled : IsTabled p
   pub runnable : IsRunnable p
   pub state : IsSoundFor p s
+  pub texts : HasSoundTexts p s
 
 -- how many visits of objects a flush makes at most: two for each that is held, and two for each weak reference that it clears
 abbrev pub flush_visits_of : (ℕ → Bool) → Kept → ℕ

@@ -11,10 +11,10 @@ use Rattle.et_state.specs.Outcome as outcome
 use Rattle.et_state.specs.Start.{start}
 use Rattle.et_state.specs.declared.options.Options.{Options}
 use Rattle.et_program.specs.Entries.{Linked}
-use Rattle.et_event.specs.Event.{event}
+use Rattle.et_event.specs.Told.{event_with_texts}
 use Rattle.et_loop.specs.Options.{setting_of}
 use Rattle.et_walk.specs.Telling.{names_of_program}
-use Rattle.et_history.specs.Settings.{unended_threads, flush_visits_of}
+use Rattle.et_history.specs.Settings.{flushed_of, unended_threads, flush_visits_of}
 
 -- what an event leads to where these objects were reported, which it leaves as they are
 abbrev pub beside : Objects → Outcome Kept → Outcome State
@@ -24,7 +24,7 @@ beside reported (outcome.IllTyped method pc) = outcome.IllTyped method pc
 beside reported outcome.ObjectLimit = outcome.ObjectLimit
 
 abbrev pub whole_event : Linked → State → ℕ → Outcome State
-whole_event p s t = beside s.reported (event p s.kept t)
+whole_event p s t = beside s.reported (event_with_texts p s.kept t)
 
 abbrev pub whole_unended : State → List ℕ
 whole_unended s = unended_threads s.kept
@@ -34,10 +34,10 @@ abbrev pub cleared : (ℕ → Bool) → Option ObjectState → Option ObjectStat
 cleared here None = None
 cleared here (Some x) = Some (record x { referent = kept_referent here x.referent })
 
--- A FLUSH reports what isn't here, clears each object that refers weakly to such, also one that was reported, and puts what it
--- cleared and that stays in its queue. It does nothing else.
+-- A FLUSH reports what isn't here, clears each object that refers weakly to such, also one that was reported, puts what it
+-- cleared and that stays in its queue, and forgets the texts of what it reports. It does nothing else.
 abbrev pub whole_flushed : (ℕ → Bool) → State → State
-whole_flushed here s = record (flushed here s) { reported = map (cleared here) (flushed here s).reported }
+whole_flushed here s = record { kept = flushed_of here s.kept; reported = map (cleared here) (flushed here s).reported }
 
 abbrev pub whole_setting : Linked → Options → Setting State
 whole_setting p options = setting_of (whole_event p) whole_unended graph whole_flushed (names_of_program p) options

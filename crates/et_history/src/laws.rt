@@ -11,7 +11,6 @@ ghost use Rattle.et_state.specs.Options.{AreOptions};
 ghost use Rattle.et_state.specs.Roots.{graph};
 ghost use Rattle.et_state.specs.Start.{start};
 ghost use Rattle.et_state.specs.State.{Kept};
-ghost use Rattle.et_event.specs.Event.{event};
 ghost use Rattle.et_event.specs.Monitors.{Lock};
 ghost use Rattle.et_event.specs.Start.{start_records};
 ghost use Rattle.et_loop.specs.declared.options.Ran.{Ran};

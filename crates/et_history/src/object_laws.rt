@@ -10,7 +10,7 @@ ghost use Rattle.et_state.specs.Options.{AreOptions};
 ghost use Rattle.et_state.specs.Roots.{graph};
 ghost use Rattle.et_state.specs.Start.{start};
 ghost use Rattle.et_state.specs.State.{Kept};
-ghost use Rattle.et_event.specs.Event.{event};
+ghost use Rattle.et_event.specs.Told.{event_with_texts};
 ghost use Rattle.et_event.specs.Start.{start_records};
 ghost use Rattle.et_history.specs.Deaths.{DiesBy, WasTold};
 ghost use Rattle.et_history.specs.Histories.{whole_picked, whole_at, WholeGoesOn};
@@ -19,11 +19,12 @@ ghost use Rattle.et_history.specs.Settings.{IsSoundRun};
 ghost use Rattle.et_history.specs.Whole.{whole_start};
 
 /// What an event of a thread that was started makes is reached after it, whatever the program and the state: the objects of
-/// constants, the instances and arrays of `new` and its kin, each array of a multianewarray (JVMS 6.5), and the exceptions
-/// that the machine throws. Where the thread waits, nothing is made.
+/// constants, the instances and arrays of `new` and its kin, each array of a multianewarray (JVMS 6.5), the exceptions that the
+/// machine throws, the string that a string builder makes, and the print stream of System.out. Where the thread waits, nothing
+/// is made.
 pub fn events_reach_what_they_make()
     ensures { (p : Linked) (s : Kept) (t : ℕ) →
-        t < length s.guest.threads → ReachesNew s (event p s t) }
+        t < length s.guest.threads → ReachesNew s (event_with_texts p s t) }
 {}
 
 /// In the history in which nothing is freed, over every list of picks, each object is reached in the state that the event

@@ -9,7 +9,6 @@ ghost use Rattle.et_state.specs.declared.options.Options.{Options};
 ghost use Rattle.et_state.specs.History.{lines_to};
 ghost use Rattle.et_state.specs.Options.{AreOptions};
 ghost use Rattle.et_state.specs.Start.{start};
-ghost use Rattle.et_event.specs.Event.{event};
 ghost use Rattle.et_event.specs.Start.{start_records};
 ghost use Rattle.et_linked.specs.ClassNames.{HasClassName};
 ghost use Rattle.et_history.specs.Allocations.{AreAllocations, HasArguments, IsMadeAt, next_number};

@@ -1,6 +1,6 @@
 //! What records tell of slots. Each law is a function with an empty body: what it promises is its contract.
 
-ghost use Rattle.std.specs.Prelude.{◌≡◌, ◌⊎◌, ℕ, ◌+◌, ◌<◌, ◌≤◌, Bool, false, All};
+ghost use Rattle.std.specs.Prelude.{◌≡◌, ◌⊎◌, ℕ, ◌+◌, ◌<◌, ◌≤◌, Bool, true, false, All};
 ghost use Rattle.et_graph.specs.Graph.{Graph, Decides};
 ghost use Rattle.et_heap.specs.Objects.{IsHeld};
 ghost use Rattle.et_program.specs.Entries.{Linked};
@@ -15,19 +15,26 @@ ghost use Rattle.et_history.specs.Settings.{IsSoundRun};
 ghost use Rattle.et_history.specs.Slots.{IsOfEvent, told_by};
 ghost use Rattle.et_history.specs.Whole.{whole_start};
 ghost use Rattle.et_walk.specs.Records.{HasPlainStrings};
-ghost use Rattle.et_walk.specs.Writes.{HasCause, reference_at};
+ghost use Rattle.et_walk.specs.Writes.{HasCause, is_out_slot, reference_at};
 
 /// Over every list of picks, what the U records up to an event tell is what stands in the state that it left: the reference in
-/// each slot of each object that was not reported, and in each static. The records of an event are of it. And in an object
-/// that was made and is not reached nothing is written by the next event.
+/// each slot of each object that was not reported, and in each static but that of System.out, of which they tell nothing. The
+/// records of an event are of it. And in an object that was made and is not reached nothing is written by the next event.
 pub fn records_tell_slots()
     ensures told { (reached : Graph → ℕ → Bool) (p : Linked) (options : Options)
         (pick : ℕ → ℕ) (e o i : ℕ) → Decides reached → IsSoundRun p (start p) →
         HasPlainStrings p → HasCause p → AreOptions options →
         ((k : ℕ) → k < e → WholeGoesOn reached p options pick k) →
         (o ≡ 0) ⊎ IsHeld (whole_at reached p options pick e).kept.heap o →
+        (o ≡ 0 → is_out_slot p i ≡ false) →
         told_by reached (whole_picked p options pick) (whole_start p) (start_records p) e o i
         ≡ reference_at (whole_at reached p options pick e).kept o i }
+    ensures out { (reached : Graph → ℕ → Bool) (p : Linked) (options : Options)
+        (pick : ℕ → ℕ) (e i : ℕ) → Decides reached → IsSoundRun p (start p) →
+        HasPlainStrings p → HasCause p → AreOptions options →
+        ((k : ℕ) → k < e → WholeGoesOn reached p options pick k) → is_out_slot p i ≡ true →
+        told_by reached (whole_picked p options pick) (whole_start p) (start_records p) e 0 i
+        ≡ 0 }
     ensures events { (reached : Graph → ℕ → Bool) (p : Linked) (options : Options)
         (pick : ℕ → ℕ) (e : ℕ) → Decides reached → IsSoundRun p (start p) →
         HasPlainStrings p → AreOptions options →
