@@ -172,7 +172,12 @@ fn methods_of_texts(rt: HostRuntime) -> Result<(), Fail> {
     let with_text = b"(Ljava/lang/String;)V";
     let builder = b"java/lang/StringBuilder";
     assert_eq!(rt;
-        text_method(&program, builder, b"append", b"(C)Ljava/lang/StringBuilder;"),
+        text_method(
+            &program,
+            builder,
+            b"append",
+            b"(C)Ljava/lang/StringBuilder;"
+        ),
         Ok(Some(TextMethod::Append(Shown::Char)))
     );
     assert_eq!(rt;
