@@ -1,6 +1,7 @@
 -- The shape of a call, and the member that its instruction names.
-use Rattle.std.proofs.Common.{◌≡◌, ℕ, Bool, List, Option, Some, None, refl, sym, ◌∙◌, ap}
-use Rattle.std.specs.Prelude.{option_map, option_and_then}
+use Rattle.std.proofs.Common.{◌≡◌, ℕ, Bool, true, false, List, [], Option, Some, None, refl, sym, ◌∙◌, ap}
+use Rattle.std.specs.Option.{option_map_or}
+use Rattle.std.specs.Prelude.{if◌then◌else◌, option_map, option_and_then}
 use Rattle.et_pool.specs.Descriptors.{MethodType, method_type}
 use Rattle.et_pool.specs.Entries.{Item}
 use Rattle.et_pool.specs.Operands.{Shape, shape_of, shape_in}
@@ -8,12 +9,15 @@ use Rattle.et_program.specs.Entries.{Linked}
 use Rattle.et_program.specs.Referring.{Member, pool_of_class, member_described}
 use Rattle.et_program.specs.Shapes.{shape_referred}
 use Rattle.et_event.specs.declared.rows.CallKind.{CallKind}
-use Rattle.et_event.specs.Calls.{call_fits, entry_count, invoke, is_static_call, with_method}
+use Rattle.et_event.specs.Calls.{arguments_of, call_fits, entry_count, invoke, is_static_call, with_method}
 use Rattle.et_event.specs.Checks.{ill_typed_unless}
 use Rattle.et_event.specs.Moments.{Moment, ill_typed}
 use Rattle.et_event.specs.Sites.{Site, site_member, names_interface, pool_index}
 use Rattle.et_builtins.specs.Arguments.{fitting}
-use Rattle.et_event.specs.Selected.{selected_by, selected_method}
+use Rattle.et_builtins.specs.Plans.{HasCount, IsPassing}
+use Rattle.et_builtins.specs.declared.plans.CallPlan.{CallPlan}
+use Rattle.et_builtins.specs.declared.plans.CallPlan.TheVariants.{Enters}
+use Rattle.et_event.specs.Selected.{passed_at, selected_by, selected_method}
 use Rattle.et_builtins.proofs.Planning.{checks, fitted, fitted_method, invoke_is, resolves, selected_is}
 
 abbrev named_shape : Option Member → Option Shape
@@ -47,6 +51,22 @@ shaped p class index at shape pool same e = by_member at shape (site_member at) 
 pub typed_fitting : (e : Moment) (at : Site) (shape : Shape) (h : HasShape at shape) (b static : Bool) (r : Option ℕ) → b ≡ static → r ≡ fitting e b (Some h.type) → fitting e static (method_type h.member.descriptor) ≡ r
 typed_fitting e at shape h b static r same is =
     ap (λ (o : Option MethodType). fitting e static o) h.typed ∙ (ap (λ (s : Bool). fitting e s (Some h.type)) (sym same) ∙ sym is)
+
+-- .. and they are those that the invoke passes
+by_count : (e : Moment) (at : Site) (kind : CallKind) (type : MethodType) (count : ℕ) (b : Bool) → (if b then Some (entry_count (is_static_call kind) type) else None) ≡ Some count → arguments_of e count ≡ arguments_of e (entry_count (is_static_call kind) type)
+by_count e at kind type count true is = let same : entry_count (is_static_call kind) type ≡ count = cc in ap (arguments_of e) (sym same)
+by_count e at kind type count false is = cc
+
+pub passed_is : (e : Moment) (at : Site) (shape : Shape) (h : HasShape at shape) (kind : CallKind) (count : ℕ) → fitting e (is_static_call kind) (method_type h.member.descriptor) ≡ Some count → arguments_of e count ≡ passed_at e at kind
+passed_is e at shape h kind count some =
+    let typed : fitting e (is_static_call kind) (Some h.type) ≡ Some count = ap (λ (o : Option MethodType). fitting e (is_static_call kind) o) (sym h.typed) ∙ some in
+    let named : option_and_then (λ (n : Member). method_type n.descriptor) (site_member at) ≡ Some h.type = ap (option_and_then (λ (n : Member). method_type n.descriptor)) h.named ∙ h.typed in
+    by_count e at kind h.type count (call_fits e (is_static_call kind) h.type) typed
+    ∙ sym (ap (λ (o : Option MethodType). option_map_or (λ (type : MethodType). arguments_of e (entry_count (is_static_call kind) type)) o []) named)
+
+pub passing : (e : Moment) (at : Site) (kind : CallKind) (count : ℕ) (plan : CallPlan) → HasCount count plan → arguments_of e count ≡ passed_at e at kind → IsPassing e at kind plan
+passing e at kind count (Enters method n) has is = ap (arguments_of e) has ∙ is
+passing e at kind count _ has is = tt
 
 -- WHERE THERE IS NONE, a call has no meaning
 

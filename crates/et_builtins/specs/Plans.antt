@@ -4,12 +4,14 @@ use Rattle.et_state.specs.State.{Kept}
 use Rattle.et_state.specs.declared.class_state.ClassState.TheVariants.{Untouched}
 use Rattle.et_program.specs.Entries.{method_at, is_static}
 use Rattle.et_state.specs.Outcome.{Outcome}
+use Rattle.et_event.specs.declared.rows.CallKind.{CallKind}
 use Rattle.et_event.specs.declared.rows.CallKind.TheVariants.{Static}
 use Rattle.et_event.specs.declared.errors.GuestError.{GuestError}
 use Rattle.et_event.specs.Calls.{arguments_of, dispatched, enters_method}
 use Rattle.et_event.specs.Moments.{Moment, begins, current_frame, ill_typed, throws, waits}
 use Rattle.et_event.specs.Initialization.{state_of}
 use Rattle.et_event.specs.Operands.{returned_width}
+use Rattle.et_event.specs.Selected.{passed_at}
 use Rattle.et_event.specs.Sites.{Site}
 use Rattle.et_event.specs.Sound.{returned_of}
 use Rattle.et_builtins.specs.declared.plans.CallPlan.{CallPlan}
@@ -33,6 +35,16 @@ abbrev pub IsCallPlan : Moment → CallPlan → Type 0
 IsCallPlan e (Initializes method count) = (method < length e.program.methods) × (count ≤ length (current_frame e).operands) × (state_of (begins e) (method_at e.program method).class ≡ Untouched) × (is_static e.program method ≡ true)
 IsCallPlan e (Enters method count) = (method < length e.program.methods) × (count ≤ length (current_frame e).operands) × HasCallRoom e method count
 IsCallPlan e plan = Unit {0}
+
+-- the method is entered with so many entries
+abbrev pub HasCount : ℕ → CallPlan → Type 0
+HasCount count (Enters method n) = n ≡ count
+HasCount count other = Unit {0}
+
+-- .. which are those that the invoke passes
+abbrev pub IsPassing : Moment → Site → CallKind → CallPlan → Type 0
+IsPassing e at kind (Enters method count) = arguments_of e count ≡ passed_at e at kind
+IsPassing e at kind other = Unit {0}
 
 -- what was resolved, or the error that is thrown
 abbrev pub resolving : Moment → Result (ℕ × ℕ) GuestError → (ℕ → ℕ → Outcome Kept) → Outcome Kept

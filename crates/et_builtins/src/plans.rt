@@ -21,7 +21,7 @@ ghost use Rattle.et_event.specs.Sites.{Member, Site, natural_of, site_member, na
 ghost use Rattle.et_event.specs.Initialization.{state_of};
 ghost use Rattle.et_event.specs.Sound.{IsSoundFor};
 ghost use Rattle.et_event.specs.Selected.{selected_from, selected_method, selected_on, with_resolved};
-ghost use Rattle.et_builtins.specs.Plans.{method_entered, call_planned, HasCallRoom, IsCallPlan, resolving};
+ghost use Rattle.et_builtins.specs.Plans.{method_entered, call_planned, HasCallRoom, HasCount, IsCallPlan, IsPassing, resolving};
 
 use crate::arguments::{fitting_call, receiver};
 use crate::classes::fits_resolved;
@@ -78,6 +78,7 @@ fn selected(answer: Result<MethodId, LinkError>, count: u32) -> CallPlan
     ensures plan { (e : Moment) (at : Site) → selected_in e (begins e) answer
         (enters_method e at (begins e) (arguments_of e count)) ≡ call_planned e at result }
     ensures entered { method_entered result ≡ result_ok answer }
+    ensures passes { HasCount count result }
 {
     match answer {
         Ok(method) => CallPlan::Enters { method, count },
@@ -108,6 +109,7 @@ fn virtual_plan<L: Ledger>(
         (arguments_of (moment program.now machine.now thread) count) named method) (first_reference
         (arguments_of (moment program.now machine.now thread) count)) }
     ensures within { IsCallPlan (moment program.now machine.now thread) result }
+    ensures passes { HasCount count result }
     ensures visits { visits.new ≤ visits.old + 2 }
 {
     let Some(receiver) = receiver(machine, thread, count) else {
@@ -143,6 +145,7 @@ fn interface_plan<L: Ledger>(
         (arguments_of (moment program.now machine.now thread) count) named method) (first_reference
         (arguments_of (moment program.now machine.now thread) count)) }
     ensures within { IsCallPlan (moment program.now machine.now thread) result }
+    ensures passes { HasCount count result }
     ensures visits { visits.new ≤ visits.old + 1 }
 {
     let Some(receiver) = receiver(machine, thread, count) else {
@@ -190,6 +193,7 @@ fn special_plan<L: Ledger>(
         callee.named callee.method) (first_reference
         (arguments_of (moment program.now machine.now thread) callee.count)) }
     ensures within { IsCallPlan (moment program.now machine.now thread) result }
+    ensures passes { HasCount callee.count result }
     ensures visits { visits.new ≤ visits.old + 2 }
 {
     let Some(receiver) = receiver(machine, thread, callee.count) else {
@@ -222,6 +226,7 @@ fn static_plan(
         ≡ call_planned (moment program.now machine.now thread) at result }
     ensures entered { (method_entered result ≡ None) ⊎ (method_entered result ≡ Some method) }
     ensures within { IsCallPlan (moment program.now machine.now thread) result }
+    ensures passes { HasCount count result }
 {
     let class = program.method(method).class;
     state_plan(machine.class_state(class), thread, method, count)
@@ -238,6 +243,7 @@ fn state_plan(state: ClassState, thread: ThreadId, method: MethodId, count: u32)
         HasCallRoom e method count → count ≤ length (current_frame e).operands →
         state_of (begins e) (method_at e.program method).class ≡ state →
         is_static e.program method ≡ true → IsCallPlan e result }
+    ensures passes { HasCount count result }
 {
     match state {
         ClassState::Done => CallPlan::Enters { method, count },
@@ -279,6 +285,7 @@ fn dispatch_plan<L: Ledger>(
         (arguments_of (moment program.now machine.now thread) callee.count) callee.named callee.method)
         (first_reference (arguments_of (moment program.now machine.now thread) callee.count))) }
     ensures within { IsCallPlan (moment program.now machine.now thread) result }
+    ensures passes { HasCount callee.count result }
     ensures visits { visits.new ≤ visits.old + 2 }
 {
     match kind {
@@ -343,6 +350,7 @@ fn resolved_plan<L: Ledger>(
         (selected_from (moment program.now machine.now thread) at kind (arguments_of
         (moment program.now machine.now thread) callee.count) callee.named callee.method) }
     ensures within { IsCallPlan (moment program.now machine.now thread) result }
+    ensures passes { HasCount callee.count result }
     ensures visits { visits.new ≤ visits.old + 2 }
 {
     let is_static = has(program.method(callee.method).flags, STATIC);
@@ -415,6 +423,8 @@ pub fn invoke_plan<L: Ledger>(
         ≡ kept (is_deferred_in program.now)
         (selected_method (moment program.now machine.now thread) (site_at place.now) kind) }
     ensures within { IsCallPlan (moment program.now machine.now thread) result }
+    ensures passes { IsPassing (moment program.now machine.now thread) (site_at place.now) kind
+        result }
     ensures visits { visits.new ≤ visits.old + 2 }
 {
     let Some(shape) = program.call_shape(place.class, index_of(place)) else {

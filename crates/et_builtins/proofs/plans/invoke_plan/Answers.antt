@@ -9,7 +9,7 @@ use Rattle.et_event.specs.Selected.{selected_from, selected_method}
 use Rattle.et_builtins.specs.Plans.{resolving}
 use Rattle.et_builtins.proofs.Planning.{checks, fitted, fitted_method, found_by, invoke_is, selected_is}
 use Rattle.et_builtins.proofs.Choosing.{resolved_room}
-use Rattle.et_builtins.proofs.Shaping.{HasShape, shaped, typed_fitting, ill_called, none_selected}
+use Rattle.et_builtins.proofs.Shaping.{HasShape, passed_is, passing, shaped, typed_fitting, ill_called, none_selected}
 use Rattle.et_parts.proofs.SiteAnswers.{place_pool}
 use Rattle.et_builtins.proofs.plans.invoke_plan.Goals as goal
 use Rattle.et_event.specs.Moments.{moment}
@@ -97,6 +97,17 @@ returns-in-Err-clause-deferred g c =
     ∙ (ap (fitted_method e at c.args.kind h.member) some
     ∙ (c.resolve.ensures.found h.member from h.named ∙ ap (λ (r : Result (ℕ × ℕ) GuestError). found_by r from) c.in-Err.is)) in
     sym (ap (λ (r : Option ℕ). kept (is_deferred e.program) r) selected)
+
+-- WHAT IS PASSED
+
+pub returns-in-Ok-clause-passes : goal.returns-in-Ok-clause-passes
+returns-in-Ok-clause-passes g c =
+    let e = moment c.args.program.now c.args.machine.now c.args.thread in
+    let at = site_at c.args.place.now in
+    let count = c.in-Some-fitting_call.count in
+    let h : HasShape at c.in-Some.shape.now = shaped c.args.program.now c.args.place.now.class c.index_of.result at c.in-Some.shape.now (place_pool c.args.program.now _ c.args.place.now c.requires.place) c.index_of.ensures c.in-Some.ensures in
+    let some = typed_fitting e at c.in-Some.shape.now h c.is_static_call.result (is_static_call c.args.kind) (Some count) c.is_static_call.ensures (c.in-Some-fitting_call.ensures.value c.args.program.now h.type h.is) in
+    passing e at c.args.kind count c.resolved_plan.result c.resolved_plan.ensures.passes (passed_is e at c.in-Some.shape.now h c.args.kind count some)
 
 -- WHAT WAS RESOLVED
 
