@@ -40,7 +40,7 @@ use Rattle.et_traces.proofs.LiveReached.{more_lines, from_seen, seen_from, here_
 use Rattle.et_traces.proofs.LiveSums.{rest_told}
 use Rattle.et_traces.proofs.Reported.{Knows, flushed_out, made_by, now}
 use Rattle.et_traces.proofs.SlotLines.{content_told}
-use Rattle.et_walk.specs.Writes.{reference_at}
+use Rattle.et_walk.specs.Writes.{is_out_slot, reference_at}
 
 -- NUMBERS in a row
 
@@ -112,7 +112,8 @@ module _ (reached : Graph → ℕ → Bool) (p : Linked) (options : Options) (pi
 
   pub record Facts : Type 0 where
     pub knows : Knows reached p options pick last
-    pub told_is : (e o i : ℕ) → e ≤ last → (o ≡ 0) ⊎ IsHeld (now reached p options pick e).kept.heap o → told e o i ≡ reference_at (now reached p options pick e).kept o i
+    pub told_is : (e o i : ℕ) → e ≤ last → (o ≡ 0) ⊎ IsHeld (now reached p options pick e).kept.heap o → (o ≡ 0 → is_out_slot p i ≡ false) → told e o i ≡ reference_at (now reached p options pick e).kept o i
+    pub out_is : (e i : ℕ) → e ≤ last → is_out_slot p i ≡ true → told e 0 i ≡ 0
     pub events_are : (e : ℕ) → e ≤ last → All (IsOfEvent e) (records_at reached (whole_picked p options pick) (whole_start p) (start_records p) e)
     pub unreached : (e o i : ℕ) → suc e ≤ last → 0 < o → o ≤ made_by reached p options pick e → reached (graph (now reached p options pick e)) o ≡ false → told (suc e) o i ≡ told e o i
 
@@ -144,6 +145,10 @@ module _ (reached : Graph → ℕ → Bool) (p : Linked) (options : Options) (pi
 
   abbrev Reached : ℕ → ℕ → Type 0
   Reached e o = reached (graph (state e)) o ≡ true
+
+  -- an object is no static
+  some_apart : (o i : ℕ) → 0 < o → o ≡ 0 → is_out_slot p i ≡ false
+  some_apart o i some none = absurd (omega (arith, some, none))
 
   -- CONTENTS are what the records tell
   content_is : (e o i : ℕ) → e ≤ last → content trace e o i ≡ writes e o i
@@ -232,11 +237,14 @@ module _ (reached : Graph → ℕ → Bool) (p : Linked) (options : Options) (pi
         let l = is_live o c in
         let held = live_held o l in
         content_is e o i le
-        ∙ (facts.told_is e o i le (inr held)
+        ∙ (facts.told_is e o i le (inr held) (some_apart o i l.some)
         ∙ (object_reference (state e).kept o i l.some ∙ ap (λ (x : ObjectState). number_of_value (slot_of x i)) (sym (held_in (state e) o held))))
 
-    pub statics_are : (i : ℕ) → content trace e 0 i ≡ number_of_value (static_at (state e).kept.guest i)
-    statics_are i = content_is e 0 i le ∙ facts.told_is e 0 i le (inl refl)
+    pub statics_are : (i : ℕ) → is_out_slot p i ≡ false → content trace e 0 i ≡ number_of_value (static_at (state e).kept.guest i)
+    statics_are i other = content_is e 0 i le ∙ facts.told_is e 0 i le (inl refl) (λ none. other)
+
+    pub out_content : (i : ℕ) → is_out_slot p i ≡ true → content trace e 0 i ≡ 0
+    out_content i is = content_is e 0 i le ∙ facts.out_is e i le is
 
   -- TARGETS
 
@@ -259,7 +267,7 @@ module _ (reached : Graph → ℕ → Bool) (p : Linked) (options : Options) (pi
   -- what stands in a slot of an object that is held
   stands_there : (e o i t : ℕ) → e ≤ last → 0 < o → IsHeld (state e).kept.heap o → writes e o i ≡ t → (t ≡ 0 → ⊥) → Contains (refs_of (object_at (state e).kept.heap o).slots) t
   stands_there e o i t le some held tells ne =
-      place_refers (object_at (state e).kept.heap o).slots i t (sym (object_reference (state e).kept o i some) ∙ (sym (facts.told_is e o i le (inr held)) ∙ tells)) ne
+      place_refers (object_at (state e).kept.heap o).slots i t (sym (object_reference (state e).kept o i some) ∙ (sym (facts.told_is e o i le (inr held) (some_apart o i some)) ∙ tells)) ne
 
   -- .. is reached where the object is
   target_now : (e o i t : ℕ) → e ≤ last → 0 < o → o ≤ made e → Reached e o → writes e o i ≡ t → (t ≡ 0 → ⊥) → Reached e t
@@ -315,7 +323,11 @@ module _ (reached : Graph → ℕ → Bool) (p : Linked) (options : Options) (pi
       reached_lives e n t (omega (arith, same, high, le)) ne there (target_from n e o i t (omega (arith, same, high, le)) l.some l.within (subst (λ (j : ℕ). Reached j o) (sym same) k.3) tells ne)
 
   pub static_lives : (e i t : ℕ) → e ≤ last → content trace e 0 i ≡ t → (t ≡ 0 → ⊥) → Contains (at_event e) t
-  static_lives e i t le is ne =
-      let root : Contains (roots_of (state e).kept.guest) t = static_root (state e).kept.guest t (place_refers (state e).kept.guest.statics i t (sym (statics_are e le i) ∙ is) ne) in
-      let held : IsHeld (state e).kept.heap t = (knows.same e le).sound.held.roots t root in
-      reached_lives e 0 t (omega (arith, le)) ne held (e, omega arith, omega arith, reached_is e t le (root_is_reached (state e).kept t root))
+  static_lives e i t le is ne = by (is_out_slot p i) refl
+    where
+      by : (b : Bool) → is_out_slot p i ≡ b → Contains (at_event e) t
+      by true out = absurd (ne (sym is ∙ out_content e le i out))
+      by false other =
+          let root : Contains (roots_of (state e).kept.guest) t = static_root (state e).kept.guest t (place_refers (state e).kept.guest.statics i t (sym (statics_are e le i other) ∙ is) ne) in
+          let held : IsHeld (state e).kept.heap t = (knows.same e le).sound.held.roots t root in
+          reached_lives e 0 t (omega (arith, le)) ne held (e, omega arith, omega arith, reached_is e t le (root_is_reached (state e).kept t root))

@@ -27,13 +27,15 @@ use Rattle.et_state.specs.Outcome as outcome
 use Rattle.et_state.specs.Roots.{graph, graph_of}
 use Rattle.et_state.specs.Start.{start, argument_class}
 use Rattle.et_state.specs.State.{State, Kept}
+use Rattle.et_state.specs.Texts.{texts_left}
 use Rattle.et_state.specs.Words.{IsUnended}
 use Rattle.et_state.specs.declared.options.Options.{Options}
 use Rattle.et_state.proofs.Enqueued.{length-flushed, flushed_held}
 use Rattle.et_linked.proofs.Flushing.{sound_left}
-use Rattle.et_event.specs.Event.{event}
+use Rattle.et_event.specs.Told.{event_with_texts}
 use Rattle.et_event.specs.Sound.{IsSoundFor}
 use Rattle.et_event.specs.Start.{start_records}
+use Rattle.et_event.proofs.Beside.{sound-spoken}
 use Rattle.et_text.specs.Ranges.{header_version}
 use Rattle.et_text.specs.Rules.{AreFine, IsGood, has_ended, misses_no_flush}
 use Rattle.et_history.specs.Allocations.{next_number}
@@ -141,9 +143,9 @@ module _ (p : Linked) (fit : AreTellable (names_of_program p)) (version every e 
 -- THE HISTORY, with what the laws say of its events and states
 module _ (reached : Graph → ℕ → Bool) (p : Linked) (options : Options) (pick : ℕ → ℕ) (decides : Decides reached) (run : IsSoundRun p (start p)) (are : AreOptions options)
     (apart : AreNamesApart (names_of_program p)) (short : AreNamesShort (names_of_program p)) (few_statics : length p.statics < 2 ^ 28)
-    (tells : (s : Kept) (t : ℕ) → IsSoundFor p s → IsUnended s.guest t → TellsObjects p s t (event p s t))
-    (keeps : (s : Kept) (t : ℕ) → IsSoundFor p s → IsUnended s.guest t → KeepsMonitors (record { program = p; before = s; thread = t }) (event p s t))
-    (named : (s : Kept) (t : ℕ) → IsSoundFor p s → IsUnended s.guest t → IsToldOf p s (event p s t))
+    (tells : (s : Kept) (t : ℕ) → IsSoundFor p s → IsUnended s.guest t → TellsObjects p s t (event_with_texts p s t))
+    (keeps : (s : Kept) (t : ℕ) → IsSoundFor p s → IsUnended s.guest t → KeepsMonitors (record { program = p; before = s; thread = t }) (event_with_texts p s t))
+    (named : (s : Kept) (t : ℕ) → IsSoundFor p s → IsUnended s.guest t → IsToldOf p s (event_with_texts p s t))
     (same : (e : ℕ) → ((k : ℕ) → k < e → HistoryGoesOn reached p options pick k) → TellsTheSame reached p options pick e)
     (reached_as_made : (e o : ℕ) → WholeGoesOn reached p options pick e → (graph (whole_at reached p options pick e)).made < o → o ≤ (graph (whole_at reached p options pick (e + 1))).made → reached (graph (whole_at reached p options pick (e + 1))) o ≡ true) where
   -- the version that the header says
@@ -175,7 +177,7 @@ module _ (reached : Graph → ℕ → Bool) (p : Linked) (options : Options) (pi
   turn e = history.picked_turn (whole_picked p options pick) (suc e) (settled e)
 
   abbrev step : ℕ → Outcome Kept
-  step e = event p (settled e).kept (turn e)
+  step e = event_with_texts p (settled e).kept (turn e)
 
   record Goes (e : ℕ) : Type 0 where
     kept : (k : ℕ) → k < e → HistoryGoesOn reached p options pick k
@@ -200,7 +202,10 @@ module _ (reached : Graph → ℕ → Bool) (p : Linked) (options : Options) (pi
   settled_by e b = if b then whole_flushed (reached (graph (now e))) (now e) else now e
 
   sound_by : (e : ℕ) → Goes e → (b : Bool) → IsSoundFor p (settled_by e b).kept
-  sound_by e g true = sound_left p (now e).kept (reached (graph (now e))) (same e g.kept).sound (λ o held. here_is e g o)
+  sound_by e g true =
+      let here : ℕ → Bool = reached (graph (now e)) in
+      let left : Kept = record { heap = flushed_heap here (now e).kept.heap; guest = (now e).kept.guest } in
+      sound-spoken p left (texts_left here (now e).kept.guest.texts) (sound_left p (now e).kept here (same e g.kept).sound (λ o held. here_is e g o))
   sound_by e g false = (same e g.kept).sound
 
   clock_by : (e : ℕ) → Goes e → (b : Bool) → (settled_by e b).kept.guest.clock ≡ e

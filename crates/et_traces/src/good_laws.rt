@@ -1,6 +1,6 @@
 //! Traces are good. Each law is a function with an empty body: what it promises is its contract.
 
-ghost use Rattle.std.specs.Prelude.{◌≡◌, ◌↔◌, ℕ, ◌*◌, ◌<◌, ◌≤◌, All, Bool, List, bytes_eq, length, true};
+ghost use Rattle.std.specs.Prelude.{◌≡◌, ◌↔◌, ℕ, ◌+◌, ◌*◌, ◌<◌, ◌≤◌, All, Bool, List, bytes_eq, length, true};
 ghost use Rattle.et_base.specs.declared.line.TraceLine.{TraceLine};
 ghost use Rattle.et_base.specs.declared.value.End.{End};
 ghost use Rattle.et_graph.specs.Graph.{Graph, Decides};
@@ -31,8 +31,8 @@ use et_history::object_laws::objects_are_reached_as_made;
 use et_history::record_laws::programs_have_sizes;
 use et_history::run_laws::linked_programs_run_soundly;
 use et_linked::run_laws::files_keep_rules;
+use et_spoken::laws::{events_are_told, events_keep_monitors, events_tell_objects};
 use et_text::laws::{good_lists_differ, good_texts_have_no_fault};
-use et_walk::laws::{events_are_told, events_keep_monitors, events_tell_objects};
 
 /// The trace of every history of a program that a trace can tell of is a good list, of the version of its format, over every
 /// list of picks. Every program that was linked is one.

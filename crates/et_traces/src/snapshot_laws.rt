@@ -1,7 +1,7 @@
 //! What snapshots of a trace show. The law is a function that calls the laws that it stands on: what it promises is its
 //! contract.
 
-ghost use Rattle.std.specs.Prelude.{◌≡◌, ◌≢◌, ℕ, ◌-◌, ◌≤◌, Bool, Contains, filter};
+ghost use Rattle.std.specs.Prelude.{◌≡◌, ◌≢◌, ℕ, ◌-◌, ◌≤◌, Bool, true, false, Contains, filter};
 ghost use Rattle.et_base.specs.declared.value.End.{End};
 ghost use Rattle.et_event.specs.Moments.{number_of_value};
 ghost use Rattle.et_event.specs.Start.{start_records};
@@ -20,6 +20,7 @@ ghost use Rattle.et_state.specs.Words.{static_at};
 ghost use Rattle.et_state.specs.declared.options.Options.{Options};
 ghost use Rattle.et_traces.specs.LiveBytes.{is_reached_from};
 ghost use Rattle.et_traces.specs.Snapshots.{IsEndedRun, IsShown, live_objects};
+ghost use Rattle.et_walk.specs.Writes.{is_out_slot};
 
 use et_history::laws::{histories_tell_the_same, nothing_is_freed};
 use et_history::object_laws::objects_are_reached_as_made;
@@ -31,8 +32,8 @@ use et_linked::run_laws::files_keep_rules;
 /// What the trace of a run tells of slots at an event is what the state holds that the event left. The objects that are live
 /// then are those made by then that are reached in that state or in that of a later event up to the last. The content of
 /// each slot of such an object is the reference that stands there, by its number, and 0 where null, a number or nothing stands
-/// there; that of each static is too. And what stands in a slot of a live object, or in a static, is itself live. Every
-/// program that was linked has what this asks of one.
+/// there; that of each static is too, but for that of System.out, of which no record tells: its content is 0. And what stands
+/// in a slot of a live object, or in a static, is itself live. Every program that was linked has what this asks of one.
 pub fn snapshots_show_states()
     ensures objects { (reached : Graph → ℕ → Bool) (p : Linked) (options : Options)
         (pick : ℕ → ℕ) (e last : ℕ) (end : End) →
@@ -52,10 +53,15 @@ pub fn snapshots_show_states()
         ≡ number_of_value (slot_of (object_in (whole_at reached p options pick e) o) i) }
     ensures statics { (reached : Graph → ℕ → Bool) (p : Linked) (options : Options)
         (pick : ℕ → ℕ) (e last i : ℕ) (end : End) →
-        IsEndedRun reached p options pick last end → e ≤ last →
+        IsEndedRun reached p options pick last end → e ≤ last → is_out_slot p i ≡ false →
         content (trace_of reached (whole_picked p options pick) (whole_start p) (start_records p)
         last end) e 0 i
         ≡ number_of_value (static_at (whole_at reached p options pick e).kept.guest i) }
+    ensures out { (reached : Graph → ℕ → Bool) (p : Linked) (options : Options)
+        (pick : ℕ → ℕ) (e last i : ℕ) (end : End) →
+        IsEndedRun reached p options pick last end → e ≤ last → is_out_slot p i ≡ true →
+        content (trace_of reached (whole_picked p options pick) (whole_start p) (start_records p)
+        last end) e 0 i ≡ 0 }
     ensures targets { (reached : Graph → ℕ → Bool) (p : Linked) (options : Options)
         (pick : ℕ → ℕ) (e last o i target : ℕ) (end : End) →
         IsEndedRun reached p options pick last end → e ≤ last →

@@ -10,7 +10,7 @@ use Rattle.et_history.specs.Slots.{told_by}
 use Rattle.et_history.specs.Whole.{whole_start}
 use Rattle.et_linked.specs.Programs.{KeepRules}
 use Rattle.et_traces.specs.Snapshots.{IsEndedRun}
-use Rattle.et_traces.proofs.Shown.{Facts, objects_are, slots_are, statics_are, target_lives, static_lives}
+use Rattle.et_traces.proofs.Shown.{Facts, objects_are, out_content, slots_are, statics_are, target_lives, static_lives}
 use Rattle.et_traces.proofs.snapshot_laws.snapshots_show_states.Goals as goal
 
 facts : (c : goal.After-files_keep_rules) (reached : Graph → ℕ → Bool) (p : Linked) (options : Options) (pick : ℕ → ℕ) (last : ℕ) (end : End) → IsEndedRun reached p options pick last end → Facts reached p options pick last
@@ -29,7 +29,8 @@ facts c reached p options pick last end run =
         gone = λ n o within. c.nothing_is_freed.ensures.gone reached p options pick n o run.decides is.run run.options_are (goes n within);
         same = λ n within. c.histories_tell_the_same.ensures.same reached p options pick n run.decides is.run run.options_are (goes_kept n within);
       };
-      told_is = λ e o i le place. c.records_tell_slots.ensures.told reached p options pick e o i run.decides is.run is.strings is.cause run.options_are (goes e le) place;
+      told_is = λ e o i le place other. c.records_tell_slots.ensures.told reached p options pick e o i run.decides is.run is.strings is.cause run.options_are (goes e le) place other;
+      out_is = λ e i le out. c.records_tell_slots.ensures.out reached p options pick e i run.decides is.run is.strings is.cause run.options_are (goes e le) out;
       events_are = λ e le. c.records_tell_slots.ensures.events reached p options pick e run.decides is.run is.strings run.options_are (goes e le);
       unreached = λ e o i le some within out.
           let one : e + 1 ≡ suc e = omega arith in
@@ -44,7 +45,10 @@ pub returns-clause-slots : goal.returns-clause-slots
 returns-clause-slots c reached p options pick e last o i end run le lives = slots_are reached p options pick last end run.decides (facts c reached p options pick last end run) e le o i lives
 
 pub returns-clause-statics : goal.returns-clause-statics
-returns-clause-statics c reached p options pick e last i end run le = statics_are reached p options pick last end run.decides (facts c reached p options pick last end run) e le i
+returns-clause-statics c reached p options pick e last i end run le other = statics_are reached p options pick last end run.decides (facts c reached p options pick last end run) e le i other
+
+pub returns-clause-out : goal.returns-clause-out
+returns-clause-out c reached p options pick e last i end run le out = out_content reached p options pick last end run.decides (facts c reached p options pick last end run) e le i out
 
 pub returns-clause-targets : goal.returns-clause-targets
 returns-clause-targets c reached p options pick e last o i target end run le lives is some = target_lives reached p options pick last end run.decides (facts c reached p options pick last end run) e o i target le lives is some
