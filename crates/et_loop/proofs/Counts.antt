@@ -108,13 +108,10 @@ pub undo_not : (b : Bool) → not b ≡ true → b ≡ false
 undo_not true h = absurd (let e : false ≡ true = h in cc)
 undo_not false h = refl
 
--- a last flush
-pub last_flush_visits : (due : Bool) (flush old now : ℕ) → due ≡ false → now ≤ old + flush → now ≤ old + last_visits due flush
-last_flush_visits true flush old now e h = absurd (let d : true ≡ false = e in cc)
-last_flush_visits false flush old now e h = h
-
-pub no_last_flush_visits : (due : Bool) (flush old now : ℕ) → now ≡ old → now ≤ old + last_visits due flush
-no_last_flush_visits due flush old now e = omega (arith, e)
+-- a last flush, where there was none before
+pub last_flush : (due : Bool) (flush other old now : ℕ) → (due ≡ false → now ≤ old + due_visits (not due) flush) → now ≤ old + due_visits (not due) other → now ≤ old + last_visits due flush
+last_flush true flush other old now first none = none
+last_flush false flush other old now first none = first refl
 
 -- a turn makes no object fewer
 pub passes_grow : (due : Bool) (e : ℕ) (g h : Graph) (old new : ℕ → ℕ) → Passes due e g h old new → g.made ≤ h.made

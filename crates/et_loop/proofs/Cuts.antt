@@ -1,11 +1,12 @@
 -- A run that is cut off in a turn.
-use Rattle.std.proofs.Common.{◌≡◌, ℕ, ◌+◌, ◌≤◌, Bool, List, [], Option, sym, ◌∙◌, ap, inl, inr, append-nil}
+use Rattle.std.proofs.Common.{◌≡◌, ℕ, ◌+◌, ◌≤◌, Bool, List, Option, ◌∙◌, ap, inl, inr}
 use Rattle.et_graph.specs.Graph.{Graph}
 use Rattle.et_io.specs.Sink.{with_more, TakesPrefix}
 use Rattle.et_state.specs.declared.records.Record.{Record}
 use Rattle.et_state.specs.Naming.{Mentions}
 use Rattle.et_state.specs.History.{Setting, lines_to}
 use Rattle.et_binary.specs.Formats.{trace_bytes}
+use Rattle.et_loop.specs.Run.{Breaks}
 use Rattle.et_loop.specs.Visits.{visits_to, IsCut}
 use Rattle.et_loop.proofs.Headers.{lines_whole}
 use Rattle.et_loop.proofs.RunLemmas.{Running, more_twice}
@@ -20,19 +21,7 @@ module _ {S : Type 0} (reached : Graph → ℕ → Bool) (given : Setting S) (fl
     taken_is : now ≡ with_more before (trace_bytes given.format (lines_to reached given start made e))
     taken_is = runs.lines ∙ ap (λ (bytes : List ℕ). with_more before bytes) (lines_whole reached given start made given.format e)
 
-    -- in a turn of which nothing was put
-    pub cut_here : IsCut reached given flush_visits start made before now old new
-    cut_here = inr (
-      e,
-      record {
-        goes = runs.first;
-        rest = [];
-        taken = taken_is ∙ ap (λ (bytes : List ℕ). with_more before bytes) (sym (append-nil (trace_bytes given.format (lines_to reached given start made e))));
-        visits = few;
-      },
-    )
-
-    -- .. or as it was put
+    -- in a put of the lines of the turn
     pub cut_putting : (after : Option (List ℕ)) (piece : List ℕ) → TakesPrefix now after piece → IsCut reached given flush_visits start made before after old new
     cut_putting after piece (rest, h) = inr (
       e,
@@ -43,3 +32,8 @@ module _ {S : Type 0} (reached : Graph → ℕ → Bool) (given : Setting S) (fl
         visits = few;
       },
     )
+
+    -- .. or in the midst of its flush, or of the last lines
+    pub cut_broken : (from : S) (noted : ℕ → ℕ) (after : Option (List ℕ)) (out : List ℕ) → Breaks reached given e from noted now after out → IsCut reached given flush_visits start made before after old new
+    cut_broken from noted after out (inl h) = cut_putting after _ h
+    cut_broken from noted after out (inr h) = cut_putting after _ h.1.takes

@@ -1,6 +1,7 @@
 pub mod Mentioning
 pub mod Tables
 pub mod Writing
+mod Putting
 pub mod Headers
 pub mod TurnLemmas
 pub mod RunLemmas

@@ -15,7 +15,7 @@ use Rattle.et_state.specs.History.{Setting, is_flush_point, flush_lines, how_of,
 use Rattle.et_text.specs.Ranges.{header_version}
 use Rattle.et_binary.specs.Formats.{written_in, lines_written_in, trace_bytes}
 use Rattle.et_io.specs.Sink.{with_more, TakesPrefix}
-use Rattle.et_loop.specs.Run.{time_noted, flush_of, due_lines, flush_now, Turns, Advances, Concludes}
+use Rattle.et_loop.specs.Run.{time_noted, flush_of, due_lines, flush_now, Turns, Advances, Concludes, BreaksFlush, Breaks}
 use Rattle.et_loop.specs.Traced.{WritesTrace, WritesPrefix}
 use Rattle.et_loop.proofs.Headers.{trace_whole}
 
@@ -70,6 +70,11 @@ due_if : (b : Bool) (ls : List TraceLine) → due_lines b ls ≡ (if b then ls e
 due_if true ls = refl
 due_if false ls = refl
 
+due_first : (due : Bool) (before flush behind : List TraceLine) → Extends (before ++ due_lines due flush) ((before ++ flush) ++ behind)
+unfolding Extends
+due_first true before flush behind = (behind, refl)
+due_first false before flush behind = (flush ++ behind, append_assoc before flush behind ∙ ap (λ ls. ls ++ (flush ++ behind)) (sym (append-nil before)))
+
 below_or_at : (k e : ℕ) → k < suc e → (k < e) ⊎ (k ≡ e)
 below_or_at k e lt = ⊎_elim (λ a. inl a) (λ b. inr (omega arith)) (cases_lt k e)
 
@@ -98,6 +103,22 @@ module _ {S : Type 0} (reached : Graph → ℕ → Bool) (given : Setting S) (st
   trace_front e n end le =
       let ext = written_front given.format _ _ (lines_traced e n end le) in
       (ext.0, sym (trace_whole reached given start made given.format n end) ∙ ext.1)
+
+  -- so are the lines of a flush that is due behind them
+  flush_traced : (e n : ℕ) (end : End) → e ≤ n → Extends (lines_to reached given start made e ++ due_lines (is_flush_point given.interval e) (flush_lines e (deaths reached given start made e))) (trace_of reached given start made n end)
+  unfolding lines_to Extends
+  flush_traced e n end le =
+      let flush : List TraceLine = flush_lines e (deaths reached given start made e) in
+      let due = is_flush_point given.interval e in
+      elim (cases_lt e n) [
+        | inl below ↦
+            let next : Extends (lines_to reached given start made e ++ due_lines due flush) (lines_to reached given start made (suc e)) =
+            subst (λ (ls : List TraceLine). Extends (lines_to reached given start made e ++ ls) (lines_to reached given start made (suc e))) (sym (due_if due flush)) (lines_of given.names (mentions_to reached given start made e) (records_at reached given start made (suc e)), refl) in
+            extends_on _ _ _ next (lines_traced (suc e) n end (omega (arith, below)))
+        | inr above ↦
+            let here : e ≡ n = omega (arith, above, le) in
+            subst (λ (k : ℕ). Extends (lines_to reached given start made e ++ due_lines due flush) (trace_of reached given start made k end)) here (due_first due (lines_to reached given start made e) flush (Finish e (how_of end) ∷ []))
+      ]
 
   -- an event before which no end came is at most the last one
   up_to_last : (e n : ℕ) (end : End) → IsLastEvent reached given start made n end → ((k : ℕ) → k < e → ends_at k ≡ None) → e ≤ n
@@ -143,17 +164,11 @@ module _ {S : Type 0} (reached : Graph → ℕ → Bool) (given : Setting S) (st
 
   module _ (e : ℕ) (s : S) (last : ℕ → ℕ) (m : Mentions) (before now : Option (List ℕ)) (r : Running e s last m before now) where
     -- the lines of a flush that is due are those of the history
-    flush_is : flush_now reached given e s last m s last m [] [] ≡ flush_lines e (deaths reached given start made e)
+    flush_is : flush_now reached given e s last ≡ flush_lines e (deaths reached given start made e)
     flush_is =
         ap (λ f. flush_of (reached (given.rule.graph s)) (time_noted (reached (given.rule.graph s)) f e) e (given.rule.graph s)) (fun_ext r.noted)
         ∙ (ap (λ x. flush_of (reached (given.rule.graph x)) (time_noted (reached (given.rule.graph x)) (λ o. noted_before o e) e) e (given.rule.graph x)) r.state
         ∙ ap (λ f. flush_of (reached (given.rule.graph (left_by reached given start made e))) f e (given.rule.graph (left_by reached given start made e))) (fun_ext (λ o. noted_is o e)))
-
-    -- so far only a prefix of the trace was put
-    pub front_now : WritesPrefix reached given start made before now
-    front_now n end last' =
-        let ext = trace_front e n end (up_to_last e n end last' r.first) in
-        front_so_far before now (lines_written_in given.format (lines_to reached given start made e)) (trace_bytes given.format (trace_of reached given start made n end)) ext.0 r.lines ext.1
 
     -- THE NEXT EVENT WAS DONE
     module _ (s' : S) (last' : ℕ → ℕ) (m' : Mentions) (out out' : List ℕ) (empty : out ≡ []) (a : Advances reached given e s last m s' last' m' out out') where
@@ -167,7 +182,7 @@ module _ {S : Type 0} (reached : Graph → ℕ → Bool) (given : Setting S) (st
           let due = is_flush_point given.interval e in
           let records = λ (x : S). records_of (outcome_step given (suc e) (settled reached given e x)) in
           a.lines
-          ∙ (ap (λ o. o ++ lines_written_in given.format (due_lines due (flush_now reached given e s last m s' last' m' out out') ++ lines_of given.names m (records s))) empty
+          ∙ (ap (λ o. o ++ lines_written_in given.format (due_lines due (flush_now reached given e s last) ++ lines_of given.names m (records s))) empty
           ∙ (ap (λ f. lines_written_in given.format (due_lines due f ++ lines_of given.names m (records s))) flush_is
           ∙ (ap (λ d. lines_written_in given.format (d ++ lines_of given.names m (records s))) (due_if due (flush_lines e (deaths reached given start made e)))
           ∙ (ap (λ x. lines_written_in given.format ((if due then flush_lines e (deaths reached given start made e) else []) ++ lines_of given.names x (records s))) r.mentions
@@ -205,7 +220,7 @@ module _ {S : Type 0} (reached : Graph → ℕ → Bool) (given : Setting S) (st
       last_put : out' ≡ lines_written_in given.format (flush_lines e (deaths reached given start made e) ++ Finish e (how_of end) ∷ [])
       last_put =
           a.lines
-          ∙ (ap (λ o. o ++ lines_written_in given.format (flush_now reached given e s last m s' last' m' out out' ++ Finish e (how_of end) ∷ [])) empty
+          ∙ (ap (λ o. o ++ lines_written_in given.format (flush_now reached given e s last ++ Finish e (how_of end) ∷ [])) empty
           ∙ ap (λ f. lines_written_in given.format (f ++ Finish e (how_of end) ∷ [])) flush_is)
 
       trace_is : trace_bytes given.format (trace_of reached given start made e end) ≡ lines_written_in given.format (lines_to reached given start made e) ++ out'
@@ -240,6 +255,22 @@ module _ {S : Type 0} (reached : Graph → ℕ → Bool) (given : Setting S) (st
     pub front_turn : (next : Option End) (s' : S) (last' : ℕ → ℕ) (m' : Mentions) (out out' : List ℕ) → out ≡ [] → Turns reached given e s last m s' last' m' out out' next → (now' : Option (List ℕ)) → TakesPrefix now now' out' → WritesPrefix reached given start made before now'
     front_turn None s' last' m' out out' empty a now' h = front_next s' last' m' out out' empty a now' h
     front_turn (Some end) s' last' m' out out' empty a now' h = front_end s' last' m' end out out' empty a now' h
+
+    -- a turn that was broken off: only a prefix of the lines of its flush was put, or of the last lines
+    front_flush : (now' : Option (List ℕ)) (out : List ℕ) → out ≡ [] → BreaksFlush reached given e s last now now' out → WritesPrefix reached given start made before now'
+    front_flush now' out empty h n end last'' =
+        let due = is_flush_point given.interval e in
+        let flush : List TraceLine = flush_lines e (deaths reached given start made e) in
+        let ext = written_front given.format _ _ (flush_traced e n end (up_to_last e n end last'' r.first)) in
+        let piece : out ++ lines_written_in given.format (due_lines due (flush_now reached given e s last)) ≡ lines_written_in given.format (due_lines due flush) =
+        ap (λ o. o ++ lines_written_in given.format (due_lines due (flush_now reached given e s last))) empty ∙ ap (λ f. lines_written_in given.format (due_lines due f)) flush_is in
+        front_on before now now' (lines_written_in given.format (lines_to reached given start made e)) (lines_written_in given.format (due_lines due flush)) (trace_bytes given.format (trace_of reached given start made n end)) ext.0 r.lines
+        (sym (trace_whole reached given start made given.format n end) ∙ (ext.1 ∙ ap (λ b. b ++ ext.0) (flat_map-append (written_in given.format) (lines_to reached given start made e) (due_lines due flush))))
+        (subst (λ b. TakesPrefix now now' b) piece h)
+
+    pub front_broken : (now' : Option (List ℕ)) (out : List ℕ) → out ≡ [] → Breaks reached given e s last now now' out → WritesPrefix reached given start made before now'
+    front_broken now' out empty (inl h) = front_flush now' out empty h
+    front_broken now' out empty (inr h) = front_end s last m h.0 out _ empty (record { ends = h.1.ends; lines = refl }) now' h.1.takes
 
     pub turn_on : (next : Option End) (s' : S) (last' : ℕ → ℕ) (m' : Mentions) (out out' : List ℕ) → out ≡ [] → next ≡ None → Turns reached given e s last m s' last' m' out out' next → (n : ℕ) (now' : Option (List ℕ)) → n ≡ suc e → now' ≡ with_more now out' → Running n s' last' m' before now'
     turn_on next s' last' m' out out' empty is a n now' h en = running_on s' last' m' out out' empty (subst (λ o. Turns reached given e s last m s' last' m' out out' o) is a) n now' h en

@@ -1,6 +1,6 @@
 -- What holds of a run after an event: how far it came, for what its stamps stand, how many visits it made, and what
 -- was printed. Quiet events keep it.
-use Rattle.std.proofs.Common.{◌≡◌, ℕ, zero, suc, ◌+◌, ◌*◌, ◌≤◌, ◌++◌, Bool, false, if◌then◌else◌, List, [], Option, None, refl, sym, ◌∙◌, ap, subst, arith}
+use Rattle.std.proofs.Common.{◌≡◌, ℕ, zero, suc, ◌+◌, ◌*◌, ◌++◌, Bool, false, if◌then◌else◌, List, [], Option, None, refl, sym, ◌∙◌, ap, subst, arith}
 use Rattle.std.specs.Prelude.{slice_index}
 use Rattle.et_graph.specs.Graph.{Graph, Decides}
 use Rattle.et_state.specs.declared.records.Record.{Record}

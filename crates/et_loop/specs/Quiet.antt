@@ -1,7 +1,7 @@
 -- EVENTS THAT TELL NOTHING: they are done one after the other, with no line in between, and nothing printed. S is what a state
 -- is, and `said` what the event of a thread prints in a state, where it is done.
 use Rattle.std.specs.Prelude.{◌≡◌, ℕ, zero, suc, ◌+◌, ◌-◌, ◌*◌, ◌<◌, ◌≤◌, Bool, false, List, [], Option, None, IfNone, length, slice_index}
-use Rattle.et_base.specs.declared.value.End.{End}
+use Rattle.et_io.specs.Sink.{TakesUpTo}
 use Rattle.et_graph.specs.Graph.{Graph, Decides}
 use Rattle.et_graph.specs.Listed.{AreListed}
 use Rattle.et_state.specs.declared.records.Record.{Record}
@@ -11,7 +11,7 @@ use Rattle.et_state.specs.Naming.{Mentions}
 use Rattle.et_state.specs.History.{Setting, deaths_to, is_gone, is_flush_point, picked_turn, ending, outcome_step}
 use Rattle.et_loop.specs.declared.guest.Stretch.{Stretch}
 use Rattle.et_loop.specs.declared.tracer.Progress.{Progress}
-use Rattle.et_loop.specs.Run.{time_noted, Goes, Turns}
+use Rattle.et_loop.specs.Run.{time_noted, Goes, Turns, Breaks}
 use Rattle.et_loop.specs.Said.{SaysStep, SaysTurn}
 use Rattle.et_loop.specs.Stamping.{StepsWhereDone, StampsMark, Stamped, Passes}
 use Rattle.et_loop.specs.Visits.{visits_of_event, visits_of_turn}
@@ -111,18 +111,25 @@ module _ {S : Type 0} (given : Setting S) (said : S → ℕ → List ℕ) where
         pub events : GoQuietly quiet e s from old between
         pub visits : (reached : Graph → ℕ → Bool) → Decides reached → after ≤ before + 8 * quiet + visits_of_turn reached given flush_visits (e + quiet) from
 
-      pub record IsTurn (m : Mentions) (s' : S) (m' : Mentions) (out out' bytes new : List ℕ) (progress : Progress) : Type 0 where
+      -- the stamps show the deaths of a flush there
+      abbrev ShowsDeaths : (Graph → ℕ → Bool) → (ℕ → ℕ) → ℕ → S → List ℕ → Type 0
+      ShowsDeaths reached last quiet from between = AreListed (given.rule.graph from) (slice_index between) (let g = given.rule.graph from in deaths_to (reached g) (is_gone g) (time_noted (reached g) last (e + quiet)) g.made)
+
+      -- The lines of the turn stand behind `out`, which was in the buffer before it. The sink took all of it but what is left there.
+      pub record IsTurn (m : Mentions) (s' : S) (m' : Mentions) (taken taken' : Option (List ℕ)) (out left bytes new : List ℕ) (progress : Progress) : Type 0 where
         pub from : S
         pub between : List ℕ
         pub comes : ComesInTurn progress.quiet from between
-        pub turns : (reached : Graph → ℕ → Bool) → Decides reached → (last : ℕ → ℕ)
-            → AreListed (given.rule.graph from) (slice_index between) (let g = given.rule.graph from in deaths_to (reached g) (is_gone g) (time_noted (reached g) last (e + progress.quiet)) g.made)
-            → Turns reached given (e + progress.quiet) from last m s' (time_noted (reached (given.rule.graph from)) last (e + progress.quiet)) m' out out' progress.end
+        pub whole : List ℕ
+        pub put : TakesUpTo taken taken' whole left
+        pub turns : (reached : Graph → ℕ → Bool) → Decides reached → (last : ℕ → ℕ) → ShowsDeaths reached last progress.quiet from between
+            → Turns reached given (e + progress.quiet) from last m s' (time_noted (reached (given.rule.graph from)) last (e + progress.quiet)) m' out whole progress.end
         pub says : (reached : Graph → ℕ → Bool) → Decides reached → SaysTurn reached given said (e + progress.quiet) from bytes progress.end
         pub passes : IfNone progress.end (Passes (is_flush_point given.interval (e + progress.quiet)) (e + progress.quiet) (given.rule.graph from) (given.rule.graph s') (slice_index between) (slice_index new))
 
-      pub record IsBrokenTurn : Type 0 where
+      pub record IsBrokenTurn (taken taken' : Option (List ℕ)) (out : List ℕ) : Type 0 where
         pub quiet : ℕ
         pub from : S
         pub between : List ℕ
         pub comes : ComesInTurn quiet from between
+        pub breaks : (reached : Graph → ℕ → Bool) → Decides reached → (last : ℕ → ℕ) → ShowsDeaths reached last quiet from between → Breaks reached given (e + quiet) from last taken taken' out

@@ -1,64 +1,86 @@
 //! The flushes of a run.
-ghost use Rattle.std.specs.Prelude.{◌≡◌, ℕ, Bool, true, false, ◌+◌, ◌<◌, ◌≤◌, ◌^◌, ◌++◌, ◌↔◌, List, IsTrue, length, OnOk, slice_index};
+ghost use Rattle.std.specs.Prelude.{◌≡◌, ℕ, Bool, true, false, ◌+◌, ◌<◌, ◌≤◌, ◌^◌, ◌++◌, ◌↔◌, List, IsTrue, length, OnOk, OnErr, slice_index};
+ghost use Rattle.et_io.specs.Faults.{count_after, is_write_fault};
+ghost use Rattle.et_io.specs.Sink.{TakesUpTo, TakesPrefix};
 ghost use Rattle.et_graph.specs.Graph.{IsReached};
 ghost use Rattle.et_graph.specs.Listing.{death_pairs};
 ghost use Rattle.et_state.specs.History.{flush_lines};
 ghost use Rattle.et_binary.specs.Formats.{lines_written_in};
-ghost use Rattle.et_loop.specs.Run.{due_lines, due_state, last_lines};
+ghost use Rattle.et_loop.specs.Run.{due_lines, due_state, last_lines, PutsFlush, PutsLast};
 ghost use Rattle.et_graph.specs.Listed.{AreListed};
 ghost use Rattle.et_loop.specs.Kept.{Settles};
 ghost use Rattle.et_loop.specs.Stamping.{HasStamps};
 ghost use Rattle.et_loop.specs.Visits.{due_visits, last_visits};
 
 use crate::guest::Guest;
+use crate::options::Ran;
 use crate::schedule::ended_as;
 use crate::tracer::Tracer;
-use et_base::{End, Format, NoMemory, Steps, TraceLine};
+use et_base::{Format, Steps, TraceLine};
 use et_binary::write_line_in;
 use et_graph::Death;
+use et_io::{RunFault, Sink, put_piece};
 use std::sync::ledger::Ledger;
 
-/// Writes the lines of a flush.
-fn write_deaths(
+/// Gathers the lines of a flush behind what is in the buffer, and puts that in pieces of 64 KiB; what is less stays in the
+/// buffer.
+fn put_deaths<O: Sink>(
     format: Format,
-    buffer: &mut Vec<u8>,
     event: u64,
     deaths: &[Death],
-) -> Result<(), NoMemory>
+    buffer: &mut Vec<u8>,
+    sink: &mut O,
+) -> Result<(), RunFault>
     requires { length deaths.now < 2 ^ 32 }
-    ensures { OnOk result (buffer.new.items ≡ buffer.old.items
-        ++ lines_written_in format (flush_lines event (death_pairs deaths.now))) }
+    ensures ok { OnOk result
+        (TakesUpTo (O.taken sink.old) (O.taken sink.new) (buffer.old.items
+        ++ lines_written_in format (flush_lines event (death_pairs deaths.now))) buffer.new.items) }
+    ensures write { O.faults sink.new ≡ count_after (is_write_fault result) (O.faults sink.old) }
+    ensures err { OnErr result (TakesPrefix (O.taken sink.old) (O.taken sink.new) (buffer.old.items
+        ++ lines_written_in format (flush_lines event (death_pairs deaths.now)))) }
+    ensures never_falls { O.faults sink.old ≤ O.faults sink.new }
 {
     let line = TraceLine::Flush {
         event,
         deaths: deaths.len() as u32,
     };
-    write_line_in(format, &line, buffer)?;
-    'write: for death in deaths {
+    let Ok(()) = write_line_in(format, &line, buffer) else {
+        return Err(RunFault::NoMemory);
+    };
+    'put: for death in deaths {
         let line = TraceLine::Death {
             object: death.object.number(),
             time: death.time,
         };
-        write_line_in(format, &line, buffer)?;
+        let Ok(()) = write_line_in(format, &line, buffer) else {
+            return Err(RunFault::NoMemory);
+        };
+        put_piece(sink, buffer)?;
     }
     Ok(())
 }
 
 /// A flush after event e, and its lines.
-fn report<G: Guest, L: Ledger>(
+fn report<G: Guest, O: Sink, L: Ledger>(
     code: &G::Code,
     e: u64,
     machine: &mut G,
     tracer: &mut Tracer<G::Room>,
+    sink: &mut O,
     visits: &mut Steps<L>,
-) -> Result<(), NoMemory>
+) -> Result<(), RunFault>
     requires sound { G.is_sound code.now (G.state machine.old) }
     requires stamps { HasStamps (G.graph_of (G.state machine.old)) tracer.old.stamps }
     requires room { G.has_places tracer.old.room (G.graph_of (G.state machine.old)).made }
-    ensures lines { (deaths : List (ℕ × ℕ)) → AreListed
-        (G.graph_of (G.state machine.old)) (slice_index tracer.old.stamps) deaths → OnOk result
-        (tracer.new.buffer.items ≡ tracer.old.buffer.items
-        ++ lines_written_in tracer.old.format (flush_lines e deaths)) }
+    ensures lines { OnOk result (PutsFlush
+        (G.graph_of (G.state machine.old)) tracer.old.stamps tracer.old.format true e
+        (O.taken sink.old) (O.taken sink.new) tracer.old.buffer.items tracer.new.buffer.items) }
+    ensures err { (deaths : List (ℕ × ℕ)) → AreListed
+        (G.graph_of (G.state machine.old)) (slice_index tracer.old.stamps) deaths → OnErr result
+        (TakesPrefix (O.taken sink.old) (O.taken sink.new) (tracer.old.buffer.items
+        ++ lines_written_in tracer.old.format (flush_lines e deaths))) }
+    ensures write { O.faults sink.new ≡ count_after (is_write_fault result) (O.faults sink.old) }
+    ensures never_falls { O.faults sink.old ≤ O.faults sink.new }
     ensures state { (here : ℕ → Bool) →
         ((o : ℕ) → IsTrue (here o) ↔ IsReached (G.graph_of (G.state machine.old)) o) →
         OnOk result (G.state machine.new ≡ G.flushed_of here (G.state machine.old)) }
@@ -79,32 +101,42 @@ fn report<G: Guest, L: Ledger>(
     ensures rota { OnOk result (tracer.new.rota ≡ tracer.old.rota) }
     ensures output { OnOk result (tracer.new.output ≡ tracer.old.output) }
 {
-    machine.flush(code, &tracer.stamps, &mut tracer.room, visits)?;
-    write_deaths(
+    let Ok(()) = machine.flush(code, &tracer.stamps, &mut tracer.room, visits) else {
+        return Err(RunFault::NoMemory);
+    };
+    put_deaths(
         tracer.format,
-        &mut tracer.buffer,
         e,
         G::deaths(&tracer.room),
+        &mut tracer.buffer,
+        sink,
     )
 }
 
-/// The flush after event e, where it is due.
-pub fn settle<G: Guest, L: Ledger>(
+/// The flush after event e, where it is due. Its lines are gathered behind what is in the buffer, and put in pieces of 64 KiB.
+/// `Write` comes exactly where a put failed, and the sink counted one fault; after `Write` and after `NoMemory` the sink took a
+/// prefix of them all.
+pub fn settle<G: Guest, O: Sink, L: Ledger>(
     code: &G::Code,
     due: bool,
     e: u64,
     machine: &mut G,
     tracer: &mut Tracer<G::Room>,
+    sink: &mut O,
     visits: &mut Steps<L>,
-) -> Result<(), NoMemory>
+) -> Result<(), RunFault>
     requires sound { G.is_sound code.now (G.state machine.old) }
     requires stamps { HasStamps (G.graph_of (G.state machine.old)) tracer.old.stamps }
     requires room { G.has_places tracer.old.room (G.graph_of (G.state machine.old)).made }
-    ensures lines { (deaths : List (ℕ × ℕ)) → (due ≡ true →
+    ensures lines { OnOk result (PutsFlush
+        (G.graph_of (G.state machine.old)) tracer.old.stamps tracer.old.format due e
+        (O.taken sink.old) (O.taken sink.new) tracer.old.buffer.items tracer.new.buffer.items) }
+    ensures err { (deaths : List (ℕ × ℕ)) → (due ≡ true →
         AreListed (G.graph_of (G.state machine.old)) (slice_index tracer.old.stamps) deaths) →
-        OnOk result (tracer.new.buffer.items
-        ≡ tracer.old.buffer.items
-        ++ lines_written_in tracer.old.format (due_lines due (flush_lines e deaths))) }
+        OnErr result (TakesPrefix (O.taken sink.old) (O.taken sink.new) (tracer.old.buffer.items
+        ++ lines_written_in tracer.old.format (due_lines due (flush_lines e deaths)))) }
+    ensures write { O.faults sink.new ≡ count_after (is_write_fault result) (O.faults sink.old) }
+    ensures never_falls { O.faults sink.old ≤ O.faults sink.new }
     ensures state { (here : ℕ → Bool) → ((o : ℕ) → IsTrue (here o)
         ↔ IsReached (G.graph_of (G.state machine.old)) o) → OnOk result (G.state machine.new
         ≡ due_state due (G.flushed_of here (G.state machine.old)) (G.state machine.old)) }
@@ -126,40 +158,47 @@ pub fn settle<G: Guest, L: Ledger>(
     ensures output { OnOk result (tracer.new.output ≡ tracer.old.output) }
 {
     if due {
-        report(code, e, machine, tracer, visits)?;
+        report(code, e, machine, tracer, sink, visits)?;
     }
     Ok(())
 }
 
-/// Writes what stands at the end: a last flush, unless there was one after the same event, and the Z line.
-pub fn conclude<G: Guest, L: Ledger>(
+/// What stands at the end: a last flush, unless there was one after the same event, and the Z line. They are put as `settle` puts
+/// lines.
+pub fn conclude<G: Guest, O: Sink, L: Ledger>(
     code: &G::Code,
     due: bool,
-    e: u64,
-    end: &End,
+    ran: &Ran,
     machine: &mut G,
     tracer: &mut Tracer<G::Room>,
+    sink: &mut O,
     visits: &mut Steps<L>,
-) -> Result<(), NoMemory>
+) -> Result<(), RunFault>
     requires sound { G.is_sound code.now (G.state machine.old) }
     requires stamps { HasStamps (G.graph_of (G.state machine.old)) tracer.old.stamps }
     requires room { G.has_places tracer.old.room (G.graph_of (G.state machine.old)).made }
     ensures visits { (here : ℕ → Bool) → (due ≡ false →
         (o : ℕ) → IsTrue (here o) ↔ IsReached (G.graph_of (G.state machine.old)) o) →
         visits.new ≤ visits.old + last_visits due (G.flush_visits_of here (G.state machine.old)) }
-    ensures lines { (deaths : List (ℕ × ℕ)) → (due ≡ false →
+    ensures lines { OnOk result (PutsLast
+        (G.graph_of (G.state machine.old)) tracer.old.stamps tracer.old.format due ran.now
+        (O.taken sink.old) (O.taken sink.new) tracer.old.buffer.items tracer.new.buffer.items) }
+    ensures err { (deaths : List (ℕ × ℕ)) → (due ≡ false →
         AreListed (G.graph_of (G.state machine.old)) (slice_index tracer.old.stamps) deaths) →
-        OnOk result (tracer.new.buffer.items
-        ≡ tracer.old.buffer.items
-        ++ lines_written_in tracer.old.format (last_lines due end.now e (flush_lines e deaths))) }
+        OnErr result (TakesPrefix (O.taken sink.old) (O.taken sink.new)
+        (tracer.old.buffer.items ++ lines_written_in tracer.old.format
+        (last_lines due ran.now.end ran.now.event (flush_lines ran.now.event deaths)))) }
+    ensures write { O.faults sink.new ≡ count_after (is_write_fault result) (O.faults sink.old) }
+    ensures never_falls { O.faults sink.old ≤ O.faults sink.new }
     ensures output { OnOk result (tracer.new.output ≡ tracer.old.output) }
 {
-    if !due {
-        report(code, e, machine, tracer, visits)?;
-    }
+    settle(code, !due, ran.event, machine, tracer, sink, visits)?;
     let line = TraceLine::Finish {
-        event: e,
-        how: ended_as(end),
+        event: ran.event,
+        how: ended_as(&ran.end),
     };
-    write_line_in(tracer.format, &line, &mut tracer.buffer)
+    let Ok(()) = write_line_in(tracer.format, &line, &mut tracer.buffer) else {
+        return Err(RunFault::NoMemory);
+    };
+    Ok(())
 }

@@ -29,10 +29,11 @@ fn first_room<G: Guest>(alloc: Global, objects: u32) -> Result<G::Room, NoMemory
 }
 
 /// Runs a guest from its starting state, whose own records are `made` and whose objects are all reached, and writes the trace
-/// of its history to the sink, in the format of the options and event by event: one put after each event that has lines. What
-/// an event prints is put to the sink of the guest behind that, in one put. It keeps a stamp for each object, and searches
-/// nothing but at a flush: the visits are at most those that the flushes of the history make, eight for each event, and one for
-/// each object that an event makes.
+/// of its history to the sink, in the format of the options and event by event: one put after each event that has lines. Before
+/// it, where a flush comes there, one put takes each 64 KiB of the lines of that flush, so that they are never whole in memory.
+/// What an event prints is put to the sink of the guest behind all that, in one put. It keeps a stamp for each object, and
+/// searches nothing but at a flush: the visits are at most those that the flushes of the history make, eight for each event, and
+/// one for each object that an event makes.
 ///
 /// `Write` comes exactly where a put failed, and one of the two sinks counted one fault. After `Write` and after `NoMemory` the
 /// sink took a prefix of the trace, and the guest's a prefix of what is printed, and the machine may only be dropped. Then the
@@ -102,10 +103,7 @@ pub fn run_guest<G: Guest, O: Sink, P: Sink, L: Ledger>(
     let mut e = 0;
     'events: loop {
         tracer.buffer.clear();
-        let progress = match turn(code, options, e, machine, &mut tracer, visits) {
-            Ok(progress) => progress,
-            Err(_) => return Err(RunFault::NoMemory),
-        };
+        let progress = turn(code, options, e, machine, &mut tracer, sink, visits)?;
         put_all(sink, &tracer.buffer)?;
         put_all(guest, &tracer.output.said)?;
         e += progress.quiet;

@@ -1,6 +1,7 @@
 //! One turn of the run: a flush comes where it is due, then events are done, and what the last one lost and made is stamped.
 ghost use Rattle.std.specs.Prelude.{◌≡◌, ◌≢◌, ℕ, ◌+◌, ◌<◌, ◌≤◌, ◌^◌, ◌++◌, ◌∷◌, All, Contains, length, IfOk, OnOk, OnErr, IfNone, slice_index};
 ghost use Rattle.et_base.specs.declared.line.TraceLine.TheVariants.{Header};
+ghost use Rattle.et_io.specs.Faults.{count_after, is_write_fault};
 ghost use Rattle.et_state.specs.Naming.{IsNamed, nothing_mentioned, mentions_after, lines_of};
 ghost use Rattle.et_state.specs.History.{is_flush_point};
 ghost use Rattle.et_state.specs.Options.{AreOptions};
@@ -18,12 +19,14 @@ use crate::guest::Guest;
 use crate::marks::restamp;
 use crate::naming::Numbering;
 use crate::next_flush::NextFlush;
+use crate::options::Ran;
 use crate::program::Program;
 use crate::schedule::Rota;
 use crate::slices::next_slice;
 use et_base::{End, Format, NoMemory, Steps, ThreadId, TraceLine};
 use et_binary::{header_version, write_line_in};
 use et_graph::Stamps;
+use et_io::{RunFault, Sink};
 use et_state::{EventEnd, Lines, Options, Output};
 use std::alloc::Global;
 use std::sync::ledger::Ledger;
@@ -252,15 +255,18 @@ impl<R: Drop> Tracer<R> {
 }
 
 /// One turn of the run after event e: a flush comes where it is due, and then events are done at once, the last of which alone
-/// may have lines or print, or the history ends. After `NoMemory` too it made no more visits of objects than the turn may.
-pub fn turn<G: Guest, L: Ledger>(
+/// may have lines or print, or the history ends. The lines of a flush are put in pieces of 64 KiB, and what is less stays in the
+/// buffer with the other lines of the turn. `Write` comes exactly where a put failed, and the sink counted one fault. After it
+/// and after `NoMemory` the sink took a prefix of the lines, and no more visits of objects were made than the turn may.
+pub fn turn<G: Guest, O: Sink, L: Ledger>(
     code: &G::Code,
     options: &Options,
     e: u64,
     machine: &mut G,
     tracer: &mut Tracer<G::Room>,
+    sink: &mut O,
     visits: &mut Steps<L>,
-) -> Result<Progress, NoMemory>
+) -> Result<Progress, RunFault>
     requires options { AreOptions options.now }
     requires limit { e ≤ options.now.limit }
     requires clock { G.clock_of (G.state machine.old) ≡ e }
@@ -275,11 +281,15 @@ pub fn turn<G: Guest, L: Ledger>(
     ensures turn { IfOk result (λ progress. IsTurn (setting_of (G.event_of code.now) G.unended_of
         G.graph_of G.flushed_of (G.Code.names code.now) options.now) (G.said_of code.now)
         e (G.state machine.old) tracer.old.stamps visits.old visits.new G.flush_visits_of
-        tracer.old.numbering (G.state machine.new) tracer.new.numbering tracer.old.buffer.items
-        tracer.new.buffer.items tracer.new.output.said.items tracer.new.stamps progress) }
+        tracer.old.numbering (G.state machine.new) tracer.new.numbering
+        (O.taken sink.old) (O.taken sink.new) tracer.old.buffer.items tracer.new.buffer.items
+        tracer.new.output.said.items tracer.new.stamps progress) }
     ensures broken { OnErr result (IsBrokenTurn (setting_of (G.event_of code.now) G.unended_of
         G.graph_of G.flushed_of (G.Code.names code.now) options.now) (G.said_of code.now)
-        e (G.state machine.old) tracer.old.stamps visits.old visits.new G.flush_visits_of) }
+        e (G.state machine.old) tracer.old.stamps visits.old visits.new G.flush_visits_of
+        (O.taken sink.old) (O.taken sink.new) tracer.old.buffer.items) }
+    ensures write { O.faults sink.new ≡ count_after (is_write_fault result) (O.faults sink.old) }
+    ensures never_falls { O.faults sink.old ≤ O.faults sink.new }
     ensures stamps { IfOk result (λ progress. IfNone progress.end
         (HasStamps (G.graph_of (G.state machine.new)) tracer.new.stamps)) }
     ensures room { IfOk result (λ progress. IfNone progress.end
@@ -301,14 +311,17 @@ pub fn turn<G: Guest, L: Ledger>(
         (IsRota options.now.schedule (e + progress.quiet + 1) tracer.new.rota)) }
 {
     let due = tracer.next_flush.pass(options.interval, e);
-    settle(code, due, e, machine, tracer, visits)?;
-    let progress = step(code, options, e, due, machine, tracer, visits)?;
-    let last = e + progress.quiet;
+    settle(code, due, e, machine, tracer, sink, visits)?;
+    let Ok(progress) = step(code, options, e, due, machine, tracer, visits) else {
+        return Err(RunFault::NoMemory);
+    };
+    let event = e + progress.quiet;
     let end = progress.end;
     match end {
         None => Ok(progress),
-        Some(how) => {
-            conclude(code, due, last, &how, machine, tracer, visits)?;
+        Some(end) => {
+            let ran = Ran { end, event };
+            conclude(code, due, &ran, machine, tracer, sink, visits)?;
             Ok(progress)
         }
     }

@@ -1,7 +1,4 @@
-use Rattle.std.proofs.Common.{◌≡◌, ℕ, ◌+◌, ◌<◌, ◌≤◌, [], List, None, refl, sym, ◌∙◌, ap, subst, arith}
-use Rattle.et_state.specs.declared.records.Record.{Record}
-use Rattle.et_state.specs.Naming.{mentions_after, lines_of}
-use Rattle.et_binary.specs.Formats.{lines_written_in}
+use Rattle.std.proofs.Common.{ℕ, ◌+◌, ◌<◌, None, refl, sym, ◌∙◌, ap, subst, arith}
 use Rattle.et_loop.specs.Options.{setting_of}
 use Rattle.et_loop.specs.Pace.{IsNextFlush, IsRota}
 use Rattle.et_loop.specs.Quiet.{IsStretch, IsBrokenOff, IsStep}

@@ -1,4 +1,4 @@
-use Rattle.std.proofs.Common.{ℕ, ◌<◌, subst, arith}
+use Rattle.std.proofs.Common.{subst, arith}
 use Rattle.et_state.specs.Options.{IsSchedule}
 use Rattle.et_state.specs.declared.options.Schedule.{Schedule}
 use Rattle.et_loop.proofs.Pacing.{turn_quantum}
