@@ -2,7 +2,7 @@
 //! program. All of them speak of one history, the one in which nothing is freed. Each is a function that calls the laws that
 //! it stands on: what it promises is its contract.
 
-ghost use Rattle.std.specs.Prelude.{◌≡◌, ◌≢◌, ◌↔◌, Bool, ℕ, ◌+◌, ◌-◌, ◌^◌, ◌<◌, ◌≤◌, List, length, Contains, filter, Result, Ok, Option, Some};
+ghost use Rattle.std.specs.Prelude.{◌≡◌, ◌≢◌, ◌↔◌, Bool, true, false, ℕ, ◌+◌, ◌-◌, ◌^◌, ◌<◌, ◌≤◌, List, length, Contains, filter, Result, Ok, Option, Some};
 ghost use Rattle.et_base.specs.Numbers.{AreBytes};
 ghost use Rattle.et_base.specs.declared.line.TraceLine.{TraceLine};
 ghost use Rattle.et_base.specs.declared.line.TraceLine.TheVariants.{Death};
@@ -50,6 +50,7 @@ ghost use Rattle.et_traces.specs.Snapshots.{IsEndedRun, live_objects};
 ghost use Rattle.et_typed.specs.Refused.{IsRefused};
 ghost use Rattle.et_verify.specs.Typings.{IsVerified};
 ghost use Rattle.et_walk.specs.Holding.{monitor_in};
+ghost use Rattle.et_walk.specs.Writes.{is_out_slot};
 ghost use Rattle.et_theorems.specs.Runs.{Run, IsTraced, IsWritten, IsFlushed, deaths_at, lines_of, next_moment, picks_of, setting_of, state_at};
 
 use et_convert::laws::{spelled_lists_differ, spelled_traces_have_no_fault};
@@ -209,7 +210,8 @@ pub fn curves_show_what_is_reached()
 
 /// What the trace tells of the heap at an event is what stood there: the objects that are live are those made by then that are
 /// reached in the state that it left or in that of a later event; in each slot of such an object, and in each static, stands
-/// the reference that the state holds, or 0 where it holds none; and what it refers to is live.
+/// the reference that the state holds, or 0 where it holds none; and what it refers to is live. Of the static of System.out the
+/// trace tells nothing, so that 0 stands there.
 pub fn snapshots_show_the_heap()
     ensures objects { (r : Run) (e : ℕ) → IsTraced r → e ≤ r.last →
         live_objects (lines_of r) e
@@ -219,7 +221,10 @@ pub fn snapshots_show_the_heap()
         Contains (live_objects (lines_of r) e) o →
         content (lines_of r) e o i ≡ number_of_value (slot_of (object_in (state_at r e) o) i) }
     ensures statics { (r : Run) (e i : ℕ) → IsTraced r → e ≤ r.last →
+        is_out_slot r.program i ≡ false →
         content (lines_of r) e 0 i ≡ number_of_value (static_at (state_at r e).kept.guest i) }
+    ensures out { (r : Run) (e i : ℕ) → IsTraced r → e ≤ r.last →
+        is_out_slot r.program i ≡ true → content (lines_of r) e 0 i ≡ 0 }
     ensures targets { (r : Run) (e o i target : ℕ) → IsTraced r → e ≤ r.last →
         Contains (live_objects (lines_of r) e) o → content (lines_of r) e o i ≡ target →
         target ≢ 0 → Contains (live_objects (lines_of r) e) target }
