@@ -1,26 +1,18 @@
 -- What the turn does in which a thread is entered.
-use Rattle.std.proofs.Common.{◌≡◌, ℕ, ◌<◌, Bool, true, false, List, [], ◌∷◌, length, Option, Some, None, refl, sym, ◌∙◌, ap, arith}
-use Rattle.std.specs.Prelude.{◌==◌, codes, unwrap_or, Result, Ok, Err, if◌then◌else◌}
-use Rattle.et_base.specs.declared.value.Value.TheVariants.{Ref}
-use Rattle.et_heap.specs.Objects.{ObjectState, IsHeld, at, found, is_there, object_at}
+use Rattle.std.proofs.Common.{◌≡◌, ℕ, Bool, true, false, Some, refl, sym, ◌∙◌, ap, arith}
+use Rattle.std.specs.Prelude.{◌==◌, if◌then◌else◌}
+use Rattle.et_heap.specs.Objects.{IsHeld}
 use Rattle.et_state.specs.declared.stage.Turn.{Turn}
 use Rattle.et_state.specs.declared.stage.Turn.TheVariants.{Entry}
-use Rattle.et_state.specs.Threads.{FrameState, turn_of, first_frame}
+use Rattle.et_state.specs.Threads.{turn_of}
 use Rattle.et_state.specs.State.{Kept, MachineState, kept_of}
 use Rattle.et_state.specs.Words.{thread_at}
 use Rattle.et_state.proofs.Places.{ended_root}
 use Rattle.et_program.specs.Entries.{Linked}
-use Rattle.et_program.specs.Resolution.{resolve_method, select}
-use Rattle.et_program.specs.declared.errors.LinkError.{LinkError}
-use Rattle.et_state.specs.declared.records.Record.{Record}
-use Rattle.et_state.specs.declared.ends.EventEnd.TheVariants as ends
 use Rattle.et_state.specs.Outcome.{Outcome}
-use Rattle.et_event.specs.Answered.{EventAnswers}
-use Rattle.et_event.specs.Calls.{enters_first, enters_main, enters_run, entry_call, is_of_owner}
-use Rattle.et_event.specs.Checks.{ill_typed_unless, resolved, after_selection}
-use Rattle.et_event.specs.Errors.{class_called, error_of}
+use Rattle.et_event.specs.Calls.{enters_main, enters_run, entry_call}
 use Rattle.et_event.specs.Event.{event, does_turn}
-use Rattle.et_event.specs.Moments.{Moment, moment, begins, object_class, ill_typed, thread_of, throws}
+use Rattle.et_event.specs.Moments.{Moment, moment, thread_of}
 use Rattle.et_event.specs.Sound.{IsSoundFor}
 use Rattle.et_calls.specs.Fresh.{IsFresh}
 use Rattle.et_calls.proofs.FirstMethods.{object_argument}

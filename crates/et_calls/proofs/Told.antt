@@ -1,5 +1,8 @@
 -- What a turn of calls answers, by what is answered at its place.
-use Rattle.std.proofs.Common.{◌≡◌, ℕ, List, Option, sym, subst}
+use Rattle.std.proofs.Common.{◌≡◌, ℕ, ◌<◌, Bool, true, false, List, length, Option, Some, None, sym, ap, subst, arith}
+use Rattle.std.specs.Prelude.{if◌then◌else◌}
+use Rattle.et_program.specs.BuiltIns.{is_deferred}
+use Rattle.et_program.specs.Members.{kept}
 use Rattle.et_program.specs.Entries.{Linked}
 use Rattle.et_state.specs.declared.stage.Turn.TheVariants.{Instruction}
 use Rattle.et_state.specs.Threads.{turn_of}
@@ -8,12 +11,17 @@ use Rattle.et_state.specs.Words.{thread_at, top}
 use Rattle.et_state.specs.Outcome.{Outcome}
 use Rattle.et_state.specs.declared.records.Record.{Record}
 use Rattle.et_state.specs.declared.ends.EventEnd.{EventEnd}
+use Rattle.et_state.specs.declared.ends.EventEnd.TheVariants as ends
 use Rattle.et_event.specs.Event.{does, event}
-use Rattle.et_event.specs.Moments.{moment}
+use Rattle.et_event.specs.Moments.{Moment, moment}
 use Rattle.et_parts.specs.Places.{IsPlace, site_at}
 use Rattle.et_parts.specs.declared.places.Place.{Place}
 use Rattle.et_event.specs.Selected.{deferred_at, deferred_call}
-use Rattle.et_event.specs.Answered.{DefersOrAnswers}
+use Rattle.et_event.specs.Answered.{DefersOrAnswers, EventAnswers}
+use Rattle.et_event.proofs.Deferrals.{native_exactly}
+use Rattle.et_builtins.specs.Plans.{IsCallPlan, method_entered}
+use Rattle.et_builtins.specs.declared.plans.CallPlan.{CallPlan}
+use Rattle.et_builtins.specs.declared.plans.CallPlan.TheVariants.{IllTyped, Throws, Waits, Initializes, Enters}
 use Rattle.et_builtins.proofs.Deferring.{at_place}
 
 -- the answer at a place is that of the turn
@@ -24,3 +32,29 @@ turn_answers p m t place end m' out out' turn is same a =
     let o : Outcome Kept = does (moment p m t) (site_at place) place.row in
     subst (λ (x : Outcome Kept). DefersOrAnswers (deferred_call p (kept_of m) t) x end m m' out out') (sym same)
     (subst (λ (r : Option ℕ). DefersOrAnswers r o end m m' out out') (sym (at_place p m t place turn is)) a)
+
+-- NO OTHER EVENT is left to another call
+
+pub never_native : (o : Outcome Kept) (end : EventEnd) (m m' : MachineState) (out out' : List Record) → EventAnswers o end m m' out out' → (method : ℕ) → end ≡ ends.Native method → ⊥
+never_native o end m m' out out' a method is = let named : None ≡ Some method = (native_exactly None o end m m' out out' a method).0 is in cc
+
+number_in : EventEnd → ℕ → ℕ
+number_in (ends.Native m) n = m
+number_in other n = n
+
+pub same_native : (a b : ℕ) → ends.Native a ≡ ends.Native b → a ≡ b
+unfolding number_in
+same_native a b e = ap (λ (x : EventEnd). number_in x b) e
+
+-- .. and what is left is a call of a method of the program
+
+kept_within : (b : Bool) (k m n : ℕ) → k < n → Some m ≡ (if b then Some k else None) → m < n
+kept_within true k m n lt is = let same : m ≡ k = cc in omega (arith, same, lt)
+kept_within false k m n lt is = absurd (let e : Some m ≡ None = is in cc)
+
+pub named_within : (e : Moment) (plan : CallPlan) (m : ℕ) → IsCallPlan e plan → Some m ≡ kept (is_deferred e.program) (method_entered plan) → m < length e.program.methods
+named_within e (Enters k count) m plan is = kept_within (is_deferred e.program k) k m (length e.program.methods) plan.0 is
+named_within e (Initializes k count) m plan is = absurd (let e : Some m ≡ None = is in cc)
+named_within e (Throws error) m plan is = absurd (let e : Some m ≡ None = is in cc)
+named_within e IllTyped m plan is = absurd (let e : Some m ≡ None = is in cc)
+named_within e Waits m plan is = absurd (let e : Some m ≡ None = is in cc)

@@ -1,5 +1,5 @@
 //! The event call of calls and returns, of the entry of a thread and of the steps of initializers.
-ghost use Rattle.std.specs.Prelude.{◌≡◌, ℕ, ◌+◌, ◌<◌, ◌≤◌, ◌↔◌, Some, IfOk, IsSome};
+ghost use Rattle.std.specs.Prelude.{◌≡◌, ℕ, ◌+◌, ◌<◌, ◌≤◌, ◌↔◌, Some, IfOk, IsSome, length};
 ghost use Rattle.et_event.specs.declared.families.Family.TheVariants as families;
 ghost use Rattle.et_event.specs.Answered.{EventAnswers};
 ghost use Rattle.et_event.specs.Beginning.{BeginsEvent};
@@ -56,6 +56,8 @@ fn instruction_event<L: Ledger>(
     ensures event { IfOk result (λ end.
         DefersOrAnswers (deferred_call program.now (kept_of machine.old) thread) (event program.now
         (kept_of machine.old) thread) end machine.old machine.new out.old out.new) }
+    ensures within { IfOk result (λ end. (method : ℕ) → end ≡ EventEnd.Native method →
+        method < length program.now.methods) }
     ensures visits { visits.new ≤ visits.old + 5 }
     ensures deferred { IsSome (deferred_call program.now (kept_of machine.old) thread) →
         visits.new ≤ visits.old + 2 }
@@ -68,11 +70,11 @@ fn instruction_event<L: Ledger>(
 
 /// The event of a thread whose turn is a call or a return (JVMS 2.11.8, 6.5), to be entered (JVMS 5.2), or a step of an
 /// initializer (JVMS 5.5). It answers `Native` exactly where a call selects a built-in method without code of Thread,
-/// Reference, WeakReference or ReferenceQueue; then machine and records are as before, and `sync_event` does the event. Else
-/// it answers what the table of events says: `Done` or `Waited`, and then the machine keeps the next state, to which a legal
-/// step led, and the records of the event stand behind those that were there; or `IllTyped` or `ObjectLimit`, and then
-/// machine and records are as before. After `NoMemory` the event may be half done, and machine and records may only be
-/// dropped.
+/// Reference, WeakReference or ReferenceQueue, or of String, StringBuilder or PrintStream; then machine and records are as
+/// before, and the event call of monitors, or that of texts, does the event. Else it answers what the table of events says:
+/// `Done` or `Waited`, and then the machine keeps the next state, to which a legal step led, and the records of the event
+/// stand behind those that were there; or `IllTyped` or `ObjectLimit`, and then machine and records are as before. After
+/// `NoMemory` the event may be half done, and machine and records may only be dropped.
 #[tactic(auto, using(et_event::proofs::FamilyTurns::family_at))]
 pub fn calls_event<L: Ledger>(
     alloc: Global,
@@ -89,6 +91,8 @@ pub fn calls_event<L: Ledger>(
         (kept_of machine.old) thread) end machine.old machine.new out.old out.new) }
     ensures native { IfOk result (λ end. (method : ℕ) → (end ≡ EventEnd.Native method)
         ↔ (deferred_call program.now (kept_of machine.old) thread ≡ Some method)) }
+    ensures within { IfOk result (λ end. (method : ℕ) → end ≡ EventEnd.Native method →
+        method < length program.now.methods) }
     ensures visits { visits.new ≤ visits.old + 6 }
     ensures deferred { IsSome (deferred_call program.now (kept_of machine.old) thread) →
         visits.new ≤ visits.old + 2 }

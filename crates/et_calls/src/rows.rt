@@ -1,5 +1,5 @@
 //! The rows of calls and returns (JVMS 2.11.8, 5.5).
-ghost use Rattle.std.specs.Prelude.{◌≡◌, ◌+◌, ◌<◌, ◌≤◌, ◌^◌, Some, IfOk, IsSome};
+ghost use Rattle.std.specs.Prelude.{◌≡◌, ℕ, ◌+◌, ◌<◌, ◌≤◌, ◌^◌, Some, IfOk, IsSome, length};
 ghost use Rattle.et_state.specs.declared.stage.Turn.TheVariants as turns;
 ghost use Rattle.et_state.specs.Threads.{turn_of};
 ghost use Rattle.et_state.specs.State.{kept_of};
@@ -117,8 +117,8 @@ fn plan_event<L: Ledger>(
 /// The event of an invoke or a return at the place where a thread stands (JVMS 2.11.8, 5.5, 6.5 invokevirtual,
 /// invokespecial, invokestatic, invokeinterface, ireturn, lreturn, areturn, return). It answers what the table of events
 /// says. Where a static method is called whose class is untouched, the class begins, or a quiet one becomes done and the
-/// method is called in the same event. Where a built-in method of threads, weak references or queues is selected it answers
-/// `Native`, with nothing changed. After `NoMemory` the event may be half done, and machine and records may only be dropped.
+/// method is called in the same event. Where a built-in method of threads, weak references, queues or texts is selected it
+/// answers `Native`, with nothing changed. After `NoMemory` the event may be half done, and machine and records may only be dropped.
 pub fn call_event<L: Ledger>(
     alloc: Global,
     program: &Program,
@@ -140,6 +140,8 @@ pub fn call_event<L: Ledger>(
         (deferred_at (moment program.now machine.old thread) (site_at place.now) place.now.row)
         (does (moment program.now machine.old thread) (site_at place.now) place.now.row)
         end machine.old machine.new out.old out.new) }
+    ensures within { IfOk result (λ end. (method : ℕ) → end ≡ EventEnd.Native method →
+        method < length program.now.methods) }
     ensures visits { visits.new ≤ visits.old + 5 }
     ensures deferred { IsSome
         (deferred_at (moment program.now machine.old thread) (site_at place.now) place.now.row)
