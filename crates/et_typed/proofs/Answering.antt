@@ -57,10 +57,10 @@ abbrev is_reference_kind : Option Operand → Bool
 is_reference_kind (Some operand.Reference) = true
 is_reference_kind other = false
 
-abbrev answers_as : ℕ → List ℕ → Bool
+abbrev pub answers_as : ℕ → List ℕ → Bool
 answers_as entries returned = if entries == 0 then is_void returned else (not (is_void returned) && is_reference_kind (operand_kind returned))
 
-abbrev described : List ℕ → MethodInfo
+abbrev pub described : List ℕ → MethodInfo
 described descriptor = record { class = 0; name = []; descriptor = descriptor; flags = 0; code = None; deferred = false }
 
 abbrev row_answers : List ℕ × List ℕ × BuiltIn → Bool
@@ -94,10 +94,10 @@ answers_typed m b e = by (has m.flags ABSTRACT) e
 
 -- .. so what is left is of the types after it
 
-nothing_given : (returned : List ℕ) (left : List EntryType) → answers_as 0 returned ≡ true → with_given (returned_kind returned) left ≡ left
+pub nothing_given : (returned : List ℕ) (left : List EntryType) → answers_as 0 returned ≡ true → with_given (returned_kind returned) left ≡ left
 nothing_given returned left h = ap (λ (b : Bool). with_given (if b then None else Some (result_kind returned)) left) h
 
-reference_given : (returned : List ℕ) (left : List EntryType) → answers_as 1 returned ≡ true → with_given (returned_kind returned) left ≡ entry.Reference ∷ left
+pub reference_given : (returned : List ℕ) (left : List EntryType) → answers_as 1 returned ≡ true → with_given (returned_kind returned) left ≡ entry.Reference ∷ left
 reference_given returned left h =
     let p = and_parts (not (is_void returned)) (is_reference_kind (operand_kind returned)) h in
     ap (λ (b : Bool). with_given (if b then None else Some (result_kind returned)) left) (not-true (is_void returned) p.0) ∙ by (operand_kind returned) p.1

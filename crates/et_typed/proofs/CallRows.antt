@@ -21,13 +21,15 @@ use Rattle.et_event.specs.Moments.{Doing, Moment, begins, current_frame, object_
 use Rattle.et_event.specs.Monitors.{Lock, OfClass, OfObject, entered_some, lock_for, may_enter_some}
 use Rattle.et_event.specs.Programs.{is_initializing}
 use Rattle.et_event.specs.Sites.{Member, Site, names_interface, site_member, site_of}
+use Rattle.et_event.specs.TextRows.{is_fit_text}
 use Rattle.et_event.specs.declared.errors.GuestError.TheVariants as errors
 use Rattle.et_event.specs.declared.rows.CallKind.{CallKind}
 use Rattle.et_event.specs.declared.rows.CallKind.TheVariants.{Interface, Special, Static, Virtual}
 use Rattle.et_event.specs.declared.rows.CallRow.TheVariants as call
 use Rattle.et_event.specs.declared.rows.Row.TheVariants as rows
 use Rattle.et_program.specs.BootMethods.BuiltIn.{BuiltIn}
-use Rattle.et_program.specs.BuiltIns.{built_in_of}
+use Rattle.et_program.specs.BootTexts.TextMethod.{TextMethod}
+use Rattle.et_program.specs.BuiltIns.{built_in_of, text_method_of}
 use Rattle.et_program.specs.Entries.{is_static, method_at}
 use Rattle.et_program.specs.Resolution.{resolve_class, resolve_method, select, select_special}
 use Rattle.et_program.specs.declared.errors.LinkError.{LinkError}
@@ -53,6 +55,7 @@ use Rattle.et_typed.specs.Typed.{AreTypedFrames, AreTypings, Holds, HoldsBelow, 
 use Rattle.et_typed.specs.Values.{AreLocalsOf, AreOperandsOf}
 use Rattle.et_typed.proofs.Arguments.{Passes, arguments_are, passed}
 use Rattle.et_typed.proofs.Here.{Here, never_refused, there_holds, unless_refused}
+use Rattle.et_spoken.proofs.Called.{result_some}
 use Rattle.et_typed.proofs.Moves.{none_some, some_same, width_is}
 use Rattle.et_typed.proofs.Own.{AsBefore, LeavesTyped, Own, ends_leave, first_typed, same_thread, started_still, thread_own}
 use Rattle.et_typed.proofs.Plain.{MovesAs, moves_as}
@@ -149,7 +152,7 @@ module _ (e : Moment) (typings : Typings) (m : ℕ) (at : Site) (kind : CallKind
   abbrev pub ops : List Value
   ops = (current_frame e).operands
 
-  passes : Passes (arguments_with (is_static_call kind) c.kinds) ops c.left count
+  pub passes : Passes (arguments_with (is_static_call kind) c.kinds) ops c.left count
   passes = passed (arguments_with (is_static_call kind) c.kinds) ops ts.operands c.left count here.operands c.taken (count_is (is_static_call kind) c.type c.kinds c.all)
 
   -- CHECK 1
@@ -260,9 +263,12 @@ module _ (e : Moment) (typings : Typings) (m : ℕ) (at : Site) (kind : CallKind
       entered_typed k d (built_in_event e at d args (method_at e.program k)) called same
       (λ none native. absurd (true≢false (sym (here.calm.may.methods.static k found.within static (not_initializing e kind c.member c.type k not_clinit called) none) ∙ native)))
 
+  called_on : (k o : ℕ) → is_static_call kind ≡ false → first_reference args ≡ Some o → IsInstanceMethod e.program c.member.name c.member.descriptor k → IsCalled e kind c.member c.type k
+  called_on k o instance receiver is = record { method = is.method; static = is.instance ∙ sym instance; receiver = λ b. subst (λ (x : Option ℕ). IsSome x) (sym receiver) refl }
+
   instance_typed : DoesBuiltIn → (owner n k o : ℕ) → Resolved owner n → selected e at kind owner n o ≡ Some k → is_static_call kind ≡ false → first_reference args ≡ Some o → IsInstanceMethod e.program c.member.name c.member.descriptor k → P (enters_method e at (begins e) args k)
   instance_typed built_in owner n k o so chosen instance receiver is =
-      let called : IsCalled e kind c.member c.type k = record { method = is.method; static = is.instance ∙ sym instance; receiver = λ b. subst (λ (x : Option ℕ). IsSome x) (sym receiver) refl } in
+      let called : IsCalled e kind c.member c.type k = called_on k o instance receiver is in
       entered_typed k (begins e) (built_in_event e at (begins e) args (method_at e.program k)) called refl (λ none native. built_in owner n k o so chosen receiver called)
 
   as_named : (n k : ℕ) → IsMethod e.program c.member.name c.member.descriptor n → IsInstanceMethod e.program (method_at e.program n).name (method_at e.program n).descriptor k → IsInstanceMethod e.program c.member.name c.member.descriptor k
@@ -302,7 +308,22 @@ module _ (e : Moment) (typings : Typings) (m : ℕ) (at : Site) (kind : CallKind
     method_found = so.method_found;
     object = o;
     receiver = receiver;
-    fails = inr (record { method = k; is_selected = is_selected; built_in = b; is_built_in = is; unfit = unfit });
+    fails = inr (inl (record { method = k; is_selected = is_selected; built_in = b; is_built_in = is; unfit = unfit }));
+  }
+
+  pub text_refuses : (owner n o k : ℕ) (x : TextMethod) → Resolved owner n → first_reference args ≡ Some o → selected e at kind owner n o ≡ Some k → text_method_of e.program k ≡ Some x → is_fit_text e (begins e) args o x ≡ false → FailsRow e at (rows.Call (call.Invoke kind))
+  text_refuses owner n o k x so receiver is_selected is unfit = record {
+    member = c.member;
+    named = c.named;
+    type = c.type;
+    typed = c.typed;
+    class = owner;
+    class_found = so.class_found;
+    method = n;
+    method_found = so.method_found;
+    object = o;
+    receiver = receiver;
+    fails = inr (inr (record { method = k; is_selected = is_selected; text = x; is_text = is; unfit = unfit }));
   }
 
 -- BY THE KIND of the call
@@ -341,3 +362,28 @@ module _ (e : Moment) (typings : Typings) (m : ℕ) (at : Site) (ts us : TypesOf
       where_resolved e typings here.calm (begins e) (resolve_method e.program owner (names_interface at) c.member.name c.member.descriptor) _ refl (λ n found.
       unless_thrown e typings here.calm (begins e) errors.IncompatibleClassChangeError (is_as (is_static_call kind) (is_static e.program n)) _ refl (λ wanted.
       dispatched_typed kind here c built_in owner n (record { class_found = named; method_found = found }) (resolved_method e.program owner (names_interface at) c.member.name c.member.descriptor n found) (as_wanted (is_static_call kind) (is_static e.program n) wanted))))))
+
+  -- what is selected on an object is called
+  pub selected_called : (kind : CallKind) (here : Here e typings m at (rows.Call (call.Invoke kind)) ts us) (c : Calls at (is_static_call kind) ts.operands us.operands) (owner n k o : ℕ) → Resolved e typings m at kind ts us here c owner n
+      → is_as (is_static_call kind) (is_static e.program n) ≡ true → first_reference (args e typings m at kind ts us here c) ≡ Some o → selected e at kind owner n o ≡ Some k → (is_static_call kind ≡ false) × IsCalled e kind c.member c.type k
+  selected_called kind here c owner n k o so wanted receiver chosen =
+      by kind here c so (resolved_method e.program owner (names_interface at) c.member.name c.member.descriptor n so.method_found) (as_wanted (is_static_call kind) (is_static e.program n) wanted) receiver chosen
+    where
+      by : (kind : CallKind) (here : Here e typings m at (rows.Call (call.Invoke kind)) ts us) (c : Calls at (is_static_call kind) ts.operands us.operands) → Resolved e typings m at kind ts us here c owner n → IsMethod e.program c.member.name c.member.descriptor n
+          → is_static e.program n ≡ is_static_call kind → first_reference (args e typings m at kind ts us here c) ≡ Some o → selected e at kind owner n o ≡ Some k → (is_static_call kind ≡ false) × IsCalled e kind c.member c.type k
+      by Static here c so is wants receiver chosen = absurd (none_some k chosen)
+      by Virtual here c so is instance receiver chosen = (
+        refl,
+        called_on e typings m at Virtual ts us here c k o refl receiver
+            (as_named e typings m at Virtual ts us here c n k is (selected_method e.program (object_class (begins e) o) n false k is.within instance (result_some (select e.program (object_class (begins e) o) n false) k chosen))),
+      )
+      by Special here c so is instance receiver chosen = (
+        refl,
+        called_on e typings m at Special ts us here c k o refl receiver
+            (as_named e typings m at Special ts us here c n k is (selected_special e.program at.class (special_class e.program owner) n k is.within instance (result_some (select_special e.program at.class (special_class e.program owner) n) k chosen))),
+      )
+      by Interface here c so is instance receiver chosen = (
+        refl,
+        called_on e typings m at Interface ts us here c k o refl receiver
+            (as_named e typings m at Interface ts us here c n k is (selected_method e.program (object_class (begins e) o) n true k is.within instance (result_some (select e.program (object_class (begins e) o) n true) k chosen))),
+      )

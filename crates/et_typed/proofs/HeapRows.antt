@@ -11,7 +11,7 @@ use Rattle.et_class.specs.PoolOperands.Operand.TheVariants as operand
 use Rattle.et_class.specs.Operands.{operand_kind}
 use Rattle.et_class.specs.Descriptors.{is_field_descriptor, width_of}
 use Rattle.et_event.specs.Checks.{Reference, entries_of, with_value}
-use Rattle.et_event.specs.Heap.{arrays_made, array_length, cast, check_cast, element_of_array, field_fits, get_field, get_static, heap_event, instance_of, is_static_at, leaving_values, length_of, load_element, may_be_made, naturals, new_array, new_array_of, new_instance, new_multi_array, new_reference_array, passes_element, put_field, put_static, resolved_class, resolved_field, store_element, truth, type_tested, with_class, with_element, with_field, with_holder, with_lengths}
+use Rattle.et_event.specs.Heap.{arrays_made, array_length, cast, check_cast, element_of_array, field_fits, get_field, get_static, heap_event, instance_of, is_out, is_static_at, leaving_values, length_of, load_element, may_be_made, naturals, new_array, new_array_of, new_instance, new_multi_array, new_reference_array, passes_element, put_field, put_static, resolved_class, resolved_field, store_element, truth, type_tested, with_class, with_element, with_field, with_holder, with_lengths}
 use Rattle.et_event.specs.Kinds.{are_elements, in_bounds, is_array_element, kept_element, kind_of_elements, kind_of_field, narrowed, or_zero}
 use Rattle.et_event.specs.Moments.{Doing, Moment, array_made, begins, current_frame, ends_event, goes, ill_typed, instance_made, next_object, object_class, slot_written, static_written}
 use Rattle.et_event.specs.Sites.{Member, Site, class_operand, natural_of, site_member}

@@ -21,6 +21,12 @@ mod Unwinding
 mod Turns
 mod Others
 mod Typing
+mod TextTable
+mod TextCalls
+mod TextRows
+mod OutRead
+mod Beside
+mod Told
 mod Runs
 mod LinkedFields
 mod RunTyping

@@ -20,7 +20,7 @@ use Rattle.et_state.specs.Words.{thread_at}
 use Rattle.et_state.specs.declared.options.Options.{Options}
 use Rattle.et_base.specs.declared.value.End.{End}
 use Rattle.et_base.specs.declared.value.End.TheVariants as ends
-use Rattle.et_event.specs.Event.{event}
+use Rattle.et_event.specs.Told.{event_with_texts}
 use Rattle.et_event.specs.Moments.{Moment}
 use Rattle.et_event.specs.Sound.{IsSoundFor, is_of_kind}
 use Rattle.et_class.specs.PoolOperands.Operand.TheVariants.{Reference}
@@ -34,7 +34,7 @@ use Rattle.et_sound.proofs.Outcomes.{if_case}
 use Rattle.et_typed.specs.Refused.{IsRefused}
 use Rattle.et_typed.specs.Typed.{AreTypings, HasTypedSlots, IsTyped, IsTypedThread, KeepsTyped, Typings}
 use Rattle.et_typed.proofs.Moves.{none_some, some_same}
-use Rattle.et_typed.proofs.Typing.{event_typed}
+use Rattle.et_typed.proofs.Told.{told_typed}
 use Rattle.et_typed.proofs.Verified.{HasTypings, linked_typings}
 use Rattle.et_history.proofs.Runs.{sound_run}
 use Rattle.et_program.specs.Linking.{IsLinked}
@@ -134,7 +134,7 @@ module _ (reached : Graph → ℕ → Bool) (p : Linked) (options : Options) (pi
 
   -- what event e + 1 does, where there is a thread and the limit isn't met
   event_keeps : (e : ℕ) → ((k : ℕ) → k < e → HistoryGoesOn reached p options pick k) → (length (unended_threads (settled_at reached p options pick e)) == 0) ≡ false → (e == options.limit) ≡ false → IsTyped p typings (state_at reached p options pick e)
-      → KeepsTyped (moment_at reached p options pick e) typings (event p (settled_at reached p options pick e) (moment_at reached p options pick e).thread)
+      → KeepsTyped (moment_at reached p options pick e) typings (event_with_texts p (settled_at reached p options pick e) (moment_at reached p options pick e).thread)
   event_keeps e goes some within typed =
       let s : Kept = settled_at reached p options pick e in
       let thread : ℕ = (moment_at reached p options pick e).thread in
@@ -143,15 +143,15 @@ module _ (reached : Graph → ℕ → Bool) (p : Linked) (options : Options) (pi
       let clock : s.guest.clock ≡ e = sym (ap (λ (x : Kept). x.guest.clock) m.0) ∙ m.1.clock in
       let below : e < options.limit = below_limit e options.limit m.1.within (not_same e options.limit within) in
       let few : s.guest.clock < 2 ^ 40 = omega (arith, clock, below, are.limit) in
-      event_typed p typings s thread sound few (picked_unended s (pick (suc e)) some) run.runnable all (settled_typed e typed)
+      told_typed p typings s thread sound few (picked_unended s (pick (suc e)) some) run.runnable all (settled_typed e typed)
     where
       below_limit : (n limit : ℕ) → n ≤ limit → (n ≡ limit → ⊥) → n < limit
       below_limit n limit le ne = omega arith
 
-  next_typed : (e : ℕ) → IsTyped p typings (settled_at reached p options pick e) → KeepsTyped (moment_at reached p options pick e) typings (event p (settled_at reached p options pick e) (moment_at reached p options pick e).thread)
+  next_typed : (e : ℕ) → IsTyped p typings (settled_at reached p options pick e) → KeepsTyped (moment_at reached p options pick e) typings (event_with_texts p (settled_at reached p options pick e) (moment_at reached p options pick e).thread)
       → IsTyped p typings (state_at reached p options pick (suc e))
   unfolding left_by
-  next_typed e typed h = kept_after (moment_at reached p options pick e) typings (event p (settled_at reached p options pick e) (moment_at reached p options pick e).thread) typed h
+  next_typed e typed h = kept_after (moment_at reached p options pick e) typings (event_with_texts p (settled_at reached p options pick e) (moment_at reached p options pick e).thread) typed h
 
   first_state : IsTyped p typings (state_at reached p options pick 0)
   unfolding left_by
@@ -164,14 +164,14 @@ module _ (reached : Graph → ℕ → Bool) (p : Linked) (options : Options) (pi
       let typed : IsTyped p typings (state_at reached p options pick e) = all_typed e before in
       let s : Kept = settled_at reached p options pick e in
       let g = goes_by (length (unended_threads (settled_at reached p options pick e)) == 0) (e == options.limit)
-      (end_by (moment_at reached p options pick e).thread (event p (settled_at reached p options pick e) (moment_at reached p options pick e).thread)) (goes e (omega arith)) in
+      (end_by (moment_at reached p options pick e).thread (event_with_texts p (settled_at reached p options pick e) (moment_at reached p options pick e).thread)) (goes e (omega arith)) in
       next_typed e (settled_typed e typed) (event_keeps e before g.some g.within typed)
 
   refused_at : (e t m pc : ℕ) → ((k : ℕ) → k < e → HistoryGoesOn reached p options pick k) → ending (picked p options pick) e (settled_at reached p options pick e) ≡ Some (ends.IllTyped t m pc) → IsRefused (moment_at reached p options pick e)
   refused_at e t m pc goes q =
       let g = ends_by (length (unended_threads (settled_at reached p options pick e)) == 0) (e == options.limit)
-      (end_by (moment_at reached p options pick e).thread (event p (settled_at reached p options pick e) (moment_at reached p options pick e).thread)) t m pc q in
-      refused_so (moment_at reached p options pick e) typings (event p (settled_at reached p options pick e) (moment_at reached p options pick e).thread) (moment_at reached p options pick e).thread t m pc
+      (end_by (moment_at reached p options pick e).thread (event_with_texts p (settled_at reached p options pick e) (moment_at reached p options pick e).thread)) t m pc q in
+      refused_so (moment_at reached p options pick e) typings (event_with_texts p (settled_at reached p options pick e) (moment_at reached p options pick e).thread) (moment_at reached p options pick e).thread t m pc
       (event_keeps e goes g.some g.within (all_typed e goes)) g.by_event
 
   pub kept_refused : (e t m pc : ℕ) → IsLastEvent reached (picked p options pick) (start p) (start_records p) e (ends.IllTyped t m pc) → IsRefused (moment_at reached p options pick e)

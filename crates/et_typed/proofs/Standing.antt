@@ -49,7 +49,15 @@ row_typed e typings m at (rows.Call (call.Return kind)) ts us here = return_type
 row_typed e typings m at rows.Throw ts us here = throw_typed e typings m at ts us here
 row_typed e typings m at (rows.Monitor r) ts us here = monitor_typed e typings m at ts us r here
 
--- THE INSTRUCTION
+-- WHERE IT STANDS: the instruction, and the types before and after it
+pub record Accepted (e : Moment) (typings : Typings) : Type 0 where
+  pub method : ℕ
+  pub at : Site
+  pub row : Row
+  pub before : TypesOf
+  pub after : TypesOf
+  pub here : Here e typings method at row before after
+
 module _ (e : Moment) (typings : Typings) (calm : Calm e typings) (turn : turn_of (thread_of e) ≡ Instruction) where
   runs : Runs e.program (current_frame e)
   runs = runs_there e.program e.before e.thread calm.sound turn
@@ -60,7 +68,7 @@ module _ (e : Moment) (typings : Typings) (calm : Calm e typings) (turn : turn_o
   holds : (m : ℕ) → (current_frame e).method ≡ Some m → IsTypedFrame e.program typings (current_frame e) (current_frame e).method Whole → Holds (typings m) (current_frame e)
   holds m named h = subst (λ (o : Option ℕ). IsTypedFrame e.program typings (current_frame e) o Whole) named h
 
-  at_row : (m : ℕ) → (current_frame e).method ≡ Some m → (r : RunsMethod e.program (current_frame e) m) (h : Holds (typings m) (current_frame e)) → IsTyping e.program m r.body (typings m) → IsAccepted e.program m r.body (typings m) (current_frame e).pc h.types → LeavesTyped e typings (instruction e)
+  at_row : (m : ℕ) → (current_frame e).method ≡ Some m → (r : RunsMethod e.program (current_frame e) m) (h : Holds (typings m) (current_frame e)) → IsTyping e.program m r.body (typings m) → IsAccepted e.program m r.body (typings m) (current_frame e).pc h.types → Accepted e typings
   at_row m named r h t a =
       let p : Linked = e.program in
       let f : FrameState = current_frame e in
@@ -96,13 +104,21 @@ module _ (e : Moment) (typings : Typings) (calm : Calm e typings) (turn : turn_o
         after = fits_as (current_frame e).room (operands_after (returned_by e) (site_of e.program (current_frame e) a.decoded) a.row h.types.operands) (locals_after (site_of e.program (current_frame e) a.decoded) a.row h.types.locals) a.after accepted;
         next = next;
       } in
-      subst (λ (x : Result (Instr × ℕ) CodeFault). LeavesTyped e typings (by_instruction e x)) (sym decoded)
-      (subst (λ (o : Option Row). LeavesTyped e typings (by_row e (site_of e.program (current_frame e) a.decoded) o)) (sym a.does)
-      (row_typed e typings m (site_of e.program (current_frame e) a.decoded) a.row h.types a.after here))
+      record { method = m; at = site_of e.program (current_frame e) a.decoded; row = a.row; before = h.types; after = a.after; here = here }
 
-  pub instruction_typed : LeavesTyped e typings (instruction e)
-  instruction_typed =
+  pub accepted : Accepted e typings
+  accepted =
       let h : Holds (typings runs.method) (current_frame e) =
       holds runs.method runs.named (first_typed e.program typings Whole (thread_of e).frames (has_frame_there e.before.guest e.thread turn).frame calm.frames).0 in
       let t : IsTyping e.program runs.method runs.runs.body (typings runs.method) = calm.kinds.typing runs.method runs.runs.body runs.runs.method runs.runs.code in
       at_row runs.method runs.named runs.runs h t (t.accepted (current_frame e).pc h.types h.at_pc)
+
+-- THE INSTRUCTION
+pub instruction_typed : (e : Moment) (typings : Typings) → Calm e typings → turn_of (thread_of e) ≡ Instruction → LeavesTyped e typings (instruction e)
+instruction_typed e typings calm turn =
+    let a : Accepted e typings = accepted e typings calm turn in
+    let row : IsAtRow e a.at a.row = a.here.row in
+    subst (λ (x : Result (Instr × ℕ) CodeFault). LeavesTyped e typings (by_instruction e x)) (sym row.is)
+    (subst (λ (o : Option Row). LeavesTyped e typings (by_row e (site_of e.program (current_frame e) row.decoded) o)) (sym row.row)
+    (subst (λ (q : Site). LeavesTyped e typings (does e q a.row)) row.site
+    (row_typed e typings a.method a.at a.row a.before a.after a.here)))

@@ -54,7 +54,7 @@ module _ (e : Moment) (typings : Typings) (k : Known e typings) where
   thread_typed : IsTypedThread e.program typings (thread_of e)
   thread_typed = k.typed.threads e.thread k.unended.thread
 
-  calm : (thread_of e).pending ≡ None → Calm e typings
+  pub calm : (thread_of e).pending ≡ None → Calm e typings
   calm none = record {
     sound = k.sound;
     clock = k.clock;

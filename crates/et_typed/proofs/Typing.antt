@@ -27,10 +27,13 @@ module _ (e : Moment) (typings : Typings) (k : Known e typings) where
   first : KeepsOthers e typings (begins e)
   first = record { others = λ t lt ne. k.typed.threads t lt; objects = k.typed.objects }
 
+  -- what was done in steps keeps the other threads and the objects
+  pub others_kept : (d : Doing) → Ended e d → KeepsOthers e typings d
+  others_kept d ended = let made : MadeOf e ready d = comes_so e ready d ended in steps_keep e typings first made.phase d made.comes
+
   both : (next : Kept) (d : Doing) → d.state ≡ next → Ended e d → IsTypedThread e.program typings (thread_at next.guest e.thread) → IsTyped e.program typings next
   both next d is ended own =
-      let made : MadeOf e ready d = comes_so e ready d ended in
-      let kept : KeepsOthers e typings d = steps_keep e typings first made.phase d made.comes in
+      let kept : KeepsOthers e typings d = others_kept d ended in
       subst (λ (s : Kept). IsTyped e.program typings s) is
       (record {
         threads = λ t lt. elim (cases_eq t e.thread) [

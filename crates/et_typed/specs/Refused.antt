@@ -6,7 +6,8 @@ use Rattle.et_base.specs.declared.value.Value.{Value}
 use Rattle.et_base.specs.declared.value.Value.TheVariants.{Ref}
 use Rattle.et_class.specs.Descriptors.{MethodType, method_type, width_of}
 use Rattle.et_program.specs.BootMethods.BuiltIn.{BuiltIn}
-use Rattle.et_program.specs.BuiltIns.{built_in_of}
+use Rattle.et_program.specs.BootTexts.TextMethod.{TextMethod}
+use Rattle.et_program.specs.BuiltIns.{built_in_of, text_method_of}
 use Rattle.et_program.specs.Entries.{field_at, method_at}
 use Rattle.et_program.specs.Members.{is_subclass}
 use Rattle.et_program.specs.Referring.{field_of_member}
@@ -29,6 +30,7 @@ use Rattle.et_event.specs.Heap.{element_of_array}
 use Rattle.et_event.specs.Kinds.{are_elements, is_array_element, kind_of_elements}
 use Rattle.et_event.specs.Moments.{Moment, begins, current_frame, object_class, thread_of}
 use Rattle.et_event.specs.Sites.{Site, Member, names_interface, site_member}
+use Rattle.et_event.specs.TextRows.{is_fit_text}
 use Rattle.et_event.specs.Throw.{is_throwable}
 use Rattle.et_sound.specs.Places.{IsAtRow}
 use Rattle.et_typed.specs.Values.{types_of}
@@ -79,6 +81,14 @@ pub record FailsBuiltIn (e : Moment) (at : Site) (kind : CallKind) (named m o : 
   pub is_built_in : built_in_of (method_at e.program method) ≡ Some built_in
   pub unfit : is_fit_for e (begins e) o built_in ≡ false
 
+-- .. or a method of texts is selected that works on objects of another class, or takes another object as an argument
+pub record FailsText (e : Moment) (at : Site) (kind : CallKind) (arguments : List Value) (named m o : ℕ) : Type 0 where
+  pub method : ℕ
+  pub is_selected : selected e at kind named m o ≡ Some method
+  pub text : TextMethod
+  pub is_text : text_method_of e.program method ≡ Some text
+  pub unfit : is_fit_text e (begins e) arguments o text ≡ false
+
 pub record FailsCall (e : Moment) (at : Site) (kind : CallKind) : Type 0 where
   pub member : Member
   pub named : site_member at ≡ Some member
@@ -90,7 +100,8 @@ pub record FailsCall (e : Moment) (at : Site) (kind : CallKind) : Type 0 where
   pub method_found : resolve_method e.program class (names_interface at) member.name member.descriptor ≡ Ok method
   pub object : ℕ
   pub receiver : first_reference (arguments_of e (entry_count (is_static_call kind) type)) ≡ Some object
-  pub fails : FailsResolved e kind (arguments_of e (entry_count (is_static_call kind) type)) method object ⊎ FailsBuiltIn e at kind class method object
+  pub fails : FailsResolved e kind (arguments_of e (entry_count (is_static_call kind) type)) method object
+      ⊎ (FailsBuiltIn e at kind class method object ⊎ FailsText e at kind (arguments_of e (entry_count (is_static_call kind) type)) class method object)
 
 abbrev pub FailsCallRow : Moment → Site → CallRow → Type 0
 FailsCallRow e at (call.Invoke kind) = FailsCall e at kind

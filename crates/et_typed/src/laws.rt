@@ -12,7 +12,7 @@ ghost use Rattle.et_state.specs.Start.{start};
 ghost use Rattle.et_state.specs.State.{Kept};
 ghost use Rattle.et_state.specs.Words.{IsUnended};
 ghost use Rattle.et_state.specs.declared.options.Options.{Options};
-ghost use Rattle.et_event.specs.Event.{event};
+ghost use Rattle.et_event.specs.Told.{event_with_texts};
 ghost use Rattle.et_event.specs.Runnable.{IsRunnable};
 ghost use Rattle.et_event.specs.Sound.{IsSoundFor};
 ghost use Rattle.et_event.specs.Start.{start_records};
@@ -30,7 +30,8 @@ pub fn events_keep_types()
     ensures { (p : Linked) (typings : Typings) (s : Kept) (t : ℕ) →
         IsSoundFor p s → s.guest.clock < 2 ^ 40 → IsUnended s.guest t → IsRunnable p →
         AreTypings p typings → IsTyped p typings s →
-        KeepsTyped (record { program = p; before = s; thread = t }) typings (event p s t) }
+        KeepsTyped (record { program = p; before = s; thread = t }) typings
+        (event_with_texts p s t) }
 {}
 
 /// A linked program each method of whose files has a typing: a history of it, over every list of picks and for all options,
