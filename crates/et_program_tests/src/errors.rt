@@ -56,7 +56,7 @@ type Row = (
     &'static str,
 );
 
-const ERRORS: [Row; 16] = [
+const ERRORS: [Row; 17] = [
     (
         "AbstractMethodError",
         "new Low\ninvokevirtual Abs work ()V\n",
@@ -164,6 +164,14 @@ const ERRORS: [Row; 16] = [
         "C 3 java/lang/NullPointerException\nA 3 0 2 3 32 0\n",
         "E 6 0 1\nF 7 2\nD 1 5\nD 2 4\nZ 7 0\n",
         "X 4 0 1 2\nF 5 2\nD 1 3\nD 2 4\nZ 5 0\n",
+    ),
+    (
+        "StringIndexOutOfBoundsException",
+        "ldc string Hi\niconst_2\ninvokevirtual java/lang/String charAt (I)C\npop\n",
+        "C 3 java/lang/String\nA 2 0 2 3 16 0\nC 4 java/lang/StringIndexOutOfBoundsException\n\
+         A 4 0 3 4 32 0\n",
+        "E 7 0 1\nF 8 2\nD 1 6\nD 3 5\nZ 8 0\n",
+        "X 5 0 1 3\nF 6 2\nD 1 4\nD 3 5\nZ 6 0\n",
     ),
     (
         "UnsatisfiedLinkError",

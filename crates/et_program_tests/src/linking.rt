@@ -9,7 +9,7 @@ use std::alloc::Global;
 use std::test::Fail;
 
 /// Listings, by the paths of the class files that they make.
-const LISTINGS: [(&str, &str); 11] = [
+const LISTINGS: [(&str, &str); 12] = [
     (
         "Box.class",
         "class Box java/lang/Object 0021\nmethod main ([Ljava/lang/String;)V 0009 1 1\n\
@@ -29,6 +29,11 @@ const LISTINGS: [(&str, &str); 11] = [
         "Thread.class",
         "class java/lang/Thread java/lang/Object 0021\nmethod main ([Ljava/lang/String;)V 0009 1 1\n\
          return\nend\n",
+    ),
+    (
+        "Builder.class",
+        "class java/lang/StringBuilder java/lang/Object 0021\n\
+         method main ([Ljava/lang/String;)V 0009 1 1\nreturn\nend\n",
     ),
     (
         "Sub.class",
@@ -75,9 +80,13 @@ fn all_files(alloc: Global) -> Result<MemFiles, Fail> {
 fn faults_of_linking(rt: HostRuntime) -> Result<(), Fail> {
     let alloc = rt.alloc();
     let mut files = all_files(alloc)?;
-    let rows: [(&str, &[u8]); 11] = [
+    let rows: [(&str, &[u8]); 12] = [
         ("trace Box.class Box.class", b"elephant: link 1 Box\n"),
         ("trace Thread.class", b"elephant: link 1 java/lang/Thread\n"),
+        (
+            "trace Builder.class",
+            b"elephant: link 1 java/lang/StringBuilder\n",
+        ),
         ("trace Sub.class", b"elephant: link 2 Sub\n"),
         ("trace Odd.class", b"elephant: link 2 a%20%25\n"),
         ("trace Loop.class", b"elephant: link 3 Loop\n"),
