@@ -94,7 +94,7 @@ record Steps (s : Kept) (m₃ : MachineState) (d : Doing) (out out₃ : List Rec
   records : out₃ ≡ out ++ d.records
 
 -- the frame is as it was
-frame_there : (m : MachineState) (n : MachineState) (t o : ℕ) → HasFrame m.guest t → n.guest.threads ≡ m.guest.threads → Contains (frame_roots (top n.guest t)) o → WasThere (kept_of m) (kept_of n) o
+pub frame_there : (m : MachineState) (n : MachineState) (t o : ℕ) → HasFrame m.guest t → n.guest.threads ≡ m.guest.threads → Contains (frame_roots (top n.guest t)) o → WasThere (kept_of m) (kept_of n) o
 frame_there m n t o has threads c = root_there (kept_of m) (kept_of n) o (top_root m.guest t o has (subst (λ (f : FrameState). Contains (frame_roots f) o) (top_on m.guest n.guest t threads) c))
 
 read_steps : (p : Linked) (t : ℕ) (at : Site) (m m₃ : MachineState) (d : Doing) (out out₂ out₃ : List Record) (c : ℕ) (x : Read) → HasFrame m.guest t → HasInitialized p m d → MayRead p (top m.guest t) x
@@ -156,10 +156,10 @@ write_steps p t at m m₃ d out out₂ out₃ c x has done may r₂ did =
       records = did.1 p s k refl ∙ (ap (λ (l : List Record). (updated e 0 x.slot old x.value (record { state = k; records = l })).records) r₂ ∙ updated_behind e 0 x.slot old x.value k out d.records);
     }
 
-only_newest : (n o : ℕ) → Contains (n ∷ []) o → n ≡ o
+pub only_newest : (n o : ℕ) → Contains (n ∷ []) o → n ≡ o
 only_newest n o z = elim (Contains-cons n [] o z) [ inl same ↦ same | inr d ↦ absurd (Contains-none o d) ]
 
-operand_first : (f : FrameState) (o next : ℕ) → Contains (frame_roots (replaced 0 (Ref o ∷ []) next f)) o
+pub operand_first : (f : FrameState) (o next : ℕ) → Contains (frame_roots (replaced 0 (Ref o ∷ []) next f)) o
 operand_first f o next = Contains-append_right (refs_of f.locals) _ o (Contains-append_left (refs_of (Ref o ∷ drop 0 f.operands)) _ o (Contains-here o _))
 
 make_steps : (p : Linked) (t : ℕ) (at : Site) (m m₃ : MachineState) (d : Doing) (out out₂ out₃ : List Record) (c : ℕ) → HasFrame m.guest t → HasInitialized p m d

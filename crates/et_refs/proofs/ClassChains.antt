@@ -1,32 +1,37 @@
 -- The rows in parts: what goes on behind each check.
-use Rattle.std.proofs.Common.{ℕ, ◌++◌, ◌∷◌, List}
+use Rattle.std.proofs.Common.{ℕ, ◌∷◌, List}
 use Rattle.et_base.specs.declared.value.Value.{Value}
 use Rattle.et_base.specs.declared.value.Value.TheVariants.{Ref}
 use Rattle.et_program.specs.Entries.{field_at}
 use Rattle.et_state.specs.State.{Kept}
-use Rattle.et_state.specs.Words.{static_at}
 use Rattle.et_state.specs.Outcome.{Outcome}
 use Rattle.et_event.specs.declared.errors.GuestError.TheVariants.{IncompatibleClassChangeError, InstantiationError, NoSuchFieldError}
 use Rattle.et_event.specs.Moments.{Moment, current_frame, begins, next_object, instance_made, static_written, ill_typed, ends_event}
-use Rattle.et_event.specs.Checks.{with_value, entries_of, ill_typed_unless, throws_unless}
+use Rattle.et_event.specs.Checks.{with_value, ill_typed_unless, throws_unless}
 use Rattle.et_event.specs.Heap.{leaving_values, field_fits, resolved_field, resolved_class, is_out, is_static_at, may_be_made}
 use Rattle.et_event.specs.Initialization.{initialized}
-use Rattle.et_event.specs.Kinds.{kind_of_field, or_zero, narrowed}
-use Rattle.et_event.specs.Operands.{operand_kind}
+use Rattle.et_event.specs.Kinds.{kind_of_field, narrowed}
 use Rattle.et_event.specs.Sites.{Site, Member}
 use Rattle.std.specs.Prelude.{nat_le, not, ◌+◌, length}
+use Rattle.et_refs.specs.declared.static_fields.StaticRead.{StaticRead}
+use Rattle.et_refs.specs.StaticReads.{read_of}
 
--- GETSTATIC
+-- GETSTATIC, whatever goes on
 
-abbrev pub got : Moment → Site → Member → ℕ → Outcome Kept
-got e at m f =
-    initialized e (begins e) (field_at e.program f).class (λ d. ends_event (leaving_values e at (entries_of (or_zero (operand_kind m.descriptor) (static_at d.state.guest (field_at e.program f).slot)) ++ (current_frame e).operands) d))
+abbrev pub Going : Type 0
+Going = StaticRead → Outcome Kept
 
-abbrev pub gets_field : Moment → Site → Member → Outcome Kept
-gets_field e at m = resolved_field e (begins e) m (λ f. throws_unless e (begins e) IncompatibleClassChangeError (is_static_at e.program f) (got e at m f))
+abbrev pub read_then : Moment → Member → Going → ℕ → Outcome Kept
+read_then e m go f = go (read_of e.program m.descriptor f)
 
-abbrev pub gets : Moment → Site → Member → Outcome Kept
-gets e at m = ill_typed_unless e (field_fits e (current_frame e).operands m) (gets_field e at m)
+abbrev pub static_then : Moment → Member → Going → ℕ → Outcome Kept
+static_then e m go f = throws_unless e (begins e) IncompatibleClassChangeError (is_static_at e.program f) (read_then e m go f)
+
+abbrev pub reads_field : Moment → Going → Member → Outcome Kept
+reads_field e go m = resolved_field e (begins e) m (static_then e m go)
+
+abbrev pub reads : Moment → Going → Member → Outcome Kept
+reads e go m = ill_typed_unless e (field_fits e (current_frame e).operands m) (reads_field e go m)
 
 -- PUTSTATIC
 

@@ -25,3 +25,7 @@ pub mod ClassChains
 pub mod ClassFitting
 pub mod Carrying
 pub mod Quiet
+pub mod OutPlaces
+pub mod OutFound
+pub mod OutMaking
+pub mod OutReading

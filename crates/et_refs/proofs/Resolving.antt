@@ -23,7 +23,7 @@ abbrev named_in : Outcome Kept → ℕ
 named_in (IllTyped method pc) = method
 named_in other = 0
 
-never_thrown : (e : Moment) (error : GuestError) (s : Kept) → throws e error (begins e) ≡ Waits s → ⊥
+pub never_thrown : (e : Moment) (error : GuestError) (s : Kept) → throws e error (begins e) ≡ Waits s → ⊥
 never_thrown e error s h = never_waits (pending_now e (next_object (begins e)) (instance_made e (error_class e.program error) (entry_given_up e (begins e)))) s h
 
 resolves_by : (e : Moment) (r : Result ℕ LinkError) (c : ℕ) → ((go : ℕ → Outcome Kept) → resolved e (begins e) r go ≡ go c) → r ≡ Ok c

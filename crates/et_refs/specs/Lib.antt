@@ -9,3 +9,4 @@ pub mod Legal
 pub mod Filling
 pub mod Events
 pub mod Accesses
+pub mod StaticReads

@@ -137,7 +137,7 @@ fn write_static(
 }
 
 /// Makes an instance of a class in the event under way, and tells of it. It fits.
-fn make_object(
+pub(crate) fn make_object(
     program: &Program,
     machine: &mut Machine,
     thread: ThreadId,

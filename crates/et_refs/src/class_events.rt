@@ -24,7 +24,7 @@ use et_state::{EventEnd, Lines, Machine};
 use std::alloc::Global;
 
 /// Whether so many objects, with so many slots in all, may be made.
-fn has_room(machine: &Machine, objects: u32, slots: u32) -> bool
+pub(crate) fn has_room(machine: &Machine, objects: u32, slots: u32) -> bool
     ensures { result ≡ room_for machine.now.heap objects slots }
 {
     objects <= MOST_OBJECTS - machine.heap.count() && slots <= MOST_SLOTS - machine.heap.slots()
@@ -42,7 +42,7 @@ fn access_fits(program: &Program, machine: &Machine, wanted: &Wanted) -> bool
 }
 
 /// The event of an access to a class that is done, or that this thread began.
-fn ready_event(
+pub(crate) fn ready_event(
     program: &Program,
     machine: &mut Machine,
     thread: ThreadId,

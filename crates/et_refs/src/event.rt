@@ -1,12 +1,14 @@
 //! The event call of the instructions on fields, arrays and classes.
-ghost use Rattle.std.specs.Prelude.{◌≡◌, ◌+◌, ◌-◌, ◌≤◌, Some, IfOk, length};
+ghost use Rattle.std.specs.Prelude.{◌≡◌, ◌↔◌, ℕ, ◌+◌, ◌-◌, ◌≤◌, Some, unwrap_or, IfOk, IsSome, length};
 ghost use Rattle.et_event.specs.declared.families.Family.TheVariants as families;
 ghost use Rattle.et_event.specs.declared.rows.Row.TheVariants as row_kinds;
-ghost use Rattle.et_event.specs.Answered.{EventAnswers};
+ghost use Rattle.et_event.specs.Answered.{DefersOrAnswers};
 ghost use Rattle.et_event.specs.Beginning.{BeginsEvent};
 ghost use Rattle.et_event.specs.Event.{does, event};
 ghost use Rattle.et_event.specs.Families.{family_of, family_of_row};
 ghost use Rattle.et_event.specs.Moments.{moment};
+ghost use Rattle.et_event.specs.Out.{out_method, out_turn};
+ghost use Rattle.et_state.specs.declared.ends.EventEnd.TheVariants as ends;
 ghost use Rattle.et_state.specs.declared.stage.Turn.TheVariants as turns;
 ghost use Rattle.et_state.specs.Outcome.{state_after};
 ghost use Rattle.et_state.specs.State.{kept_of};
@@ -19,7 +21,7 @@ use crate::class_events::access_event;
 use crate::events::multi_array_event;
 use crate::refusals::refuse;
 use crate::rows::{Plan, plan_of};
-use et_base::{NoMemory, Steps, ThreadId};
+use et_base::{MethodId, NoMemory, Steps, ThreadId};
 use et_event::{HeapRow, Row};
 use et_parts::{Place, ill_typed, place_of};
 use et_program::Program;
@@ -43,9 +45,19 @@ fn heap_row(place: &Place<'_>) -> HeapRow
     }
 }
 
+/// What is answered where the event is left to another call: the method of the topmost frame.
+fn left(machine: &Machine, thread: ThreadId) -> EventEnd
+    requires { HasFrame machine.now.guest thread }
+    ensures { result ≡ ends.Native (unwrap_or (top machine.now.guest thread).method 0) }
+{
+    EventEnd::Native {
+        method: machine.frame_method(thread).unwrap_or(MethodId::new(0)),
+    }
+}
+
 /// The event of the instruction at a place, which is one on fields, arrays and classes, for a caller that has decoded it. It
-/// answers what the table of events says of its row there, as [`refs_event`] does, and visits as many objects at most. After
-/// `NoMemory` the event may be half done, and machine and records may only be dropped.
+/// answers what the table of events says of its row there, as [`refs_event`] does, and `Native` where that does, and visits as
+/// many objects at most. After `NoMemory` the event may be half done, and machine and records may only be dropped.
 pub fn heap_row_event<L: Ledger>(
     alloc: Global,
     program: &Program,
@@ -60,8 +72,14 @@ pub fn heap_row_event<L: Ledger>(
     requires frame { HasFrame machine.old.guest thread }
     requires place { IsPlace program.now (top machine.old.guest thread) place.now }
     requires family { family_of_row (Some place.now.row) ≡ families.Refs }
-    ensures event { IfOk result (λ end. EventAnswers (does (moment program.now machine.old thread)
-        (site_at place.now) place.now.row) end machine.old machine.new out.old out.new) }
+    ensures event { IfOk result (λ end.
+        DefersOrAnswers (out_method program.now (kept_of machine.old) thread)
+        (does (moment program.now machine.old thread) (site_at place.now) place.now.row)
+        end machine.old machine.new out.old out.new) }
+    ensures native { IfOk result (λ end. (method : ℕ) → (end ≡ EventEnd.Native method)
+        ↔ (out_method program.now (kept_of machine.old) thread ≡ Some method)) }
+    ensures deferred { IsSome (out_turn program.now (kept_of machine.old) thread) →
+        visits.new ≡ visits.old }
     ensures visits { visits.new ≤ visits.old + 6 + (length (state_after (kept_of machine.old)
         (does (moment program.now machine.old thread) (site_at place.now) place.now.row)).heap
         - length machine.old.heap) }
@@ -75,12 +93,14 @@ pub fn heap_row_event<L: Ledger>(
             access_event(alloc, program, machine, thread, place, &wanted, out)
         }
         Ok(Plan::Arrays) => multi_array_event(alloc, program, machine, thread, place, out, visits),
+        Ok(Plan::Out) => Ok(left(machine, thread)),
         Err(refusal) => refuse(program, machine, thread, refusal, out),
     }
 }
 
-/// The event of a thread whose turn is an instruction on fields, arrays and classes (JVMS 2.11.5, 6.5). It answers what the
-/// table of events says: `Done` or `Waited`, and then the machine keeps the next state, to which a legal step led, and the
+/// The event of a thread whose turn is an instruction on fields, arrays and classes (JVMS 2.11.5, 6.5). It answers `Native`,
+/// with the method of the topmost frame, exactly where a `getstatic` reads System.out; then machine and records are as before,
+/// no object was visited, and [`out_event`](crate::out_event) does the event. Else it answers what the table of events says: `Done` or `Waited`, and then the machine keeps the next state, to which a legal step led, and the
 /// records of the event stand behind those that were there; or `IllTyped` or `ObjectLimit`, and then machine and records are
 /// as before. Whatever it answers, it visits six objects at most, and one for each object that the event makes. After
 /// `NoMemory` the event may be half done, and machine and records may only be dropped.
@@ -95,8 +115,13 @@ pub fn refs_event<L: Ledger>(
 ) -> Result<EventEnd, NoMemory>
     requires begins { BeginsEvent program.now machine.old thread }
     requires family { family_of program.now (kept_of machine.old) thread ≡ families.Refs }
-    ensures event { IfOk result (λ end. EventAnswers (event program.now
+    ensures event { IfOk result (λ end.
+        DefersOrAnswers (out_method program.now (kept_of machine.old) thread) (event program.now
         (kept_of machine.old) thread) end machine.old machine.new out.old out.new) }
+    ensures native { IfOk result (λ end. (method : ℕ) → (end ≡ EventEnd.Native method)
+        ↔ (out_method program.now (kept_of machine.old) thread ≡ Some method)) }
+    ensures deferred { IsSome (out_turn program.now (kept_of machine.old) thread) →
+        visits.new ≡ visits.old }
     ensures visits { visits.new ≤ visits.old + 6 + (length (state_after (kept_of machine.old)
         (event program.now (kept_of machine.old) thread)).heap - length machine.old.heap) }
 {

@@ -22,5 +22,7 @@ mod refusals;
 mod rows;
 mod slots;
 mod static_fields;
+mod streams;
 
 pub use event::{heap_row_event, refs_event};
+pub use streams::out_event;

@@ -5,7 +5,7 @@ ghost use Rattle.et_state.specs.Words.{HasFrame, top};
 ghost use Rattle.et_state.specs.Outcome.{Outcome};
 ghost use Rattle.et_event.specs.declared.errors.GuestError.TheVariants.{IncompatibleClassChangeError, NoSuchFieldError};
 ghost use Rattle.et_event.specs.Checks.{ill_typed_unless as ill_unless, throws_unless as throwing_unless};
-ghost use Rattle.et_event.specs.Heap.{resolved_field, is_out as is_field_out, is_static_at, get_static, put_static};
+ghost use Rattle.et_event.specs.Heap.{resolved_field, is_out as is_field_out, is_static_at, put_static, with_static_field};
 ghost use Rattle.et_event.specs.Moments.{Moment, moment, begins};
 ghost use Rattle.et_event.specs.Sites.{natural_of};
 ghost use Rattle.et_event.specs.Sound.{IsSoundFor};
@@ -16,6 +16,8 @@ ghost use Rattle.et_refs.specs.NamedFields.{IsAnswered};
 ghost use Rattle.et_refs.specs.Refusals.{outcome_of};
 ghost use Rattle.et_event.specs.Programs.{HasSlots};
 ghost use Rattle.et_refs.specs.Accesses.{IsStaticField, MayWant, wanted_outcome};
+ghost use Rattle.et_refs.specs.StaticReads.{is_out_class as is_class_of_out, read_of, wanted_by};
+ghost use Rattle.et_refs.specs.declared.static_fields.StaticRead.{StaticRead as StaticReadOf};
 
 use crate::accesses::{Access, Read, Wanted, Write};
 use crate::checks::{ill_typed_unless, throws_unless};
@@ -23,13 +25,13 @@ use crate::fields::{NamedField, field_named};
 use crate::kinds::{narrowed, width_of};
 use crate::operands::take_typed;
 use crate::refusals::Refusal;
-use et_base::{FieldId, ThreadId};
+use et_base::{ClassId, FieldId, ThreadId};
 use et_class::flags::{STATIC, has};
 use et_event::GuestError;
 use et_parts::{Place, class_called};
 use et_pool::kind_of;
 use et_program::{BuiltInClass, Program};
-use et_state::Machine;
+use et_state::{ClassState, Machine};
 
 /// Whether so many entries fit on top.
 fn fits(machine: &Machine, thread: ThreadId, width: u32) -> bool
@@ -104,22 +106,45 @@ fn written_field(program: &Program, named: &NamedField<'_>) -> Result<FieldId, R
     Ok(field)
 }
 
-/// What `getstatic` wants.
+/// A static field that is read.
+#[derive(Clone, Copy)]
+pub struct StaticRead {
+    /// The class that declares it.
+    pub class: ClassId,
+    /// Its value is put on top.
+    pub read: Read,
+}
+
+impl StaticRead {
+    /// The class, which is initialized first, and the value.
+    pub(crate) fn wanted(self) -> Wanted
+        ensures { result ≡ wanted_by self }
+    {
+        Wanted {
+            class: self.class,
+            access: Access::Read(self.read),
+        }
+    }
+}
+
+/// The static field that `getstatic` reads.
 pub(crate) fn read_field(
     program: &Program,
     machine: &Machine,
     thread: ThreadId,
     place: &Place<'_>,
-) -> Result<Wanted, Refusal>
+) -> Result<StaticRead, Refusal>
     requires program { HasSlots program.now }
     requires frame { HasFrame machine.now.guest thread }
     requires class { place.now.class < length program.now.classes }
     requires index { natural_of place.now.instr.first < 2 ^ 16 }
     requires pool { (site_at place.now).pool ≡ pool_of_class program.now place.now.class }
-    ensures is { get_static (moment program.now machine.now thread) (site_at place.now)
-        ≡ outcome_of (moment program.now machine.now thread) result
-        (wanted_outcome (moment program.now machine.now thread) (site_at place.now)) }
-    ensures may { IfOk result (λ x. MayWant program.now (top machine.now.guest thread) x) }
+    ensures is { (go : StaticReadOf → Outcome Kept) →
+        with_static_field (moment program.now machine.now thread) (site_at place.now)
+        (λ m f. go (read_of program.now m.descriptor f))
+        ≡ outcome_of (moment program.now machine.now thread) result go }
+    ensures may { IfOk result
+        (λ x. MayWant program.now (top machine.now.guest thread) (wanted_by x)) }
 {
     let named = match field_named(program, place) {
         Ok(named) => named,
@@ -128,13 +153,22 @@ pub(crate) fn read_field(
     width_fits(machine, thread, width_of(named.member.descriptor))?;
     let field = static_field(program, &named)?;
     let info = program.field(field);
-    Ok(Wanted {
+    Ok(StaticRead {
         class: info.class,
-        access: Access::Read(Read {
+        read: Read {
             slot: info.slot,
             kind: kind_of(named.member.descriptor),
-        }),
+        },
     })
+}
+
+/// Whether the static field of a class is System.out, which may be read.
+pub(crate) fn is_out_class(program: &Program, machine: &Machine, class: ClassId) -> bool
+    requires classes { length machine.now.guest.classes ≡ length program.now.classes }
+    ensures { (t : ℕ) → result ≡ is_class_of_out (moment program.now machine.now t) class }
+{
+    class == class_called(program, BuiltInClass::System)
+        && matches!(machine.class_state(class), ClassState::Done)
 }
 
 /// What `putstatic` wants.

@@ -1,17 +1,14 @@
 use Rattle.et_state.specs.Words.{top}
 use Rattle.et_refs.proofs.rows.plan_of.Goals as goal
 
-pub returns-in-GetStatic-clause-may : goal.returns-in-GetStatic-clause-may
-returns-in-GetStatic-clause-may g c = c.access.ensures.may c.args.program.now c.args.machine.now (top c.args.machine.now.guest c.args.thread) c.args.row c.read_field.ensures.may
-
 pub returns-in-PutStatic-clause-may : goal.returns-in-PutStatic-clause-may
-returns-in-PutStatic-clause-may g c = c.access-in-PutStatic.ensures.may c.args.program.now c.args.machine.now (top c.args.machine.now.guest c.args.thread) c.args.row c.write_field.ensures.may
+returns-in-PutStatic-clause-may g c = c.access.ensures.may c.args.program.now c.args.machine.now (top c.args.machine.now.guest c.args.thread) c.args.row c.write_field.ensures.may
 
 pub returns-in-New-clause-may : goal.returns-in-New-clause-may
 returns-in-New-clause-may g c = c.access-in-New.ensures.may c.args.program.now c.args.machine.now (top c.args.machine.now.guest c.args.thread) c.args.row c.new_object.ensures.may
 
 pub returns-in-GetField-clause-may : goal.returns-in-GetField-clause-may
-returns-in-GetField-clause-may g c = c.put.ensures.may c.args.program.now c.args.machine.now (top c.args.machine.now.guest c.args.thread) c.args.row c.read_field-in-GetField.ensures.may
+returns-in-GetField-clause-may g c = c.put.ensures.may c.args.program.now c.args.machine.now (top c.args.machine.now.guest c.args.thread) c.args.row c.read_field.ensures.may
 
 pub returns-in-PutField-clause-may : goal.returns-in-PutField-clause-may
 returns-in-PutField-clause-may g c = c.write.ensures.may c.args.program.now c.args.machine.now (top c.args.machine.now.guest c.args.thread) c.args.row c.write_field-in-PutField.ensures.may

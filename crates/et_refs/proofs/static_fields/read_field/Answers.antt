@@ -7,38 +7,35 @@ use Rattle.et_event.specs.PoolOperands.Operand.{Operand}
 use Rattle.et_event.specs.Checks.{ill_typed_unless}
 use Rattle.et_event.specs.Operands.{operand_kind}
 use Rattle.et_program.specs.Resolved.{shown_names}
-use Rattle.et_parts.specs.Places.{site_at}
 use Rattle.et_event.specs.Moments.{moment}
 use Rattle.et_refs.proofs.Chains.{refusing}
-use Rattle.et_refs.specs.declared.accesses.Access.TheVariants as access
-use Rattle.et_refs.specs.Accesses.{wanted_outcome}
-use Rattle.et_refs.proofs.ClassChains.{gets, gets_field, got}
+use Rattle.et_refs.proofs.ClassChains.{read_then, reads, reads_field}
 use Rattle.et_refs.proofs.ClassFitting.{may_read}
 use Rattle.et_refs.proofs.static_fields.read_field.Goals as goal
 
 pub returns-in_err-field-clause-is : goal.returns-in_err-field-clause-is
 returns-in_err-field-clause-is c =
     let e = moment c.args.program.now c.args.machine.now c.args.thread in
-    let at = site_at c.args.place.now in
     let m = shown_names c.in-Ok.named.member in
     let ops = (top c.args.machine.now.guest c.args.thread).operands in
     let room = (top c.args.machine.now.guest c.args.thread).room in
     let same : c.from_residual-in_err-field.result ≡ Err c.in_err-field.field-0.0 = search rules in
-    refusing e _ _ c.in_err-field.field-0.0 (wanted_outcome e at)
-    (c.in-Ok.ensures.is e (gets e at) ∙ (ap (λ (w : ℕ). ill_typed_unless e (nat_le (w + length ops) room) (gets_field e at m)) (sym c.width_of.ensures.value)
-    ∙ (c.in_ok-width_fits.ensures.is e (gets_field e at m) ∙ c.in_err-field.ensures.is (kept_of c.args.machine.now) c.args.thread (got e at m)))) same
+    λ go.
+    refusing e _ _ c.in_err-field.field-0.0 go
+    (c.in-Ok.ensures.is e (reads e go) ∙ (ap (λ (w : ℕ). ill_typed_unless e (nat_le (w + length ops) room) (reads_field e go m)) (sym c.width_of.ensures.value)
+    ∙ (c.in_ok-width_fits.ensures.is e (reads_field e go m) ∙ c.in_err-field.ensures.is (kept_of c.args.machine.now) c.args.thread (read_then e m go)))) same
 
 pub returns-clause-is : goal.returns-clause-is
 returns-clause-is c =
     let e = moment c.args.program.now c.args.machine.now c.args.thread in
-    let at = site_at c.args.place.now in
     let m = shown_names c.in-Ok.named.member in
     let ops = (top c.args.machine.now.guest c.args.thread).operands in
     let room = (top c.args.machine.now.guest c.args.thread).room in
-    c.in-Ok.ensures.is e (gets e at) ∙ (ap (λ (w : ℕ). ill_typed_unless e (nat_le (w + length ops) room) (gets_field e at m)) (sym c.width_of.ensures.value)
-    ∙ (c.in_ok-width_fits.ensures.is e (gets_field e at m) ∙ (c.in_ok-field.ensures.is (kept_of c.args.machine.now) c.args.thread (got e at m)
-    ∙ (ap (λ (x : FieldInfo). wanted_outcome e at (record { class = x.class; access = access.Read (record { slot = x.slot; kind = operand_kind m.descriptor }) })) (sym c.field-info.ensures.value)
-    ∙ ap (λ (k : Option Operand). wanted_outcome e at (record { class = c.field-info.result.now.class; access = access.Read (record { slot = c.field-info.result.now.slot; kind = k }) })) (sym c.kind_of.ensures)))))
+    λ go.
+    c.in-Ok.ensures.is e (reads e go) ∙ (ap (λ (w : ℕ). ill_typed_unless e (nat_le (w + length ops) room) (reads_field e go m)) (sym c.width_of.ensures.value)
+    ∙ (c.in_ok-width_fits.ensures.is e (reads_field e go m) ∙ (c.in_ok-field.ensures.is (kept_of c.args.machine.now) c.args.thread (read_then e m go)
+    ∙ (ap (λ (x : FieldInfo). go (record { class = x.class; read = record { slot = x.slot; kind = operand_kind m.descriptor } })) (sym c.field-info.ensures.value)
+    ∙ ap (λ (k : Option Operand). go (record { class = c.field-info.result.now.class; read = record { slot = c.field-info.result.now.slot; kind = k } })) (sym c.kind_of.ensures)))))
 
 pub returns-clause-may : goal.returns-clause-may
 returns-clause-may c =
