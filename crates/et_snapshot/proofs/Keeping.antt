@@ -3,11 +3,8 @@ use Rattle.std.proofs.Common.{◌≡◌, ◌≢◌, ◌∙◌, ℕ, ◌+◌, ◌
 use Rattle.std.specs.Prelude.{reverse, filter, option_map}
 use Rattle.std.proofs.lemmas.Grind.{reverse_onto}
 use Rattle.std.specs.List.{filter_map, cons_option, AllByRecursion}
-use Rattle.std.specs.Map.{lookup, set_value, remove_entry}
-use Rattle.std.specs.BTreeMap.{insert_entry, is_at}
-use Rattle.std.specs.Ordering.{nat_cmp, match_ordering, is_eq}
-use Rattle.std.specs.declared.cmp.Ordering.{Ordering}
-use Rattle.std.specs.declared.cmp.Ordering.TheVariants.{Greater}
+use Rattle.std.specs.BTreeMap.{insert_entry}
+use Rattle.std.specs.Ordering.{nat_cmp, is_eq}
 use Rattle.std.proofs.lemmas.Bool.Decides.{nat_tests}
 use Rattle.std.proofs.lemmas.List.Elements.{filter_map-append}
 use Rattle.std.proofs.lemmas.List.Folds.{list_any-append}
@@ -19,7 +16,7 @@ use Rattle.et_text.specs.Rules.{objects, births, classes, is_timely, AreFine}
 use Rattle.et_replay.specs.Curve.{tells_before, dies_before}
 use Rattle.et_replay.proofs.Living.{follows, both_true, cases_eqb}
 use Rattle.et_snapshot.specs.Snapshot.{write_by, writes, written}
-use Rattle.et_snapshot.specs.Heap.{Body, Kept, with_slot, written_by, write_kept, note_kept, kept_by, size_of, HasClass}
+use Rattle.et_snapshot.specs.Heap.{Body, Kept, with_slot, written_to, is_other, note_kept, IsAbove, top_after, kept_by, size_of, HasClass}
 
 -- NUMBERS THAT RISE
 
@@ -29,9 +26,6 @@ cases_bool false = inr refl
 
 pub cmp_equal : (a b : ℕ) → is_eq (nat_cmp a b) ≡ eqb a b
 cmp_equal a b = grind (arith, nat_tests)
-
-above : (a b : ℕ) → b < a → nat_cmp a b ≡ Greater
-above a b lt = grind (arith, nat_tests)
 
 pub eqb_not : (a b : ℕ) → a ≢ b → eqb a b ≡ false
 eqb_not a b ne = elim (cases_eqb a b) [ inl e ↦ absurd (ne e.1) | inr n ↦ n.0 ]
@@ -56,78 +50,21 @@ rise_push : (low n : ℕ) (ks : List Kept) (x : Kept) → Rise low ks → Below 
 rise_push low n [] x r b le lt = (omega arith, tt)
 rise_push low n (k ∷ ks) x r b le lt = (r.0, rise_push k.0 n ks x r.1 b.1 b.0 lt)
 
--- an object with the next number comes last
-insert_last : (n object : ℕ) (ks : List Kept) (v : Body) → Below n ks → n < object → insert_entry nat_cmp ks object v ≡ ks ++ (object, v) ∷ []
-insert_last n object [] v b lt = refl
-insert_last n object (k ∷ ks) v b lt =
-    let low = b.0 in
-    let greater : nat_cmp object k.0 ≡ Greater = above object k.0 (omega (arith, low, lt)) in
-    ap (λ (o : Ordering). match_ordering o ((object, v) ∷ k ∷ ks) ((k.0, v) ∷ ks) (k ∷ insert_entry nat_cmp ks object v)) greater ∙ ap (λ (t : List Kept). k ∷ t) (insert_last n object ks v b.1 lt)
-
--- another object than this
-abbrev is_other : ℕ → Kept → Bool
-is_other object k = not (eqb object k.0)
-
-none_left_out : (low object : ℕ) (ks : List Kept) → Rise low ks → object ≤ low → filter (is_other object) ks ≡ ks
-none_left_out low object [] r le = refl
-none_left_out low object (k ∷ ks) r le =
-    let lt = r.0 in
-    let n : eqb object k.0 ≡ false = eqb_not object k.0 (λ e. omega (arith, e, lt, le)) in
-    ap (λ (b : Bool). cond (not b) (k ∷ filter (is_other object) ks) (filter (is_other object) ks)) n ∙ ap (λ (t : List Kept). k ∷ t) (none_left_out k.0 object ks r.1 (omega (arith, lt, le)))
-
-remove_is : (low object : ℕ) (ks : List Kept) → Rise low ks → remove_entry (is_at (nat_cmp object)) ks ≡ filter (is_other object) ks
-remove_is low object [] r = refl
-remove_is low object (k ∷ ks) r = elim (cases_eqb object k.0) [
-  | inl e ↦
-      let at : is_eq (nat_cmp object k.0) ≡ true = cmp_equal object k.0 ∙ e.0 in
-      ap (λ (b : Bool). cond b ks (k ∷ remove_entry (is_at (nat_cmp object)) ks)) at
-      ∙ sym (ap (λ (b : Bool). cond (not b) (k ∷ filter (is_other object) ks) (filter (is_other object) ks)) e.0 ∙ none_left_out k.0 object ks r.1 (let s = e.1 in omega (arith, s)))
-  | inr n ↦
-      let at : is_eq (nat_cmp object k.0) ≡ false = cmp_equal object k.0 ∙ n.0 in
-      ap (λ (b : Bool). cond b ks (k ∷ remove_entry (is_at (nat_cmp object)) ks)) at
-      ∙ (ap (λ (t : List Kept). k ∷ t) (remove_is k.0 object ks r.1)
-      ∙ sym (ap (λ (b : Bool). cond (not b) (k ∷ filter (is_other object) ks) (filter (is_other object) ks)) n.0))
-]
-
--- the object, with the write where it is the one that is written to
-abbrev write_one : ℕ → ℕ → ℕ → Kept → Kept
-write_one object slot new k = cond (eqb object k.0) (k.0, with_slot slot new k.1) k
-
-none_written : (low object slot new : ℕ) (ks : List Kept) → Rise low ks → object ≤ low → map (write_one object slot new) ks ≡ ks
+none_written : (low object slot new : ℕ) (ks : List Kept) → Rise low ks → object ≤ low → map (written_to object slot new) ks ≡ ks
 none_written low object slot new [] r le = refl
 none_written low object slot new (k ∷ ks) r le =
     let lt = r.0 in
     let n : eqb object k.0 ≡ false = eqb_not object k.0 (λ e. omega (arith, e, lt, le)) in
-    ap (λ (b : Bool). cond b (k.0, with_slot slot new k.1) k ∷ map (write_one object slot new) ks) n ∙ ap (λ (t : List Kept). k ∷ t) (none_written k.0 object slot new ks r.1 (omega (arith, lt, le)))
+    ap (λ (b : Bool). cond b (k.0, with_slot slot new k.1) k ∷ map (written_to object slot new) ks) n ∙ ap (λ (t : List Kept). k ∷ t) (none_written k.0 object slot new ks r.1 (omega (arith, lt, le)))
 
-written_behind : (k : Kept) (ks : List Kept) (object slot new : ℕ) (o : Option Body) → is_eq (nat_cmp object k.0) ≡ false → written_by (k ∷ ks) object slot new o ≡ k ∷ written_by ks object slot new o
-written_behind k ks object slot new None n = refl
-written_behind k ks object slot new (Some body) n = ap (λ (b : Bool). cond b ((k.0, with_slot slot new body) ∷ ks) (k ∷ set_value (is_at (nat_cmp object)) ks (with_slot slot new body))) n
-
-write_is : (low object slot new : ℕ) (ks : List Kept) → Rise low ks → write_kept ks object slot new ≡ map (write_one object slot new) ks
-write_is low object slot new [] r = refl
-write_is low object slot new (k ∷ ks) r = elim (cases_eqb object k.0) [
-  | inl e ↦
-      let at : is_eq (nat_cmp object k.0) ≡ true = cmp_equal object k.0 ∙ e.0 in
-      ap (λ (b : Bool). written_by (k ∷ ks) object slot new (cond b (Some k.1) (lookup (is_at (nat_cmp object)) ks))) at
-      ∙ (ap (λ (b : Bool). cond b ((k.0, with_slot slot new k.1) ∷ ks) (k ∷ set_value (is_at (nat_cmp object)) ks (with_slot slot new k.1))) at
-      ∙ sym (ap (λ (b : Bool). cond b (k.0, with_slot slot new k.1) k ∷ map (write_one object slot new) ks) e.0 ∙ ap (λ (t : List Kept). (k.0, with_slot slot new k.1) ∷ t) (none_written k.0 object slot new ks r.1 (let s = e.1 in omega (arith, s)))))
-  | inr n ↦
-      let at : is_eq (nat_cmp object k.0) ≡ false = cmp_equal object k.0 ∙ n.0 in
-      ap (λ (b : Bool). written_by (k ∷ ks) object slot new (cond b (Some k.1) (lookup (is_at (nat_cmp object)) ks))) at
-      ∙ (written_behind k ks object slot new (lookup (is_at (nat_cmp object)) ks) at
-      ∙ (ap (λ (t : List Kept). k ∷ t) (write_is k.0 object slot new ks r.1)
-      ∙ sym (ap (λ (b : Bool). cond b (k.0, with_slot slot new k.1) k ∷ map (write_one object slot new) ks) n.0)))
-]
-
-one_number : (object slot new : ℕ) (k : Kept) → (write_one object slot new k).0 ≡ k.0
+one_number : (object slot new : ℕ) (k : Kept) → (written_to object slot new k).0 ≡ k.0
 one_number object slot new k = elim (eqb object k.0) as (λ b. (cond b (k.0, with_slot slot new k.1) k).0 ≡ k.0) [ true ↦ refl | false ↦ refl ]
 
-rise_map : (low object slot new : ℕ) (ks : List Kept) → Rise low ks → Rise low (map (write_one object slot new) ks)
+rise_map : (low object slot new : ℕ) (ks : List Kept) → Rise low ks → Rise low (map (written_to object slot new) ks)
 rise_map low object slot new [] r = tt
 rise_map low object slot new (k ∷ ks) r =
     let n = one_number object slot new k in
-    (subst (λ (m : ℕ). low < m) (sym n) r.0, subst (λ (m : ℕ). Rise m (map (write_one object slot new) ks)) (sym n) (rise_map k.0 object slot new ks r.1))
+    (subst (λ (m : ℕ). low < m) (sym n) r.0, subst (λ (m : ℕ). Rise m (map (written_to object slot new) ks)) (sym n) (rise_map k.0 object slot new ks r.1))
 
 rise_filter : (low : ℕ) (p : Kept → Bool) (ks : List Kept) → Rise low ks → Rise low (filter p ks)
 rise_filter low p [] r = tt
@@ -161,13 +98,13 @@ all_filter P p (k ∷ ks) a = elim (p k) as (λ b. AllByRecursion P (cond b (k �
   | false ↦ all_filter P p ks a.1
 ]
 
-fits_written : (count names object slot new : ℕ) (k : Kept) → Fits count names k → Fits count names (write_one object slot new k)
+fits_written : (count names object slot new : ℕ) (k : Kept) → Fits count names k → Fits count names (written_to object slot new k)
 fits_written count names object slot new k f = elim (eqb object k.0) as (λ b. Fits count names (cond b (k.0, with_slot slot new k.1) k)) [
   | true ↦ record { made = f.made; small = f.small; class = f.class }
   | false ↦ f
 ]
 
-all_written : (count names object slot new : ℕ) (ks : List Kept) → AllFit count names ks → AllFit count names (map (write_one object slot new) ks)
+all_written : (count names object slot new : ℕ) (ks : List Kept) → AllFit count names ks → AllFit count names (map (written_to object slot new) ks)
 all_written count names object slot new [] a = tt
 all_written count names object slot new (k ∷ ks) a = (fits_written count names object slot new k a.0, all_written count names object slot new ks a.1)
 
@@ -327,7 +264,7 @@ module _ (e : ℕ) (past : List TraceLine) (born thread object class size len : 
   b_fit : AllFit (objects (b_line ∷ past)) (classes past) ks
   b_fit = all_more (Fits (objects past) (classes past)) (Fits (objects (b_line ∷ past)) (classes past)) ks (λ k f. record { made = (let m = f.made in omega (arith, m, b_count)); small = f.small; class = f.class }) h.fit
 
-  b_by : (b : Bool) → leb born e ≡ b → IsKept e (b_line ∷ past) (cond b (insert_entry nat_cmp ks object b_body) ks)
+  b_by : (b : Bool) → leb born e ≡ b → IsKept e (b_line ∷ past) (cond b (ks ++ (object, b_body) ∷ []) ks)
   b_by false off = record {
     same = sym (b_all ∙ (ap (λ (b : Bool). ks ++ cons_option (kept_if (b && true) (object, b_body)) []) off ∙ append-nil ks));
     rise = h.rise;
@@ -335,13 +272,13 @@ module _ (e : ℕ) (past : List TraceLine) (born thread object class size len : 
     no_death = λ o lt. b_dies o ∙ h.no_death o (omega (arith, lt, b_count));
     no_write = λ o lt. b_wrote o ∙ h.no_write o (omega (arith, lt, b_count));
   }
-  b_by true is = subst (λ (t : List Kept). IsKept e (b_line ∷ past) t) (sym (insert_last (objects past) object ks b_body (below (objects past) (classes past) ks h.fit) b_beyond)) (record {
+  b_by true is = record {
     same = sym (b_all ∙ ap (λ (b : Bool). ks ++ cons_option (kept_if (b && true) (object, b_body)) []) is);
     rise = rise_push 0 (objects past) ks (object, b_body) h.rise (below (objects past) (classes past) ks h.fit) (omega arith) b_beyond;
     fit = all_push (Fits (objects (b_line ∷ past)) (classes past)) ks (object, b_body) b_fit (record { made = omega (arith, next, b_count); small = small; class = named });
     no_death = λ o lt. b_dies o ∙ h.no_death o (omega (arith, lt, b_count));
     no_write = λ o lt. b_wrote o ∙ h.no_write o (omega (arith, lt, b_count));
-  })
+  }
 
   born_is_kept : IsKept e (Alloc born thread object class size len ∷ past) (note_kept e ks (Alloc born thread object class size len))
   born_is_kept = b_by (leb born e) refl
@@ -354,7 +291,7 @@ and_no false = refl
 
 late_write : (e event thread object slot old new : ℕ) → leb event e ≡ false → IsQuiet e (Update event thread object slot old new)
 late_write e event thread object slot old new off = record {
-  notes = λ ks. ap (λ (b : Bool). cond (b && not (eqb object 0)) (write_kept ks object slot new) ks) off;
+  notes = λ ks. ap (λ (b : Bool). cond (b && not (eqb object 0)) (map (written_to object slot new) ks) ks) off;
   kept = λ lines. refl;
   tells = λ o. refl;
   writes = λ o. ap (λ (b : Bool). cond (eqb object o && b) (Some (slot, new)) None) off ∙ ap (λ (b : Bool). cond b (Some (slot, new)) None) (and_no (eqb object o));
@@ -364,7 +301,7 @@ late_write e event thread object slot old new off = record {
 
 -- what is kept of an object, with a write to it
 one_more : (live : Bool) (object slot new o : ℕ) (body : Body) (ws : List (ℕ × ℕ)) (hit : Bool) → eqb object o ≡ hit → ws ≡ cond hit (insert_entry nat_cmp body.slots slot new) body.slots
-    → kept_if live (o, record { class = body.class; size = body.size; slots = ws }) ≡ option_map (write_one object slot new) (kept_if live (o, body))
+    → kept_if live (o, record { class = body.class; size = body.size; slots = ws }) ≡ option_map (written_to object slot new) (kept_if live (o, body))
 one_more false object slot new o body ws hit e is = refl
 one_more true object slot new o body ws true e is =
     ap (λ (s : List (ℕ × ℕ)). Some (o, record { class = body.class; size = body.size; slots = s })) is ∙ sym (ap (λ (b : Bool). Some (cond b (o, with_slot slot new body) (o, body))) e)
@@ -381,10 +318,10 @@ module _ (e : ℕ) (past : List TraceLine) (event thread object slot old new : �
   abbrev w_more : List TraceLine
   w_more = w_lines ++ w_line ∷ []
 
-  w_noted : note_kept e ks w_line ≡ map (write_one object slot new) ks
-  w_noted = ap (λ (b : Bool). cond (b && not (eqb object 0)) (write_kept ks object slot new) ks) early ∙ elim (cases_eqb object 0) [
-    | inl z ↦ ap (λ (b : Bool). cond (not b) (write_kept ks object slot new) ks) z.0 ∙ sym (none_written 0 object slot new ks h.rise (let s = z.1 in omega (arith, s)))
-    | inr n ↦ ap (λ (b : Bool). cond (not b) (write_kept ks object slot new) ks) n.0 ∙ write_is 0 object slot new ks h.rise
+  w_noted : note_kept e ks w_line ≡ map (written_to object slot new) ks
+  w_noted = ap (λ (b : Bool). cond (b && not (eqb object 0)) (map (written_to object slot new) ks) ks) early ∙ elim (cases_eqb object 0) [
+    | inl z ↦ ap (λ (b : Bool). cond (not b) (map (written_to object slot new) ks) ks) z.0 ∙ sym (none_written 0 object slot new ks h.rise (let s = z.1 in omega (arith, s)))
+    | inr n ↦ ap (λ (b : Bool). cond (not b) (map (written_to object slot new) ks) ks) n.0
   ]
 
   w_dies : (o : ℕ) → dies_before w_more e o ≡ dies_before w_lines e o
@@ -403,7 +340,7 @@ module _ (e : ℕ) (past : List TraceLine) (event thread object slot old new : �
   w_slots o true is = ap written (w_wrote o ∙ ap (λ (b : Bool). writes w_lines e o ++ cons_option (cond b (Some (slot, new)) None) []) is) ∙ fold-append w_put [] (writes w_lines e o) ((slot, new) ∷ [])
   w_slots o false is = ap written (w_wrote o ∙ (ap (λ (b : Bool). writes w_lines e o ++ cons_option (cond b (Some (slot, new)) None) []) is ∙ append-nil (writes w_lines e o)))
 
-  w_one : (x : TraceLine) → kept_at w_more e x ≡ option_map (write_one object slot new) (kept_at w_lines e x)
+  w_one : (x : TraceLine) → kept_at w_more e x ≡ option_map (written_to object slot new) (kept_at w_lines e x)
   w_one (Alloc born t o class size len) =
       ap (λ (b : Bool). kept_if (leb born e && not b) (o, record { class = class; size = size; slots = written (writes w_more e o) })) (w_dies o)
       ∙ one_more (leb born e && not (dies_before w_lines e o)) object slot new o (record { class = class; size = size; slots = written (writes w_lines e o) }) (written (writes w_more e o)) (eqb object o) refl (w_slots o (eqb object o) refl)
@@ -412,7 +349,7 @@ module _ (e : ℕ) (past : List TraceLine) (event thread object slot old new : �
   wrote_is_kept : IsKept e (Update event thread object slot old new ∷ past) (note_kept e ks (Update event thread object slot old new))
   wrote_is_kept =
       subst (λ (t : List Kept). IsKept e (w_line ∷ past) t) (sym w_noted) (record {
-        same = sym (all_more_at w_lines w_line e ∙ (append-nil (filter_map (kept_at w_more e) w_lines) ∙ (mapped_list (kept_at w_more e) (kept_at w_lines e) (write_one object slot new) w_lines w_one ∙ ap (λ (t : List Kept). map (write_one object slot new) t) (sym h.same))));
+        same = sym (all_more_at w_lines w_line e ∙ (append-nil (filter_map (kept_at w_more e) w_lines) ∙ (mapped_list (kept_at w_more e) (kept_at w_lines e) (written_to object slot new) w_lines w_one ∙ ap (λ (t : List Kept). map (written_to object slot new) t) (sym h.same))));
         rise = rise_map 0 object slot new ks h.rise;
         fit = all_written (objects past) (classes past) object slot new ks h.fit;
         no_death = λ o lt. w_dies o ∙ h.no_death o lt;
@@ -423,7 +360,7 @@ module _ (e : ℕ) (past : List TraceLine) (event thread object slot old new : �
 
 late_death : (e object time : ℕ) → ltb time e ≡ false → IsQuiet e (Death object time)
 late_death e object time off = record {
-  notes = λ ks. ap (λ (b : Bool). cond b (remove_entry (is_at (nat_cmp object)) ks) ks) off;
+  notes = λ ks. ap (λ (b : Bool). cond b (filter (is_other object) ks) ks) off;
   kept = λ lines. refl;
   tells = λ o. ap (λ (b : Bool). eqb object o && b) off ∙ and_no (eqb object o);
   writes = λ o. refl;
@@ -448,7 +385,7 @@ module _ (e : ℕ) (past : List TraceLine) (object time : ℕ) (ks : List Kept) 
   d_more = d_lines ++ d_line ∷ []
 
   d_noted : note_kept e ks d_line ≡ filter (is_other object) ks
-  d_noted = ap (λ (b : Bool). cond b (remove_entry (is_at (nat_cmp object)) ks) ks) early ∙ remove_is 0 object ks h.rise
+  d_noted = ap (λ (b : Bool). cond b (filter (is_other object) ks) ks) early
 
   d_dies : (o : ℕ) → dies_before d_more e o ≡ (dies_before d_lines e o || ((eqb object o && true) || false))
   d_dies o = dies_more d_lines d_line e o ∙ ap (λ (b : Bool). dies_before d_lines e o || ((eqb object o && b) || false)) early
@@ -516,3 +453,26 @@ kept_on version e past (Finish event how) ks f h = quiet_is_kept e past (Finish 
 pub is_kept : (version e : ℕ) (past : List TraceLine) → AreFine version past → IsKept e past (kept_by e past)
 is_kept version e [] f = record { same = refl; rise = tt; fit = tt; no_death = λ o lt. refl; no_write = λ o lt. refl }
 is_kept version e (line ∷ past) f = kept_on version e past line (kept_by e past) f (is_kept version e past f.0)
+
+-- the numbers of the objects rise with their lines
+pub is_above : (version : ℕ) (past : List TraceLine) (line : TraceLine) → AreFine version (line ∷ past) → IsAbove (objects past) line × (top_after (objects past) line ≡ objects (line ∷ past))
+is_above version past (Alloc born thread object class size len) f =
+    let g = follows past (Alloc born thread object class size len) f.2 in
+    let next = eqb_is object (objects past + 1) (both_true (is_timely past born) (eqb object (objects past + 1)) g.ordered).1 in
+    let count = length-append (births past) (born ∷ []) in
+    (omega (arith, next), omega (arith, next, count))
+is_above version past (Header v n) f = (tt, refl)
+is_above version past (Class number name) f = (tt, refl)
+is_above version past (Method number class name descriptor) f = (tt, refl)
+is_above version past (Update event thread object slot old new) f = (tt, refl)
+is_above version past (Enter event thread method receiver) f = (tt, refl)
+is_above version past (Exit event thread method) f = (tt, refl)
+is_above version past (Unwind event thread method exception) f = (tt, refl)
+is_above version past (Flush event deaths) f = (tt, refl)
+is_above version past (Death object time) f = (tt, refl)
+is_above version past (Finish event how) f = (tt, refl)
+
+-- the lines at the front of good ones are good
+pub fine_front : (version : ℕ) (later past : List TraceLine) → AreFine version (later ++ past) → AreFine version past
+fine_front version [] past f = f
+fine_front version (line ∷ later) past f = fine_front version later past f.0

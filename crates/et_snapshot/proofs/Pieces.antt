@@ -1,9 +1,9 @@
 -- What a sink took of rows that follow what was gathered before.
-use Rattle.std.proofs.Common.{◌≡◌, ◌∙◌, ℕ, zero, suc, ◌+◌, ◌<◌, ◌≤◌, List, [], ◌∷◌, ◌++◌, length, map, get_or, drop, refl, sym, ap, subst, append_assoc, arith, length-append}
-use Rattle.std.specs.Prelude.{Option, Result, Ok, Err, OnErr, OnOk, All}
+use Rattle.std.proofs.Common.{◌≡◌, ◌∙◌, ℕ, zero, suc, ◌+◌, ◌<◌, ◌≤◌, List, [], ◌∷◌, ◌++◌, length, get_or, drop, refl, sym, ap, subst, append_assoc, arith}
+use Rattle.std.specs.Prelude.{Option, Result, Ok, Err, OnErr, OnOk}
 use Rattle.std.specs.List.{flat_map, zip}
 use Rattle.std.proofs.lemmas.Grind.{flat_map-append}
-use Rattle.std.proofs.lemmas.List.{append-nil, map-append, get_or_at}
+use Rattle.std.proofs.lemmas.List.{append-nil}
 use Rattle.et_io.specs.Sink.{with_more, TakesUpTo, TakesPrefix}
 use Rattle.et_io.proofs.Taking.{with_more-nil, with_more-with_more}
 
@@ -97,15 +97,6 @@ on_err (Err e) p = p
 pub on_ok : {T E : Type 0} {P : Type 0} (r : Result T E) → P → OnOk r P
 on_ok (Ok x) p = p
 on_ok (Err e) p = tt
-
--- what holds of all holds of the next one
-pub next_fits : {A B : Type 0} (P : B → Type 0) (f : A → B) (all rest rest' : List A) (x : A) (done : List A) → all ≡ done ++ rest → rest ≡ x ∷ rest' → All P (map f all) → P (f x)
-next_fits {A = A} {B = B} P f all rest rest' x done parts next a =
-    let split : map f all ≡ map f done ++ f x ∷ map f rest' = ap (λ (l : List A). map f l) (parts ∙ ap (λ (l : List A). done ++ l) next) ∙ map-append f done (x ∷ rest') in
-    let long = length-append (map f done) (f x ∷ map f rest') in
-    let whole : length (map f all) ≡ length (map f done ++ f x ∷ map f rest') = ap (λ (l : List B). length l) split in
-    let here = a (length (map f done)) (f x) (omega (arith, whole, long)) in
-    subst P (ap (λ (l : List B). get_or l (length (map f done)) (f x)) split ∙ get_or_at (map f done) (f x) (map f rest') (f x) (length (map f done)) refl) here
 
 -- two lists side by side, from a place on
 pub drop_zip : {A B : Type 0} (xs : List A) (ys : List B) (i : ℕ) (d : A) (e : B) → i < length xs → i < length ys → drop i (zip xs ys) ≡ (get_or xs i d, get_or ys i e) ∷ drop (i + 1) (zip xs ys)

@@ -23,7 +23,7 @@ abbrev pub statics_of : Heap → List ℕ
 statics_of heap = flat_map (row_of None) heap.statics.entries
 
 abbrev pub object_text : Heap → List ℕ
-object_text heap = flat_map (rows_of (lists_of heap.names.items)) (objects_of heap.objects.entries)
+object_text heap = flat_map (rows_of (lists_of heap.names.items)) (objects_of heap.objects.items)
 
 abbrev pub class_text : Heap → List Total → List ℕ
 class_text heap totals = total_rows (lists_of heap.names.items) totals
@@ -32,7 +32,7 @@ class_text heap totals = total_rows (lists_of heap.names.items) totals
 pub whole_is : (version e : ℕ) (lines : List TraceLine) (heap : Heap) (totals : List Total) (all : Total) → AreFine version (reverse lines) → IsCounted lines e heap totals all
     → head_of e all ++ statics_of heap ++ object_text heap ++ class_text heap totals ≡ snapshot_text lines e
 whole_is version e lines heap totals all f c =
-    let kept = objects_of heap.objects.entries in
+    let kept = objects_of heap.objects.items in
     let told = objects_told version e lines lines kept f refl c.objects in
     let many : length totals ≡ length (fields lines) = c.as_many ∙ (sym (length-map heap.names.items (λ v. v.items)) ∙ ap (λ (l : List (List ℕ)). length l) c.names) in
     let count : all.count ≡ length (live_lines lines e) = c.whole.count ∙ count_is lines e kept told in

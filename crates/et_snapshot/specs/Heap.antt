@@ -1,9 +1,8 @@
 -- What is kept of the lines of a trace, one by one. The contracts of private functions alone speak of it.
-use Rattle.std.specs.Prelude.{◌≡◌, ℕ, ◌+◌, ◌-◌, ◌<◌, ◌≤◌, Bool, not, ◌&&◌, ◌==◌, nat_le, nat_lt, if◌then◌else◌, List, [], ◌∷◌, ◌++◌, length, map, filter, reverse, All, slice_index_or, codes, Option, Some, None}
+use Rattle.std.specs.Prelude.{◌≡◌, ℕ, ◌+◌, ◌-◌, ◌<◌, ◌≤◌, Bool, not, ◌&&◌, ◌==◌, nat_le, nat_lt, if◌then◌else◌, List, [], ◌∷◌, ◌++◌, length, map, filter, reverse, All, slice_index_or, codes, Option, Some, None, option_map}
 use Rattle.std.specs.Global.{Vec}
 use Rattle.std.specs.List.{sum_by, filter_map, flat_map, zip}
-use Rattle.std.specs.Map.{lookup, set_value, remove_entry}
-use Rattle.std.specs.BTreeMap.{insert_entry, is_at}
+use Rattle.std.specs.BTreeMap.{insert_entry}
 use Rattle.std.specs.Ordering.{nat_cmp}
 use Rattle.et_base.specs.declared.line.TraceLine.{TraceLine}
 use Rattle.et_base.specs.declared.line.TraceLine.TheVariants.{Class, Alloc, Update, Death}
@@ -11,7 +10,8 @@ use Rattle.et_text.specs.Rules.{IsGoodTrace}
 use Rattle.et_text.specs.Spelling.{number_field, text_field}
 use Rattle.et_snapshot.specs.Snapshot.{static_row, slot_row}
 use Rattle.et_snapshot.specs.declared.heap.Heap.{Heap}
-use Rattle.et_snapshot.specs.declared.heap.Seen.{Seen}
+use Rattle.et_snapshot.specs.declared.objects.Entry.{Entry}
+use Rattle.et_snapshot.specs.declared.objects.Seen.{Seen}
 use Rattle.et_snapshot.specs.declared.totals.Total.{Total}
 
 -- an object, with the lists of its map
@@ -27,11 +27,24 @@ Kept = ℕ × Body
 abbrev pub body_of : Seen → Body
 body_of s = record { class = s.class; size = s.size; slots = s.slots.entries }
 
-abbrev pub kept_of : ℕ × Seen → Kept
-kept_of p = (p.0, body_of p.1)
+-- what an entry keeps, where the object is live
+abbrev pub kept_as : ℕ → Option Seen → Option Kept
+kept_as object None = None
+kept_as object (Some seen) = Some (object, body_of seen)
 
-abbrev pub objects_of : List (ℕ × Seen) → List Kept
-objects_of entries = map kept_of entries
+abbrev pub kept_in : Entry → Option Kept
+kept_in entry = kept_as entry.object entry.seen
+
+abbrev pub objects_of : List Entry → List Kept
+objects_of entries = filter_map kept_in entries
+
+abbrev pub numbers_of : List Entry → List ℕ
+numbers_of entries = map (λ entry. entry.object) entries
+
+-- the numbers rise, from above `low` up to at most `top`
+abbrev pub RiseTo : ℕ → ℕ → List ℕ → Type 0
+RiseTo top low [] = low ≤ top
+RiseTo top low (n ∷ ns) = (low < n) × RiseTo top n ns
 
 abbrev pub lists_of : List (Vec ℕ) → List (List ℕ)
 lists_of vecs = map (λ v. v.items) vecs
@@ -42,19 +55,32 @@ lists_of vecs = map (λ v. v.items) vecs
 abbrev pub with_slot : ℕ → ℕ → Body → Body
 with_slot slot new body = record { class = body.class; size = body.size; slots = insert_entry nat_cmp body.slots slot new }
 
-abbrev pub written_by : List Kept → ℕ → ℕ → ℕ → Option Body → List Kept
-written_by kept object slot new None = kept
-written_by kept object slot new (Some body) = set_value (is_at (nat_cmp object)) kept (with_slot slot new body)
+-- the object, with the write where it is the one that is written to
+abbrev pub written_to : ℕ → ℕ → ℕ → Kept → Kept
+written_to object slot new k = if object == k.0 then (k.0, with_slot slot new k.1) else k
 
--- a write to a slot of an object that is kept
-abbrev pub write_kept : List Kept → ℕ → ℕ → ℕ → List Kept
-write_kept kept object slot new = written_by kept object slot new (lookup (is_at (nat_cmp object)) kept)
+abbrev pub kept_where : (Kept → Kept) → Entry → Option Kept
+kept_where change entry = option_map change (kept_in entry)
+
+-- another object than this
+abbrev pub is_other : ℕ → Kept → Bool
+is_other object k = not (object == k.0)
 
 abbrev pub note_kept : ℕ → List Kept → TraceLine → List Kept
-note_kept e kept (Alloc born thread object class size len) = if nat_le born e then insert_entry nat_cmp kept object (record { class = class; size = size; slots = [] }) else kept
-note_kept e kept (Update event thread object slot old new) = if nat_le event e && not (object == 0) then write_kept kept object slot new else kept
-note_kept e kept (Death object time) = if nat_lt time e then remove_entry (is_at (nat_cmp object)) kept else kept
+note_kept e kept (Alloc born thread object class size len) = if nat_le born e then kept ++ (object, record { class = class; size = size; slots = [] }) ∷ [] else kept
+note_kept e kept (Update event thread object slot old new) = if nat_le event e && not (object == 0) then map (written_to object slot new) kept else kept
+note_kept e kept (Death object time) = if nat_lt time e then filter (is_other object) kept else kept
 note_kept e kept _ = kept
+
+-- an object that the line makes has a number above `top`
+abbrev pub IsAbove : ℕ → TraceLine → Type 0
+IsAbove top (Alloc born thread object class size len) = top < object
+IsAbove top _ = Unit {0}
+
+-- the greatest number behind the line
+abbrev pub top_after : ℕ → TraceLine → ℕ
+top_after top (Alloc born thread object class size len) = object
+top_after top _ = top
 
 -- a write to a static slot
 abbrev pub note_static : ℕ → List (ℕ × ℕ) → TraceLine → List (ℕ × ℕ)
@@ -103,12 +129,12 @@ HasClass count k = (1 ≤ k.1.class) × (k.1.class ≤ count)
 pub record IsCounted (lines : List TraceLine) (e : ℕ) (heap : Heap) (totals : List Total) (all : Total) : Type 0 where
   pub good : IsGoodTrace lines
   pub statics : heap.statics.entries ≡ statics_by e (reverse lines)
-  pub objects : objects_of heap.objects.entries ≡ kept_by e (reverse lines)
+  pub objects : objects_of heap.objects.items ≡ kept_by e (reverse lines)
   pub names : lists_of heap.names.items ≡ filter_map field_of lines
-  pub classed : All (HasClass (length heap.names.items)) (objects_of heap.objects.entries)
+  pub classed : All (HasClass (length heap.names.items)) (objects_of heap.objects.items)
   pub as_many : length totals ≡ length heap.names.items
-  pub each : AreTotals totals (objects_of heap.objects.entries)
-  pub whole : IsTotal all (objects_of heap.objects.entries)
+  pub each : AreTotals totals (objects_of heap.objects.items)
+  pub whole : IsTotal all (objects_of heap.objects.items)
 
 -- ROWS
 
@@ -126,6 +152,10 @@ object_row fields k = codes "o" ++ number_field k.0 ++ slice_index_or fields (k.
 -- .. and those of its slots
 abbrev pub rows_of : List (List ℕ) → Kept → List ℕ
 rows_of fields k = object_row fields k ++ flat_map (row_of (Some k.0)) k.1.slots
+
+-- .. where an entry keeps it
+abbrev pub rows_in : List (List ℕ) → Entry → List ℕ
+rows_in fields entry = flat_map (rows_of fields) (objects_of (entry ∷ []))
 
 abbrev pub total_row : List ℕ → Total → List ℕ
 total_row field total = if total.count == 0 then [] else codes "c" ++ field ++ number_field total.count ++ number_field total.bytes ++ 10 ∷ []

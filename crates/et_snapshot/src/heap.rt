@@ -1,46 +1,24 @@
 //! What the lines of a trace tell of the heap at an event.
-ghost use Rattle.std.specs.Prelude.{◌≡◌, ◌∷◌, ◌++◌, [], reverse, IfOk, OnOk};
+ghost use Rattle.std.specs.Prelude.{◌≡◌, ℕ, ◌∷◌, ◌++◌, [], reverse, IfOk, OnOk};
 ghost use Rattle.std.specs.List.{filter_map};
+ghost use Rattle.et_text.specs.Rules.{IsGoodTrace};
 ghost use Rattle.et_text.specs.Spelling.{text_field};
-ghost use Rattle.et_snapshot.specs.Heap.{objects_of, lists_of, write_kept, note_kept, note_static, field_of, kept_by, statics_by};
+ghost use Rattle.et_snapshot.specs.Heap.{objects_of, numbers_of, lists_of, note_kept, note_static, field_of, kept_by, statics_by, RiseTo, IsAbove, top_after};
 
+use crate::objects::{Entry, Seen, forget, make, write};
 use et_base::{Name, NoMemory, TraceLine};
 use et_text::put_name;
 use std::alloc::Global;
 use std::collections::BTreeMap;
 
-/// An object, and what stands in its slots; 0 stands for null.
-#[derive(Drop)]
-pub struct Seen {
-    pub class: u32,
-    pub size: u64,
-    pub slots: BTreeMap<u32, u32>,
-}
-
 /// The heap at an event.
 #[derive(Drop)]
 pub struct Heap {
     pub statics: BTreeMap<u32, u32>,
-    /// The objects that are live, by number.
-    pub objects: BTreeMap<u32, Seen>,
+    /// The objects that are live, by number, and the numbers of some that are dead.
+    pub objects: Vec<Entry>,
     /// The name of each class, as a field of a line.
     pub names: Vec<Vec<u8>>,
-}
-
-/// A reference is written to a slot of an object, where that is kept.
-fn write(
-    objects: &mut BTreeMap<u32, Seen>,
-    object: u32,
-    slot: u32,
-    new: u32,
-) -> Result<(), NoMemory>
-    ensures { OnOk result (objects_of objects.new.entries
-        ≡ write_kept (objects_of objects.old.entries) object slot new) }
-{
-    if let Some(seen) = objects.get_mut(&object) {
-        seen.slots.insert(slot, new)?;
-    }
-    Ok(())
 }
 
 /// The class has the next number.
@@ -57,10 +35,14 @@ fn name_class(alloc: Global, names: &mut Vec<Vec<u8>>, name: &Name) -> Result<()
 /// Takes the next line of the trace. What happens behind the event is passed over, and an object that was last reached
 /// before it is dropped.
 fn note(alloc: Global, heap: &mut Heap, event: u64, line: &TraceLine) -> Result<(), NoMemory>
+    requires { (top : ℕ) × RiseTo top 0 (numbers_of heap.old.objects.items) }
     ensures statics { OnOk result (heap.new.statics.entries
         ≡ note_static event heap.old.statics.entries line.now) }
-    ensures objects { OnOk result (objects_of heap.new.objects.entries
-        ≡ note_kept event (objects_of heap.old.objects.entries) line.now) }
+    ensures objects { OnOk result (objects_of heap.new.objects.items
+        ≡ note_kept event (objects_of heap.old.objects.items) line.now) }
+    ensures rise { (top : ℕ) → RiseTo top 0 (numbers_of heap.old.objects.items) →
+        IsAbove top line.now →
+        OnOk result (RiseTo (top_after top line.now) 0 (numbers_of heap.new.objects.items)) }
     ensures names { OnOk result (lists_of heap.new.names.items
         ≡ lists_of heap.old.names.items ++ filter_map field_of (line.now ∷ [])) }
 {
@@ -78,7 +60,7 @@ fn note(alloc: Global, heap: &mut Heap, event: u64, line: &TraceLine) -> Result<
                 size: *size,
                 slots: BTreeMap::new(alloc),
             };
-            heap.objects.insert(*object, seen)?;
+            make(&mut heap.objects, *object, seen)?;
         }
         TraceLine::Update {
             event: at,
@@ -97,7 +79,7 @@ fn note(alloc: Global, heap: &mut Heap, event: u64, line: &TraceLine) -> Result<
             ..
         } if *at <= event => write(&mut heap.objects, *object, *slot, *new)?,
         TraceLine::Death { object, time } if *time < event => {
-            heap.objects.remove(object);
+            forget(&mut heap.objects, *object);
         }
         _ => {}
     }
@@ -106,16 +88,17 @@ fn note(alloc: Global, heap: &mut Heap, event: u64, line: &TraceLine) -> Result<
 
 /// The heap after the lines of a trace.
 pub fn heap_at(alloc: Global, lines: &[TraceLine], event: u64) -> Result<Heap, NoMemory>
+    requires { IsGoodTrace lines.now }
     ensures statics { IfOk result (λ heap.
         heap.statics.entries ≡ statics_by event (reverse lines.now)) }
     ensures objects { IfOk result (λ heap.
-        objects_of heap.objects.entries ≡ kept_by event (reverse lines.now)) }
+        objects_of heap.objects.items ≡ kept_by event (reverse lines.now)) }
     ensures names { IfOk result (λ heap.
         lists_of heap.names.items ≡ filter_map field_of lines.now) }
 {
     let mut heap = Heap {
         statics: BTreeMap::new(alloc),
-        objects: BTreeMap::new(alloc),
+        objects: Vec::new(alloc),
         names: Vec::new(alloc),
     };
     for line in lines {

@@ -3,6 +3,7 @@
 
 mod heap;
 pub mod laws;
+mod objects;
 mod rows;
 mod snapshot;
 mod totals;

@@ -1,12 +1,13 @@
 //! The snapshot of a trace at an event.
-ghost use Rattle.std.specs.Prelude.{◌≡◌, ◌≤◌, ◌++◌, All, length, IfOk, OnOk, OnErr};
+ghost use Rattle.std.specs.Prelude.{◌≡◌, ◌≤◌, ◌∷◌, ◌++◌, [], All, length, IfOk, OnOk, OnErr};
 ghost use Rattle.std.specs.List.{flat_map};
 ghost use Rattle.et_io.specs.Faults.{count_after, is_write_fault};
 ghost use Rattle.et_io.specs.Sink.{with_more, TakesUpTo, TakesPrefix};
-ghost use Rattle.et_snapshot.specs.Heap.{objects_of, lists_of, body_of, row_of, rows_of, total_rows, HasClass, IsCounted};
+ghost use Rattle.et_snapshot.specs.Heap.{objects_of, lists_of, body_of, row_of, rows_of, rows_in, total_rows, HasClass, IsCounted};
 ghost use Rattle.et_snapshot.specs.Snapshot.{snapshot_text};
 
-use crate::heap::{Heap, Seen, heap_at};
+use crate::heap::{Heap, heap_at};
+use crate::objects::{Entry, Seen};
 use crate::rows::{put_class, put_head, put_object, put_slot};
 use crate::totals::{Total, count_objects};
 use et_base::NoMemory;
@@ -62,24 +63,45 @@ fn put_one<O: Sink>(
     put_slots(Some(object), &seen.slots, sink, text)
 }
 
-/// Puts the rows of the objects.
-fn put_objects<O: Sink>(
+/// Puts the rows of an object, where it is live.
+fn put_entry<O: Sink>(
     names: &[Vec<u8>],
-    objects: &BTreeMap<u32, Seen>,
+    entry: &Entry,
     sink: &mut O,
     text: &mut Vec<u8>,
 ) -> Result<(), RunFault>
-    requires classes { All (HasClass (length names.now)) (objects_of objects.now.entries) }
+    requires class { All (HasClass (length names.now)) (objects_of (entry.now ∷ [])) }
+    ensures ok { OnOk result (TakesUpTo (O.taken sink.old) (O.taken sink.new)
+        (text.old.items ++ rows_in (lists_of names.now) entry.now) text.new.items) }
+    ensures write { O.faults sink.new ≡ count_after (is_write_fault result) (O.faults sink.old) }
+    ensures err { OnErr result (TakesPrefix (O.taken sink.old) (O.taken sink.new)
+        (text.old.items ++ rows_in (lists_of names.now) entry.now)) }
+    ensures never_falls { O.faults sink.old ≤ O.faults sink.new }
+{
+    match &entry.seen {
+        Some(seen) => put_one(names, entry.object, seen, sink, text),
+        None => Ok(()),
+    }
+}
+
+/// Puts the rows of the objects.
+fn put_objects<O: Sink>(
+    names: &[Vec<u8>],
+    entries: &[Entry],
+    sink: &mut O,
+    text: &mut Vec<u8>,
+) -> Result<(), RunFault>
+    requires classes { All (HasClass (length names.now)) (objects_of entries.now) }
     ensures ok { OnOk result (TakesUpTo (O.taken sink.old) (O.taken sink.new) (text.old.items
-        ++ flat_map (rows_of (lists_of names.now)) (objects_of objects.now.entries))
+        ++ flat_map (rows_of (lists_of names.now)) (objects_of entries.now))
         text.new.items) }
     ensures write { O.faults sink.new ≡ count_after (is_write_fault result) (O.faults sink.old) }
     ensures err { OnErr result (TakesPrefix (O.taken sink.old) (O.taken sink.new) (text.old.items
-        ++ flat_map (rows_of (lists_of names.now)) (objects_of objects.now.entries))) }
+        ++ flat_map (rows_of (lists_of names.now)) (objects_of entries.now))) }
     ensures never_falls { O.faults sink.old ≤ O.faults sink.new }
 {
-    for (object, seen) in objects {
-        put_one(names, *object, seen, sink, text)?;
+    for entry in entries {
+        put_entry(names, entry, sink, text)?;
         put_piece(sink, text)?;
     }
     Ok(())

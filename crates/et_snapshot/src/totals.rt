@@ -3,8 +3,7 @@ ghost use Rattle.std.specs.Prelude.{◌≡◌, ◌+◌, ◌<◌, ◌^◌, length
 ghost use Rattle.std.specs.List.{sum_by};
 ghost use Rattle.et_snapshot.specs.Heap.{objects_of, size_of, no_total, HasClass, IsTotal, AreTotals};
 
-use crate::heap::Seen;
-use std::collections::BTreeMap;
+use crate::objects::Entry;
 
 /// A number of objects and their bytes.
 #[derive(Clone, Copy, Debug, PartialEq, Eq)]
@@ -28,17 +27,19 @@ impl Total {
 }
 
 /// Counts the objects by their classes, of which the totals are empty. The answer is the total of them all.
-pub fn count_objects(objects: &BTreeMap<u32, Seen>, totals: &mut [Total]) -> Total
+pub fn count_objects(objects: &[Entry], totals: &mut [Total]) -> Total
     requires empty { totals.old ≡ replicate (length totals.old) no_total }
-    requires classes { All (HasClass (length totals.old)) (objects_of objects.now.entries) }
-    requires fits { sum_by size_of (objects_of objects.now.entries) < 2 ^ 64 }
-    ensures all { IsTotal result (objects_of objects.now.entries) }
-    ensures classes { AreTotals totals.new (objects_of objects.now.entries) }
+    requires classes { All (HasClass (length totals.old)) (objects_of objects.now) }
+    requires fits { sum_by size_of (objects_of objects.now) < 2 ^ 64 }
+    ensures all { IsTotal result (objects_of objects.now) }
+    ensures classes { AreTotals totals.new (objects_of objects.now) }
 {
     let mut all = Total::NONE;
-    for (_object, seen) in objects {
-        totals[seen.class as usize - 1].add(seen.size);
-        all.add(seen.size);
+    for entry in objects {
+        if let Some(seen) = &entry.seen {
+            totals[seen.class as usize - 1].add(seen.size);
+            all.add(seen.size);
+        }
     }
     all
 }

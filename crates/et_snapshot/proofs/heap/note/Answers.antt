@@ -1,39 +1,47 @@
-use Rattle.std.proofs.Common.{◌≡◌, ◌∙◌, ℕ, List, [], Bool, ◌≤◌, ◌<◌, true, cond, leb, ltb, sym, ap, arith}
-use Rattle.std.specs.Map.{remove_entry}
-use Rattle.std.specs.BTreeMap.{insert_entry, is_at}
-use Rattle.std.specs.Ordering.{nat_cmp}
-use Rattle.std.proofs.lemmas.Bool.Decides.{nat_tests}
+use Rattle.std.proofs.Common.{ℕ, ◌<◌, List, sym, ap, subst, arith, ◌∙◌, ◌≡◌}
+use Rattle.std.specs.declared.vec.Vec.{Vec}
+use Rattle.std.specs.declared.alloc.Global.{Global}
+use Rattle.std.specs.Vec.{with_items}
 use Rattle.et_base.specs.declared.line.TraceLine.{TraceLine}
-use Rattle.et_snapshot.specs.declared.heap.Seen.{Seen}
-use Rattle.et_snapshot.specs.Heap.{Body, body_of, objects_of, note_kept}
-use Rattle.et_snapshot.proofs.Entries.{seen_insert, seen_remove}
+use Rattle.et_snapshot.specs.declared.objects.Entry.{Entry}
+use Rattle.et_snapshot.specs.Heap.{numbers_of, RiseTo, IsAbove, top_after}
+use Rattle.et_snapshot.proofs.Entries.{rise_wider, in_place}
 use Rattle.et_snapshot.proofs.heap.note.Goals as goal
 
-le_leb : (a b : ℕ) → a ≤ b → leb a b ≡ true
-le_leb a b le = grind (arith, nat_tests)
+-- the numbers stay
+rise_in_place : (top : ℕ) (v : Vec Entry Global) (new : List Entry) (line : TraceLine) → numbers_of new ≡ numbers_of v.items → RiseTo (top_after top line) 0 (numbers_of v.items) → RiseTo (top_after top line) 0 (numbers_of (with_items v new).items)
+rise_in_place top v new line same r =
+    subst (λ (ns : List ℕ). RiseTo (top_after top line) 0 ns) (sym (ap (λ (es : List Entry). numbers_of es) (in_place v new same) ∙ same)) r
 
-lt_ltb : (a b : ℕ) → a < b → ltb a b ≡ true
-lt_ltb a b lt = grind (arith, nat_tests)
+pub returns-in_ok-name_class-in-Class-clause-rise : goal.returns-in_ok-name_class-in-Class-clause-rise
+returns-in_ok-name_class-in-Class-clause-rise c = λ top r above. subst (λ (l : TraceLine). RiseTo (top_after top l) 0 (numbers_of c.args.heap.now.objects.items)) (sym c.in-Class.is) r
 
-pub returns-in_ok-insert-in-Alloc-clause-objects : goal.returns-in_ok-insert-in-Alloc-clause-objects
-returns-in_ok-insert-in-Alloc-clause-objects c =
-    let old = c.args.heap.now.objects.entries in
-    let a = c.in-Alloc in
-    let e = c.args.event in
-    let seen : Seen = record { class = a.class; size = a.size; slots = c.new.result } in
-    let early : leb a.born e ≡ true = le_leb a.born e c.if-born-event.true in
-    let body : Body = record { class = a.class; size = a.size; slots = [] } in
-    ap objects_of c.in_ok-insert-in-Alloc.ensures.entries
-    ∙ (seen_insert body_of old a.object seen
-    ∙ (ap (λ (s : List (ℕ × ℕ)). insert_entry nat_cmp (objects_of old) a.object (record { class = a.class; size = a.size; slots = s })) c.new.ensures.empty
-    ∙ sym (ap (λ (l : TraceLine). note_kept e (objects_of old) l) a.is ∙ ap (λ (b : Bool). cond b (insert_entry nat_cmp (objects_of old) a.object body) (objects_of old)) early)))
+pub returns-in_ok-make-in-Alloc-clause-rise : goal.returns-in_ok-make-in-Alloc-clause-rise
+returns-in_ok-make-in-Alloc-clause-rise c = λ top r above.
+    let lower : top < c.in-Alloc.object = subst (λ (l : TraceLine). IsAbove top l) c.in-Alloc.is above in
+    subst (λ (l : TraceLine). RiseTo (top_after top l) 0 (numbers_of c.make.new.entries.items)) (sym c.in-Alloc.is) (c.in_ok-make-in-Alloc.ensures.rise top r lower)
 
-pub returns-in-Death-clause-objects : goal.returns-in-Death-clause-objects
-returns-in-Death-clause-objects c =
-    let old = c.args.heap.now.objects.entries in
-    let d = c.in-Death in
-    let e = c.args.event in
-    let early : ltb d.time e ≡ true = lt_ltb d.time e c.if-time-event.true in
-    ap objects_of c.remove.ensures.entries
-    ∙ (seen_remove body_of (is_at (nat_cmp d.object)) old
-    ∙ sym (ap (λ (l : TraceLine). note_kept e (objects_of old) l) d.is ∙ ap (λ (b : Bool). cond b (remove_entry (is_at (nat_cmp d.object)) (objects_of old)) (objects_of old)) early))
+pub returns-else-born-event-clause-rise : goal.returns-else-born-event-clause-rise
+returns-else-born-event-clause-rise c = λ top r above.
+    let lower : top < c.in-Alloc.object = subst (λ (l : TraceLine). IsAbove top l) c.in-Alloc.is above in
+    subst (λ (l : TraceLine). RiseTo (top_after top l) 0 (numbers_of c.args.heap.now.objects.items)) (sym c.in-Alloc.is) (rise_wider top c.in-Alloc.object 0 (numbers_of c.args.heap.now.objects.items) (omega (arith, lower)) r)
+
+pub returns-in_ok-insert-in-Update-default-default-eq0-default-default-default-clause-rise : goal.returns-in_ok-insert-in-Update-default-default-eq0-default-default-default-clause-rise
+returns-in_ok-insert-in-Update-default-default-eq0-default-default-default-clause-rise c = λ top r above.
+    subst (λ (l : TraceLine). RiseTo (top_after top l) 0 (numbers_of c.args.heap.now.objects.items)) (sym c.in-Update-default-default-eq0-default-default-default.is) r
+
+pub returns-in_ok-write-in-Update-clause-rise : goal.returns-in_ok-write-in-Update-clause-rise
+returns-in_ok-write-in-Update-clause-rise c = λ top r above.
+    let same = c.in_ok-write-in-Update.ensures.numbers ∙ ap (λ (es : List Entry). numbers_of es) c.deref_mut.ensures.value in
+    rise_in_place top c.args.heap.now.objects c.write.new.entries c.args.line.now same (subst (λ (l : TraceLine). RiseTo (top_after top l) 0 (numbers_of c.args.heap.now.objects.items)) (sym c.in-Update.is) r)
+
+pub returns-else-at-event-2-clause-rise : goal.returns-else-at-event-2-clause-rise
+returns-else-at-event-2-clause-rise c = λ top r above. subst (λ (l : TraceLine). RiseTo (top_after top l) 0 (numbers_of c.args.heap.now.objects.items)) (sym c.in-Update.is) r
+
+pub returns-in-Death-clause-rise : goal.returns-in-Death-clause-rise
+returns-in-Death-clause-rise c = λ top r above.
+    let same = c.forget.ensures.numbers ∙ ap (λ (es : List Entry). numbers_of es) c.deref_mut-in-Death.ensures.value in
+    rise_in_place top c.args.heap.now.objects c.forget.new.entries c.args.line.now same (subst (λ (l : TraceLine). RiseTo (top_after top l) 0 (numbers_of c.args.heap.now.objects.items)) (sym c.in-Death.is) r)
+
+pub returns-else-time-event-clause-rise : goal.returns-else-time-event-clause-rise
+returns-else-time-event-clause-rise c = λ top r above. subst (λ (l : TraceLine). RiseTo (top_after top l) 0 (numbers_of c.args.heap.now.objects.items)) (sym c.in-Death.is) r

@@ -6,6 +6,7 @@ use Rattle.std.specs.declared.alloc.Global.{Global}
 use Rattle.std.proofs.lemmas.Result.{on_ok_weaker, on_err_weaker}
 use Rattle.et_io.specs.Sink.{with_more, TakesUpTo, TakesPrefix}
 use Rattle.et_snapshot.specs.Snapshot.{snapshot_text}
+use Rattle.et_snapshot.specs.declared.objects.Entry.{Entry}
 use Rattle.et_snapshot.specs.declared.totals.Total.{Total}
 use Rattle.et_snapshot.specs.Heap.{objects_of, lists_of, rows_of, total_rows, HasClass}
 use Rattle.et_snapshot.proofs.Pieces.{puts_nothing, ends_whole, ends_front, on_err}
@@ -15,11 +16,15 @@ use Rattle.et_snapshot.proofs.snapshot.snapshot_lines.Goals as goal
 pub put_objects-requires : goal.put_objects-requires
 put_objects-requires g c =
     let r = c.in-Ok.field-0 in
-    record { classes = subst (λ (n : ℕ). All (HasClass n) (objects_of r.heap.objects.entries)) (sym (ap (λ (l : List (Vec ℕ Global)). length l) c.deref.ensures.value)) c.in-Ok.ensures.classed }
+    record {
+      classes =
+          subst (λ (es : List Entry). All (HasClass (length c.deref.result.now)) (objects_of es)) (sym c.deref-2.ensures.value)
+          (subst (λ (n : ℕ). All (HasClass n) (objects_of r.heap.objects.items)) (sym (ap (λ (l : List (Vec ℕ Global)). length l) c.deref.ensures.value)) c.in-Ok.ensures.classed);
+    }
 
 pub put_classes-requires : goal.put_classes-requires
 put_classes-requires g c =
-    record { each = ap (λ (l : List Total). length l) c.deref-3.ensures.value ∙ (c.in-Ok.ensures.as_many ∙ sym (ap (λ (l : List (Vec ℕ Global)). length l) c.deref-2.ensures.value)) }
+    record { each = ap (λ (l : List Total). length l) c.deref-4.ensures.value ∙ (c.in-Ok.ensures.as_many ∙ sym (ap (λ (l : List (Vec ℕ Global)). length l) c.deref-3.ensures.value)) }
 
 pub returns-clause-ok : goal.returns-clause-ok
 returns-clause-ok g c =
@@ -39,12 +44,14 @@ returns-clause-ok g c =
     let first : TakesUpTo old one (h ++ s) a = subst (λ (t : List ℕ). TakesUpTo old one (t ++ s) a) head c.in_ok-put_slots.ensures.ok in
     let two = g.O.Sink.taken c.put_objects.new.sink in
     let b = c.put_objects.new.text.items in
-    let second : TakesUpTo one two (a ++ o) b = subst (λ (n : List (Vec ℕ Global)). TakesUpTo one two (a ++ flat_map (rows_of (lists_of n)) (objects_of r.heap.objects.entries)) b) c.deref.ensures.value c.in_ok-put_objects.ensures.ok in
+    let second : TakesUpTo one two (a ++ o) b =
+    subst (λ (es : List Entry). TakesUpTo one two (a ++ flat_map (rows_of (lists_of r.heap.names.items)) (objects_of es)) b) c.deref-2.ensures.value
+    (subst (λ (n : List (Vec ℕ Global)). TakesUpTo one two (a ++ flat_map (rows_of (lists_of n)) (objects_of c.deref-2.result.now)) b) c.deref.ensures.value c.in_ok-put_objects.ensures.ok) in
     let three = g.O.Sink.taken c.put_classes.new.sink in
     let d = c.put_classes.new.text.items in
     let third : TakesUpTo two three (b ++ k) d =
-    subst (λ (t : List Total). TakesUpTo two three (b ++ total_rows (lists_of r.heap.names.items) t) d) c.deref-3.ensures.value
-    (subst (λ (n : List (Vec ℕ Global)). TakesUpTo two three (b ++ total_rows (lists_of n) c.deref-3.result.now) d) c.deref-2.ensures.value c.in_ok-put_classes.ensures.ok) in
+    subst (λ (t : List Total). TakesUpTo two three (b ++ total_rows (lists_of r.heap.names.items) t) d) c.deref-4.ensures.value
+    (subst (λ (n : List (Vec ℕ Global)). TakesUpTo two three (b ++ total_rows (lists_of n) c.deref-4.result.now) d) c.deref-3.ensures.value c.in_ok-put_classes.ensures.ok) in
     let new = g.O.Sink.taken c.put_all.new.sink in
     on_ok_weaker c.put_all.result
     (λ (taken : new ≡ with_more three c.as_slice.result.now).
@@ -69,12 +76,14 @@ returns-clause-err g c =
     let first : TakesUpTo old one (h ++ s) a = subst (λ (t : List ℕ). TakesUpTo old one (t ++ s) a) head c.in_ok-put_slots.ensures.ok in
     let two = g.O.Sink.taken c.put_objects.new.sink in
     let b = c.put_objects.new.text.items in
-    let second : TakesUpTo one two (a ++ o) b = subst (λ (n : List (Vec ℕ Global)). TakesUpTo one two (a ++ flat_map (rows_of (lists_of n)) (objects_of r.heap.objects.entries)) b) c.deref.ensures.value c.in_ok-put_objects.ensures.ok in
+    let second : TakesUpTo one two (a ++ o) b =
+    subst (λ (es : List Entry). TakesUpTo one two (a ++ flat_map (rows_of (lists_of r.heap.names.items)) (objects_of es)) b) c.deref-2.ensures.value
+    (subst (λ (n : List (Vec ℕ Global)). TakesUpTo one two (a ++ flat_map (rows_of (lists_of n)) (objects_of c.deref-2.result.now)) b) c.deref.ensures.value c.in_ok-put_objects.ensures.ok) in
     let three = g.O.Sink.taken c.put_classes.new.sink in
     let d = c.put_classes.new.text.items in
     let third : TakesUpTo two three (b ++ k) d =
-    subst (λ (t : List Total). TakesUpTo two three (b ++ total_rows (lists_of r.heap.names.items) t) d) c.deref-3.ensures.value
-    (subst (λ (n : List (Vec ℕ Global)). TakesUpTo two three (b ++ total_rows (lists_of n) c.deref-3.result.now) d) c.deref-2.ensures.value c.in_ok-put_classes.ensures.ok) in
+    subst (λ (t : List Total). TakesUpTo two three (b ++ total_rows (lists_of r.heap.names.items) t) d) c.deref-4.ensures.value
+    (subst (λ (n : List (Vec ℕ Global)). TakesUpTo two three (b ++ total_rows (lists_of n) c.deref-4.result.now) d) c.deref-3.ensures.value c.in_ok-put_classes.ensures.ok) in
     let new = g.O.Sink.taken c.put_all.new.sink in
     on_err_weaker c.put_all.result
     (λ (part : TakesPrefix three new c.as_slice.result.now).
@@ -124,7 +133,9 @@ returns-in_err-put_objects-clause-err g c =
     let first : TakesUpTo old one (h ++ s) a = subst (λ (t : List ℕ). TakesUpTo old one (t ++ s) a) head c.in_ok-put_slots.ensures.ok in
     let two = g.O.Sink.taken c.put_objects.new.sink in
     let b = c.put_objects.new.text.items in
-    let stopped : TakesPrefix one two (a ++ o) = subst (λ (n : List (Vec ℕ Global)). TakesPrefix one two (a ++ flat_map (rows_of (lists_of n)) (objects_of r.heap.objects.entries))) c.deref.ensures.value c.in_err-put_objects.ensures.err in
+    let stopped : TakesPrefix one two (a ++ o) =
+    subst (λ (es : List Entry). TakesPrefix one two (a ++ flat_map (rows_of (lists_of r.heap.names.items)) (objects_of es))) c.deref-2.ensures.value
+    (subst (λ (n : List (Vec ℕ Global)). TakesPrefix one two (a ++ flat_map (rows_of (lists_of n)) (objects_of c.deref-2.result.now))) c.deref.ensures.value c.in_err-put_objects.ensures.err) in
     on_err c.from_residual-in_err-put_objects.result
     (subst (λ (t : List ℕ). TakesPrefix old two t) whole (second_stops old one two two h s o k a first stopped))
 
@@ -146,10 +157,12 @@ returns-in_err-put_classes-clause-err g c =
     let first : TakesUpTo old one (h ++ s) a = subst (λ (t : List ℕ). TakesUpTo old one (t ++ s) a) head c.in_ok-put_slots.ensures.ok in
     let two = g.O.Sink.taken c.put_objects.new.sink in
     let b = c.put_objects.new.text.items in
-    let second : TakesUpTo one two (a ++ o) b = subst (λ (n : List (Vec ℕ Global)). TakesUpTo one two (a ++ flat_map (rows_of (lists_of n)) (objects_of r.heap.objects.entries)) b) c.deref.ensures.value c.in_ok-put_objects.ensures.ok in
+    let second : TakesUpTo one two (a ++ o) b =
+    subst (λ (es : List Entry). TakesUpTo one two (a ++ flat_map (rows_of (lists_of r.heap.names.items)) (objects_of es)) b) c.deref-2.ensures.value
+    (subst (λ (n : List (Vec ℕ Global)). TakesUpTo one two (a ++ flat_map (rows_of (lists_of n)) (objects_of c.deref-2.result.now)) b) c.deref.ensures.value c.in_ok-put_objects.ensures.ok) in
     let three = g.O.Sink.taken c.put_classes.new.sink in
     let third : TakesPrefix two three (b ++ k) =
-    subst (λ (t : List Total). TakesPrefix two three (b ++ total_rows (lists_of r.heap.names.items) t)) c.deref-3.ensures.value
-    (subst (λ (n : List (Vec ℕ Global)). TakesPrefix two three (b ++ total_rows (lists_of n) c.deref-3.result.now)) c.deref-2.ensures.value c.in_err-put_classes.ensures.err) in
+    subst (λ (t : List Total). TakesPrefix two three (b ++ total_rows (lists_of r.heap.names.items) t)) c.deref-4.ensures.value
+    (subst (λ (n : List (Vec ℕ Global)). TakesPrefix two three (b ++ total_rows (lists_of n) c.deref-4.result.now)) c.deref-3.ensures.value c.in_err-put_classes.ensures.err) in
     on_err c.from_residual-in_err-put_classes.result
     (subst (λ (t : List ℕ). TakesPrefix old three t) whole (last_stops old one two three h s o k a b first second third))

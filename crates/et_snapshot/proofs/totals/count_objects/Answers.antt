@@ -1,62 +1,78 @@
-use Rattle.std.proofs.Common.{ℕ, ◌-◌, length, arith}
-use Rattle.std.specs.Map.Iter.{deref_pair}
-use Rattle.std.proofs.lemmas.Map.Iter.{rest_more, rest_all}
-use Rattle.et_snapshot.specs.declared.heap.Seen.{Seen}
-use Rattle.et_snapshot.specs.Heap.{kept_of, HasClass}
-use Rattle.et_snapshot.proofs.Counting.{counts_begin, counts_class, counts_room, counts_more, counts_end}
+use Rattle.std.proofs.Common.{◌≡◌, ◌∙◌, ◌+◌, ◌-◌, ◌∷◌, ◌++◌, [], List, length, take, drop, set, sym, ap, subst, arith}
+use Rattle.std.proofs.lemmas.List.{append-nil}
+use Rattle.et_snapshot.specs.declared.totals.Total.{Total}
+use Rattle.et_snapshot.specs.Heap.{Kept, body_of, objects_of, HasClass}
+use Rattle.et_snapshot.proofs.Entries.{one_live, one_dead, objects_more, live_fits, live_split, few_objects}
+use Rattle.et_snapshot.proofs.Counting.{Counts, counts_room, counts_room_all, counts_more}
 use Rattle.et_snapshot.proofs.totals.count_objects.Goals as goal
-
-pub loop-object-init : goal.loop-object-init
-loop-object-init c = record { counts = counts_begin c.args.objects.now.entries c.into_iter-object-iterator.result c.args.totals.now c.into_iter-object-iterator.ensures.into_iter_gives.0 c.requires.empty }
-
-pub loop-object-preserved : goal.loop-object-preserved
-loop-object-preserved c =
-    let s = c.loop-object in
-    let x : ℕ × Seen = (c.in-Some._object.now, c.in-Some.seen.now) in
-    let more = rest_more deref_pair s._object-iterator c.next.new.self c.next.result (c.in-Some._object, c.in-Some.seen) c.in-Some.is c.next.ensures.steps in
-    let class : HasClass (length c.args.totals.now) (kept_of x) = counts_class c.args.objects.now.entries s._object-iterator c.next.new.self x s.totals s.all (length c.args.totals.now) more s.invariant.counts c.requires.classes in
-    let low = class.0 in
-    let high = class.1 in
-    let long = s.auto.totals in
-    record {
-      counts =
-          counts_more c.args.objects.now.entries s._object-iterator c.next.new.self x s.totals s.all c.add.new.self c.add-in-loop-object.new.self (x.1.class - 1)
-          more (omega (arith, low)) (omega (arith, low, high, long)) s.invariant.counts
-          c.add.ensures.count c.add.ensures.bytes c.add-in-loop-object.ensures.count c.add-in-loop-object.ensures.bytes;
-    }
+use Rattle.et_snapshot.proofs.totals.count_objects.Goals.{in-Some, in_default}
 
 pub overflow_sub-seen : goal.overflow_sub-seen
-overflow_sub-seen c =
-    let s = c.loop-object in
-    let x : ℕ × Seen = (c.in-Some._object.now, c.in-Some.seen.now) in
-    let more = rest_more deref_pair s._object-iterator c.next.new.self c.next.result (c.in-Some._object, c.in-Some.seen) c.in-Some.is c.next.ensures.steps in
-    (counts_class c.args.objects.now.entries s._object-iterator c.next.new.self x s.totals s.all (length c.args.totals.now) more s.invariant.counts c.requires.classes).0
+overflow_sub-seen c = (live_fits (HasClass (length c.args.totals.now)) c.args.objects.now c.loop-entry.entry-index c.entry-item.result c.in-Some.seen c.loop-entry-test.true c.entry-item.is c.in-Some.is c.requires.classes).0
 
 pub bounds-totals-seen : goal.bounds-totals-seen
 bounds-totals-seen c =
-    let s = c.loop-object in
-    let x : ℕ × Seen = (c.in-Some._object.now, c.in-Some.seen.now) in
-    let more = rest_more deref_pair s._object-iterator c.next.new.self c.next.result (c.in-Some._object, c.in-Some.seen) c.in-Some.is c.next.ensures.steps in
-    let class : HasClass (length c.args.totals.now) (kept_of x) = counts_class c.args.objects.now.entries s._object-iterator c.next.new.self x s.totals s.all (length c.args.totals.now) more s.invariant.counts c.requires.classes in
+    let class = live_fits (HasClass (length c.args.totals.now)) c.args.objects.now c.loop-entry.entry-index c.entry-item.result c.in-Some.seen c.loop-entry-test.true c.entry-item.is c.in-Some.is c.requires.classes in
     let low = class.0 in
     let high = class.1 in
-    let long = s.auto.totals in
+    let long = c.loop-entry.auto.totals in
     omega (arith, low, high, long)
 
 pub add-requires : goal.add-requires
 add-requires c =
-    let s = c.loop-object in
-    let x : ℕ × Seen = (c.in-Some._object.now, c.in-Some.seen.now) in
-    let more = rest_more deref_pair s._object-iterator c.next.new.self c.next.result (c.in-Some._object, c.in-Some.seen) c.in-Some.is c.next.ensures.steps in
-    let class : HasClass (length c.args.totals.now) (kept_of x) = counts_class c.args.objects.now.entries s._object-iterator c.next.new.self x s.totals s.all (length c.args.totals.now) more s.invariant.counts c.requires.classes in
+    let es = c.args.objects.now in
+    let i = c.loop-entry.entry-index in
+    let x = c.entry-item.result in
+    let s = c.in-Some.seen in
+    let class = live_fits (HasClass (length c.args.totals.now)) es i x s c.loop-entry-test.true c.entry-item.is c.in-Some.is c.requires.classes in
     let low = class.0 in
     let high = class.1 in
-    let long = s.auto.totals in
-    let room = counts_room c.args.objects.now.entries s._object-iterator c.next.new.self x s.totals s.all (x.1.class - 1) more s.invariant.counts (omega (arith, low, high, long)) c.into_iter-object-iterator.ensures.into_iter_gives.1 c.requires.fits in
+    let long = c.loop-entry.auto.totals in
+    let few = few_objects es in
+    let room =
+    counts_room (objects_of es) (objects_of (take i es)) (objects_of (drop (i + 1) es)) (x.object, body_of s) c.loop-entry.totals c.loop-entry.all (s.class - 1)
+    (live_split es i x s c.loop-entry-test.true c.entry-item.is c.in-Some.is) c.loop-entry.invariant.counts (omega (arith, low, high, long)) (omega (arith, few)) c.requires.fits in
     record { count = room.count; bytes = room.bytes_fit }
 
-pub returns : goal.returns
-returns c =
-    let s = c.loop-object in
-    let e = counts_end c.args.objects.now.entries s._object-iterator s.totals s.all (rest_all deref_pair s._object-iterator c.next.new.self c.next.result c.in-None.is c.next.ensures.steps) s.invariant.counts in
-    record { all = e.1; classes = e.0 }
+pub add-requires-in-Some : goal.add-requires-in-Some
+add-requires-in-Some c =
+    let es = c.args.objects.now in
+    let i = c.loop-entry.entry-index in
+    let x = c.entry-item.result in
+    let s = c.in-Some.seen in
+    let few = few_objects es in
+    let room =
+    counts_room_all (objects_of es) (objects_of (take i es)) (objects_of (drop (i + 1) es)) (x.object, body_of s) c.loop-entry.totals c.loop-entry.all
+    (live_split es i x s c.loop-entry-test.true c.entry-item.is c.in-Some.is) c.loop-entry.invariant.counts (omega (arith, few)) c.requires.fits in
+    record { count = room.count; bytes = room.bytes_fit }
+
+pub loop-entry-preserved : goal.loop-entry-preserved
+loop-entry-preserved c =
+    let es = c.args.objects.now in
+    let i = c.loop-entry.entry-index in
+    let x = c.entry-item.result in
+    let totals = c.loop-entry.totals in
+    let done = objects_of (take i es) in
+    let next : objects_of (take (i + 1) es) ≡ done ++ objects_of (x ∷ []) = objects_more es i x c.loop-entry-test.true c.entry-item.is in
+    record {
+      counts = elim c.match-entry.branch [
+        | in-Some w ↦
+            let s = w.in-Some.seen in
+            let k : Kept = (x.object, body_of s) in
+            let class = live_fits (HasClass (length c.args.totals.now)) es i x s c.loop-entry-test.true c.entry-item.is w.in-Some.is c.requires.classes in
+            let low = class.0 in
+            let high = class.1 in
+            let long = c.loop-entry.auto.totals in
+            let more : objects_of (take (i + 1) es) ≡ done ++ k ∷ [] = next ∙ ap (λ (t : List Kept). done ++ t) (one_live x s w.in-Some.is) in
+            subst (λ (l : List Kept). Counts l c.match-entry.totals c.match-entry.all) (sym more)
+            (subst (λ (t : List Total). Counts (done ++ k ∷ []) t c.match-entry.all) (sym w.totals-is)
+            (subst (λ (a : Total). Counts (done ++ k ∷ []) (set totals (s.class - 1) w.add.new.self) a) (sym w.all-is)
+            (counts_more done k totals c.loop-entry.all w.add.new.self w.add-in-Some.new.self (s.class - 1) (omega (arith, low)) (omega (arith, low, high, long)) c.loop-entry.invariant.counts
+            w.add.ensures.count w.add.ensures.bytes w.add-in-Some.ensures.count w.add-in-Some.ensures.bytes)))
+        | in_default w ↦
+            let more : objects_of (take (i + 1) es) ≡ done = next ∙ (ap (λ (t : List Kept). done ++ t) (one_dead x w.in_default.is) ∙ append-nil done) in
+            subst (λ (l : List Kept). Counts l c.match-entry.totals c.match-entry.all) (sym more)
+            (subst (λ (t : List Total). Counts done t c.match-entry.all) (sym w.totals-is)
+            (subst (λ (a : Total). Counts done totals a) (sym w.all-is) c.loop-entry.invariant.counts))
+      ];
+    }
