@@ -1,11 +1,11 @@
 pub mod Below
-pub mod Turns
 pub mod Joining
 pub mod Places
 pub mod Rounds
 pub mod Follows
 pub mod Taken
 pub mod Stores
+pub mod Held
 pub mod Monotone
 pub mod Leading
 pub mod Exact
@@ -19,3 +19,4 @@ pub mod Leaves
 pub mod Methods
 pub mod Verified
 pub mod Decided
+pub mod Straight

@@ -87,13 +87,18 @@ module _ (body : Body) (starts : List Bool) (flags : (place : ℕ) → flag star
   pub leads_there : may_lead starts nexts handlers body.max_stack ≡ true → led body nexts handlers ts (Some after) ≡ Some (record { after = after; nexts = nexts; caught = caught ts; handlers = handlers })
   leads_there e = ap (λ (b : Bool). if b then Some (record { after = after; nexts = nexts; caught = caught ts; handlers = handlers }) else None) (sym test_same ∙ e)
 
--- what is answered of it
-abbrev pub lead_with : TypesOf → List ℕ → TypesOf → List ℕ → Option LeadOf
-lead_with after nexts caught handlers = Some (record { after = after; nexts = nexts; caught = caught; handlers = handlers })
+-- three tests, of which the others are one
+first_false : (a b c : Bool) → a ≡ false → (a && b && c) ≡ false
+first_false false b c e = refl
+first_false true b c e = absurd (cc e)
 
-pub lead_same : (after c d : TypesOf) (ns ks hs gs : List ℕ) → ns ≡ ks → hs ≡ gs → c ≡ d → lead_with after ns c hs ≡ lead_with after ks d gs
-lead_same after c d ns ks hs gs n h e =
-    ap (λ (xs : List ℕ). lead_with after xs c hs) n ∙ (ap (λ (x : TypesOf). lead_with after ks x hs) e ∙ ap (λ (xs : List ℕ). lead_with after ks d xs) h)
+others_false : (a b c : Bool) → (b && c) ≡ false → (a && b && c) ≡ false
+others_false false b c e = refl
+others_false true b c e = e
+
+all_true : (a b c : Bool) → a ≡ true → (b && c) ≡ true → (a && b && c) ≡ true
+all_true true b c e f = f
+all_true false b c e f = absurd (cc e)
 
 -- WHERE IT LEADS from a place, by what is computed there
 module _ (p : Linked) (m : ℕ) (body : Body) (pc : ℕ) (ts : TypesOf) (place : Place) (start : is_start body.code pc ≡ true) (h : IsPlaceIn p m body pc place) where
@@ -111,8 +116,11 @@ module _ (p : Linked) (m : ℕ) (body : Body) (pc : ℕ) (ts : TypesOf) (place :
         tested p m body pc ts place start h after accepts
         ∙ (ap (λ (xs : List ℕ). led body xs (handlers_at p m body pc) ts (Some after)) (sym n) ∙ ap (λ (xs : List ℕ). led body nexts xs ts (Some after)) (sym k))
 
-    pub nowhere : may_lead starts nexts handlers body.max_stack ≡ false → leads_in p m body pc ts ≡ None
-    nowhere e = led_here ∙ leads_nowhere body starts flags nexts handlers ts after e
+    pub not_going : list_all (flag starts) nexts ≡ false → leads_in p m body pc ts ≡ None
+    not_going e = led_here ∙ leads_nowhere body starts flags nexts handlers ts after (first_false (list_all (flag starts) nexts) (list_all (flag starts) handlers) (has_room body.max_stack handlers) e)
 
-    pub somewhere : may_lead starts nexts handlers body.max_stack ≡ true → (c : TypesOf) → c ≡ caught ts → leads_in p m body pc ts ≡ lead_with after nexts c handlers
-    somewhere e c same = led_here ∙ (leads_there body starts flags nexts handlers ts after e ∙ ap (λ (x : TypesOf). lead_with after nexts x handlers) (sym same))
+    pub not_entering : (list_all (flag starts) handlers && has_room body.max_stack handlers) ≡ false → leads_in p m body pc ts ≡ None
+    not_entering e = led_here ∙ leads_nowhere body starts flags nexts handlers ts after (others_false (list_all (flag starts) nexts) (list_all (flag starts) handlers) (has_room body.max_stack handlers) e)
+
+    pub goes : list_all (flag starts) nexts ≡ true → (list_all (flag starts) handlers && has_room body.max_stack handlers) ≡ true → leads_in p m body pc ts ≡ Some (record { after = after; nexts = nexts; caught = caught ts; handlers = handlers })
+    goes e f = led_here ∙ leads_there body starts flags nexts handlers ts after (all_true (list_all (flag starts) nexts) (list_all (flag starts) handlers) (has_room body.max_stack handlers) e f)

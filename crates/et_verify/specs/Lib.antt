@@ -1,4 +1,5 @@
 pub mod Types
+pub mod Locals
 pub mod Effects
 pub mod Steps
 pub mod Calling
@@ -8,3 +9,4 @@ pub mod Searching
 pub mod Typings
 pub mod Methods
 pub mod Verdicts
+pub mod Targets

@@ -15,6 +15,7 @@ use Rattle.et_event.specs.Table.{row_of}
 use Rattle.et_parts.specs.Places.{site_at, is_frame}
 use Rattle.et_parts.specs.declared.places.Place.{Place}
 use Rattle.et_verify.specs.Leads.{site_in}
+use Rattle.et_verify.specs.Targets.{HasTargets}
 
 -- an instruction that has a row stands at pc of the code of a method, and this is its place
 pub record IsPlaceIn (p : Linked) (m : ℕ) (body : Body) (pc : ℕ) (place : Place) : Type 0 where
@@ -31,12 +32,14 @@ pub record MethodOf : Type 0 where
   pub program : Linked
   pub method : ℕ
   pub body : Body
+  pub targets : List Bool
 
--- what is kept of it: the flags tell the starts of instructions
-pub record IsMethod (p : Linked) (m : ℕ) (info : MethodInfo) (body : Body) (returned : Returned) (starts : List Bool) : Type 0 where
+-- what is kept of it: flags tell the starts of instructions, and the targets
+pub record IsMethod (p : Linked) (m : ℕ) (info : MethodInfo) (body : Body) (returned : Returned) (starts targets : List Bool) : Type 0 where
   pub info_is : info ≡ method_at p m
   pub class : (method_at p m).class < length p.classes
   pub code : (method_at p m).code ≡ Some body
   pub returns : return_of (returned_of (method_at p m)) ≡ returned
   pub flags : (place : ℕ) → flag starts place ≡ is_start body.code place
   pub few : length body.code < 2 ^ 16
+  pub marked : HasTargets starts body.code body.table targets

@@ -1,5 +1,5 @@
 //! The places at which the code goes on behind an instruction, and the handlers that may be entered at it.
-ghost use Rattle.std.specs.Prelude.{◌&&◌, ◌≡◌, ◌+◌, ◌<◌, ◌≤◌, ◌^◌, ◌++◌, length, map, filter, int_lt, false, OnOk, IfOk};
+ghost use Rattle.std.specs.Prelude.{◌&&◌, ◌≡◌, ◌+◌, ◌<◌, ◌≤◌, ◌^◌, ◌++◌, length, map, filter, int_lt, false, true, ◌⊎◌, ℕ, Contains, OnOk, IfOk, IfSome};
 ghost use Rattle.std.specs.List.{list_all};
 ghost use Rattle.std.specs.Option.{option_copied};
 ghost use Rattle.et_class.specs.Looks.{class_name_at};
@@ -11,8 +11,11 @@ ghost use Rattle.et_event.specs.Sites.{target as target_at};
 ghost use Rattle.et_parts.specs.Places.{site_at};
 ghost use Rattle.et_parts.specs.Pools.{pool_slots};
 ghost use Rattle.et_verify.specs.Typings.{has_room as room_for};
-ghost use Rattle.et_verify.specs.Leads.{goes_past as past, next_places as places_next, is_of_program, may_handle as handles};
+ghost use Rattle.et_verify.specs.Flows.{some_place, handlers_of};
+ghost use Rattle.et_verify.specs.Leads.{caught as caught_types, goes_past as past, next_places as places_next, is_of_program, may_handle as handles};
 
+use crate::search::Caught;
+use crate::types::Types;
 use byteorder::{BigEndian, ByteOrder};
 use et_base::NoMemory;
 use et_code::opcode::{GOTO, GOTO_W, IFEQ, IFNULL, LOOKUPSWITCH, TABLESWITCH};
@@ -100,7 +103,12 @@ fn is_branch(opcode: u8) -> bool
 
 /// Adds the targets of a branch or switch, the default of a switch first.
 #[tactic(auto, using(std::proofs::lemmas::List::append_assoc))]
-fn push_targets(targets: &mut Vec<u32>, pc: u32, code: &[u8], instr: &Instr) -> Result<(), NoMemory>
+pub(crate) fn push_targets(
+    targets: &mut Vec<u32>,
+    pc: u32,
+    code: &[u8],
+    instr: &Instr,
+) -> Result<(), NoMemory>
     requires pc { pc < 2 ^ 16 }
     requires table { instr.now.opcode ≡ TABLESWITCH → TableFits code.now instr.now.table }
     requires lookup { instr.now.opcode ≡ LOOKUPSWITCH → LookupFits code.now instr.now.table }
@@ -124,18 +132,42 @@ fn push_targets(targets: &mut Vec<u32>, pc: u32, code: &[u8], instr: &Instr) -> 
     }
 }
 
+/// Where the code goes on from an instruction.
+#[derive(Drop)]
+pub(crate) struct Nexts {
+    /// The place right behind, where that is no target.
+    pub on: Option<u32>,
+    /// The other places.
+    pub others: Vec<u32>,
+}
+
 /// The places at which the code goes on from the instruction at a place: behind it, and at the targets of a branch or switch.
-pub(crate) fn next_places(alloc: Global, pc: u32, place: &Place<'_>) -> Result<Vec<u32>, NoMemory>
+pub(crate) fn next_places(
+    alloc: Global,
+    targets: &[bool],
+    pc: u32,
+    place: &Place<'_>,
+) -> Result<Nexts, NoMemory>
     requires pc { pc < 2 ^ 16 }
     requires fits { Fits place.now.code.now pc place.now.instr place.now.next }
-    ensures { IfOk result (λ r. r.items ≡ places_next pc (site_at place.now) place.now.row) }
+    ensures places { IfOk result (λ r.
+        some_place r.on ++ r.others.items ≡ places_next pc (site_at place.now) place.now.row) }
+    ensures on { IfOk result (λ r. IfSome r.on (λ q. flag targets.now q ≡ false)) }
+    ensures behind { IfOk result (λ r. (q : ℕ) → Contains r.others.items q →
+        Contains (map (target_at pc) (offsets place.now.code.now place.now.instr)) q
+        ⊎ (flag targets.now q ≡ true)) }
 {
+    let mut on = None;
     let mut places = Vec::new(alloc);
     if goes_past(place.row) {
-        places.push(place.next)?;
+        if is_flagged(targets, place.next) {
+            places.push(place.next)?;
+        } else {
+            on = Some(place.next);
+        }
     }
     push_targets(&mut places, pc, place.code, &place.instr)?;
-    Ok(places)
+    Ok(Nexts { on, others: places })
 }
 
 /// Whether the Class entry at an index of a pool names a class of the program.
@@ -162,16 +194,18 @@ fn may_handle(program: &Program, pool: Option<&Pool>, pc: u32, row: &TableRow) -
     row.catch == 0 || names_class(program, pool, row.catch)
 }
 
-/// The handlers that may be entered at a place.
-pub(crate) fn handlers_at(
+/// The handlers that may be entered at a place where types are these, with those that they are entered with.
+pub(crate) fn caught_at(
     alloc: Global,
     program: &Program,
     pool: Option<&Pool>,
     pc: u32,
     table: &[TableRow],
-) -> Result<Vec<u32>, NoMemory>
-    ensures { IfOk result (λ r. r.items ≡ map (λ (x : RowOf). x.handler)
+    types: &Types,
+) -> Result<Option<Caught>, NoMemory>
+    ensures handlers { IfOk result (λ r. handlers_of r ≡ map (λ (x : RowOf). x.handler)
         (filter (handles program.now (pool_slots (option_copied pool.entry)) pc) table.now)) }
+    ensures types { IfOk result (λ r. IfSome r (λ c. caught_types types.now ≡ c.types)) }
 {
     let mut handlers = Vec::new(alloc);
     for row in table {
@@ -179,7 +213,11 @@ pub(crate) fn handlers_at(
             handlers.push(row.handler as u32)?;
         }
     }
-    Ok(handlers)
+    if handlers.is_empty() {
+        return Ok(None);
+    }
+    let types = types.caught(alloc)?;
+    Ok(Some(Caught { types, handlers }))
 }
 
 /// Whether a place is flagged.
@@ -201,20 +239,25 @@ fn are_flagged(flags: &[bool], places: &[u32]) -> bool
     true
 }
 
-/// Whether there is room for the exception, where a handler may be entered.
-fn has_room(room: usize, handlers: &[u32]) -> bool
-    ensures { result ≡ room_for room handlers.now }
+/// Whether instructions start at all places at which the code goes on.
+pub(crate) fn may_go(starts: &[bool], nexts: &Nexts) -> bool
+    ensures { result ≡ list_all (flag starts.now) (some_place nexts.now.on ++ nexts.now.others.items) }
 {
-    match handlers {
-        [] => true,
-        [_, ..] => room > 0,
+    match nexts.on {
+        None => are_flagged(starts, &nexts.others),
+        Some(place) => is_flagged(starts, place) && are_flagged(starts, &nexts.others),
     }
 }
 
-/// Whether code may lead to these places, of which the flagged ones are the starts of instructions, and to these handlers.
-pub(crate) fn may_lead(starts: &[bool], nexts: &[u32], handlers: &[u32], room: usize) -> bool
-    ensures { result ≡ (list_all (flag starts.now) nexts.now
-        && list_all (flag starts.now) handlers.now && room_for room handlers.now) }
+/// Whether instructions start at all handlers, and there is room for the exception.
+pub(crate) fn may_enter(starts: &[bool], caught: &Option<Caught>, room: usize) -> bool
+    ensures { result ≡ (list_all (flag starts.now) (handlers_of caught.now)
+        && room_for room (handlers_of caught.now)) }
 {
-    are_flagged(starts, nexts) && are_flagged(starts, handlers) && has_room(room, handlers)
+    match caught {
+        None => true,
+        Some(caught) => {
+            are_flagged(starts, &caught.handlers) && (caught.handlers.is_empty() || room > 0)
+        }
+    }
 }

@@ -14,10 +14,11 @@ mod rows;
 mod search;
 mod stack;
 mod steps;
+mod targets;
 mod types;
 mod verdict;
 
-pub use search::{Flow, Lead, find_typing};
+pub use search::{Caught, Flow, Lead, find_typing};
 pub use steps::step_plain;
 pub use types::{EntryType, Types};
 pub use verdict::{VerifyFault, verify};

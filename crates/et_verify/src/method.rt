@@ -12,9 +12,10 @@ ghost use Rattle.et_verify.specs.Methods.{IsPlaceIn};
 ghost use Rattle.et_verify.specs.Types.{TypesOf};
 ghost use Rattle.et_verify.specs.Typings.{parameter_entries, argument_entries, with_free, leads_by, HasTyping};
 
-use crate::leads::{handlers_at, is_flagged, may_lead, next_places};
+use crate::leads::{caught_at, is_flagged, may_enter, may_go, next_places};
 use crate::rows::step;
 use crate::search::{Flow, Lead, find_typing};
+use crate::targets::target_flags;
 use crate::types::{EntryType, Types};
 use et_base::numbers::{u8_at, u16_at};
 use et_base::{MethodId, NoMemory};
@@ -81,6 +82,7 @@ struct MethodFlow<'a> {
     code: &'a RawCode,
     returned: Returned,
     starts: &'a [bool],
+    targets: &'a [bool],
 }
 
 impl<'a> Model for MethodFlow<'a> {
@@ -89,19 +91,22 @@ impl<'a> Model for MethodFlow<'a> {
 
     ghost Value = { MethodOf };
 
-    ghost view = { λ f. record { program = f.program.now; method = f.method; body = body_of f.code.now } };
+    ghost view = { λ f. record { program = f.program.now; method = f.method; body = body_of f.code.now; targets = f.targets.now } };
 
-    ghost invariant = { λ f. IsMethod f.program.now f.method f.info.now (body_of f.code.now) f.returned f.starts.now };
+    ghost invariant = { λ f. IsMethod f.program.now f.method f.info.now (body_of f.code.now) f.returned f.starts.now f.targets.now };
 }
 
 impl<'a> Flow for MethodFlow<'a> {
-    ghost use Rattle.std.specs.Prelude.{◌≡◌, IfOk, option_map};
-    ghost use Rattle.et_verify.specs.Flows.{lead_of};
+    ghost use Rattle.std.specs.Prelude.{◌≡◌, IfOk, not};
+    ghost use Rattle.et_code.specs.Rules.{flag};
+    ghost use Rattle.et_verify.specs.Flows.{IsLed};
     ghost use Rattle.et_verify.specs.Typings.{leads_in};
 
     ghost leads = { λ place f types. leads_in f.program f.method f.body place types };
 
-    fn lead(&self, alloc: Global, place: u32, types: &Types) -> Result<Option<Lead>, NoMemory> {
+    ghost straight = { λ place f. not (flag f.targets place) };
+
+    fn lead(&self, alloc: Global, place: u32, types: &mut Types) -> Result<Option<Lead>, NoMemory> {
         if !is_flagged(self.starts, place) {
             return Ok(None);
         }
@@ -109,23 +114,23 @@ impl<'a> Flow for MethodFlow<'a> {
         let Some(at) = place_at(self.program, self.method, self.info, code, place) else {
             return Ok(None);
         };
-        let mut after = types.copied(alloc)?;
-        let room = self.code.max_stack as usize;
-        if !step(&mut after, self.program, &at, self.returned, room)? {
-            return Ok(None);
-        }
-        let nexts = next_places(alloc, place, &at)?;
         let table = self.code.table.as_slice();
-        let handlers = handlers_at(alloc, self.program, at.pool, place, table)?;
-        if !may_lead(self.starts, &nexts, &handlers, room) {
+        let caught = caught_at(alloc, self.program, at.pool, place, table, types)?;
+        let room = self.code.max_stack as usize;
+        if !step(types, self.program, &at, self.returned, room)? {
             return Ok(None);
         }
-        let caught = types.caught(alloc)?;
+        let nexts = next_places(alloc, self.targets, place, &at)?;
+        if !may_go(self.starts, &nexts) {
+            return Ok(None);
+        }
+        if !may_enter(self.starts, &caught, room) {
+            return Ok(None);
+        }
         Ok(Some(Lead {
-            after,
-            nexts,
+            on: nexts.on,
+            nexts: nexts.others,
             caught,
-            handlers,
         }))
     }
 }
@@ -164,18 +169,6 @@ fn arguments_of(
     Ok(locals)
 }
 
-/// Adds local variables that hold nothing, up to so many.
-fn fill(locals: &mut Vec<EntryType>, count: usize) -> Result<(), NoMemory>
-    requires { length locals.old.items ≤ count }
-    ensures { OnOk result (locals.new.items ≡ with_free count locals.old.items) }
-{
-    let given = locals.len();
-    for _local in given..count {
-        locals.push(EntryType::Free)?;
-    }
-    Ok(())
-}
-
 /// Whether a method is entered without a receiver: it is static, or named `<clinit>`.
 fn has_no_receiver(info: &MethodInfo) -> bool
     ensures { (p : Linked) (m : ℕ) → info.now ≡ method_at p m →
@@ -191,18 +184,19 @@ fn first_types(
     kinds: &[Option<Operand>],
     count: usize,
 ) -> Result<Option<Types>, NoMemory>
+    requires { count < 2 ^ 16 }
     ensures some { IfOk result (λ r. IfSome r (λ ts. (ts.operands ≡ [])
         × (ts.locals ≡ with_free count (argument_entries is_static kinds.now)))) }
     ensures fits { IfOk result (λ r. IfSome r (λ ts. length ts.locals ≡ count)) }
     ensures none { IfOk result (λ r. IfNone r
         (count < length (argument_entries is_static kinds.now))) }
 {
-    let mut locals = arguments_of(alloc, is_static, kinds)?;
-    if locals.len() > count {
+    let arguments = arguments_of(alloc, is_static, kinds)?;
+    if arguments.len() > count {
         return Ok(None);
     }
-    fill(&mut locals, count)?;
-    Ok(Some(Types::of(Vec::new(alloc), locals)))
+    let types = Types::first(alloc, &arguments, count)?;
+    Ok(Some(types))
 }
 
 /// Whether a method with code has a typing.
@@ -227,6 +221,7 @@ fn code_has_typing(
         return Ok(false);
     };
     let starts = start_flags(alloc, &code.code)?;
+    let targets = target_flags(alloc, &starts, &code.code, &code.table)?;
     let flow = MethodFlow {
         program,
         method,
@@ -234,6 +229,7 @@ fn code_has_typing(
         code,
         returned: shape.returned(),
         starts: &starts,
+        targets: &targets,
     };
     let found = find_typing(alloc, &flow, code.code.len(), &entry)?;
     Ok(found)

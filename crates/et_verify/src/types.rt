@@ -5,9 +5,10 @@ ghost use Rattle.std.specs.Prelude.{◌≡◌, ◌+◌, ◌<◌, ◌≤◌, ◌^
 ghost use Rattle.et_verify.specs.declared.types.EntryType.{EntryType as Entry};
 ghost use Rattle.et_verify.specs.Types.{joined, rank, joined_lists};
 ghost use Rattle.et_verify.specs.Leads.{caught as caught_by};
+ghost use Rattle.et_verify.specs.Typings.{with_free};
 ghost use Rattle.et_verify.specs.Steps.{is_single, holds as holds_kind, one_set, long_set, set_to, where_within};
 
-use crate::locals;
+use crate::locals::Locals;
 use et_base::NoMemory;
 use et_event::Operand;
 use std::alloc::Global;
@@ -64,7 +65,7 @@ impl EntryType {
 #[derive(Drop)]
 pub struct Types {
     operands: Vec<EntryType>,
-    locals: Vec<EntryType>,
+    locals: Locals,
 }
 
 impl Model for Types {
@@ -73,7 +74,7 @@ impl Model for Types {
 
     ghost Value = { TypesOf };
 
-    ghost view = { λ t. record { operands = reverse t.operands.items; locals = t.locals.items } };
+    ghost view = { λ t. record { operands = reverse t.operands.items; locals = t.locals } };
 }
 
 /// Lists of types are the same.
@@ -91,31 +92,23 @@ fn are_same(some: &[EntryType], others: &[EntryType]) -> bool
     true
 }
 
-/// Joins each type with the one at its place in another list, and says whether one changed.
-fn join_all(types: &mut [EntryType], others: &[EntryType]) -> bool
-    requires { length types.old ≡ length others.now }
-    ensures joined { types.new ≡ joined_lists types.old others.now }
-    ensures same { result ≡ false → types.new ≡ types.old }
-    ensures less { result ≡ true → sum_by rank types.new < sum_by rank types.old }
-{
-    let mut changed = false;
-    for i in 0..types.len() {
-        let joined = types[i].joined(others[i]);
-        if !joined.is(types[i]) {
-            types[i] = joined;
-            changed = true;
-        }
-    }
-    changed
-}
-
 impl Types {
-    /// The types of these operands, the topmost last, and local variables.
-    pub fn of(operands: Vec<EntryType>, locals: Vec<EntryType>) -> Self
-        ensures operands { result.operands ≡ reverse operands.items }
-        ensures locals { result.locals ≡ locals.items }
+    /// The types with which a method begins: no operands, and so many local variables, of which the first are these.
+    pub(crate) fn first(
+        alloc: Global,
+        entries: &[EntryType],
+        count: usize,
+    ) -> Result<Self, NoMemory>
+        requires fits { length entries.now ≤ count }
+        requires few { count < 2 ^ 16 }
+        ensures operands { IfOk result (λ t. t.operands ≡ []) }
+        ensures locals { IfOk result (λ t. t.locals ≡ with_free count entries.now) }
     {
-        Types { operands, locals }
+        let locals = Locals::of(alloc, entries, count)?;
+        Ok(Types {
+            operands: Vec::new(alloc),
+            locals,
+        })
     }
 
     /// The same types once more.
@@ -123,7 +116,7 @@ impl Types {
         ensures { IfOk result (λ t. t ≡ self.now) }
     {
         let operands = self.operands.iter().copied().collect(alloc)?;
-        let locals = self.locals.iter().copied().collect(alloc)?;
+        let locals = self.locals.copied(alloc)?;
         Ok(Types { operands, locals })
     }
 
@@ -132,7 +125,7 @@ impl Types {
         ensures { IsTrue result ↔ ((self.now.operands ≡ other.now.operands)
             × (length self.now.locals ≡ length other.now.locals)) }
     {
-        self.locals.len() == other.locals.len()
+        self.locals.count() == other.locals.count()
             && are_same(self.operands.as_slice(), other.operands.as_slice())
     }
 
@@ -145,7 +138,7 @@ impl Types {
         ensures less { result ≡ true →
             sum_by rank self.new.locals < sum_by rank self.old.locals }
     {
-        join_all(self.locals.as_mut_slice(), other.locals.as_slice())
+        self.locals.join(&other.locals)
     }
 
     /// Takes the topmost entry of the operands, if there is one.
@@ -169,7 +162,7 @@ impl Types {
         ensures { IfOk result (λ t. t ≡ caught_by self.now) }
     {
         let operands = vec![in alloc; EntryType::Reference; 1]?;
-        let locals = self.locals.iter().copied().collect(alloc)?;
+        let locals = self.locals.copied(alloc)?;
         Ok(Types { operands, locals })
     }
 
@@ -191,49 +184,23 @@ impl Types {
         requires { i < 2 ^ 31 }
         ensures { result ≡ holds_kind kind self.now.locals i }
     {
-        locals::holds(kind, self.locals.as_slice(), i)
-    }
-
-    /// Writes an entry of a local variable. `false` where there is none.
-    fn set_entry(&mut self, i: usize, entry: EntryType) -> bool
-        requires { i < 2 ^ 31 }
-        ensures written { result ≡ true → where_within i self.old.locals (one_set i entry self.old.locals) ≡ Some self.new.locals }
-        ensures none { result ≡ false → length self.old.locals ≤ i }
-        ensures operands { self.new.operands ≡ self.old.operands }
-    {
-        if i >= self.locals.len() {
-            return false;
-        }
-        locals::set_one(self.locals.as_mut_slice(), i, entry);
-        true
-    }
-
-    /// Writes both entries of a long. `false` where there are none.
-    fn set_long(&mut self, i: usize) -> bool
-        requires { i < 2 ^ 31 }
-        ensures written { result ≡ true → where_within (i + 1) self.old.locals (long_set i self.old.locals) ≡ Some self.new.locals }
-        ensures none { result ≡ false → length self.old.locals ≤ i + 1 }
-        ensures operands { self.new.operands ≡ self.old.operands }
-    {
-        if i + 1 >= self.locals.len() {
-            return false;
-        }
-        locals::set_long(self.locals.as_mut_slice(), i);
-        true
+        self.locals.holds(kind, i)
     }
 
     /// Writes a value of a kind to a local variable. `false` where there is none.
-    pub fn set(&mut self, kind: Operand, i: usize) -> bool
+    pub fn set(&mut self, kind: Operand, i: usize) -> Result<bool, NoMemory>
         requires { i < 2 ^ 31 }
-        ensures written { result ≡ true → set_to kind self.old.locals i ≡ Some self.new.locals }
-        ensures none { result ≡ false → set_to kind self.old.locals i ≡ None }
+        ensures written { IfOk result (λ b. b ≡ true →
+            set_to kind self.old.locals i ≡ Some self.new.locals) }
+        ensures none { IfOk result (λ b. b ≡ false → set_to kind self.old.locals i ≡ None) }
         ensures operands { self.new.operands ≡ self.old.operands }
     {
-        match kind {
-            Operand::Int => self.set_entry(i, EntryType::Int),
-            Operand::Long => self.set_long(i),
-            Operand::Reference => self.set_entry(i, EntryType::Reference),
-        }
+        let done = match kind {
+            Operand::Int => self.locals.set_one(i, EntryType::Int)?,
+            Operand::Long => self.locals.set_long(i)?,
+            Operand::Reference => self.locals.set_one(i, EntryType::Reference)?,
+        };
+        Ok(done)
     }
 
     /// Puts an entry on top of the operands.

@@ -34,9 +34,10 @@ impl From<NoMemory> for VerifyFault {
 /// them, in the order of the files, that has no typing (JVMS 4.10, of which the classes of references and the calls of
 /// constructors are left out).
 ///
-/// The time is linear in the code, but for code in which local variables lose their types on a way back: each instruction is
-/// looked at again as often as one of its local variables does. The room is a byte for each operand and local variable at each
-/// instruction of the largest method.
+/// The time is linear in the code, but for code in which local variables lose their types on a way back: what stands between
+/// a target of branches and the next ones is looked at again as often as a local variable at the target does. The room is, at
+/// each target of the largest method, a byte for each operand and four for each local variable that was written on the way
+/// there, and some 50 for each byte of the code.
 pub fn verify(alloc: Global, program: &Program) -> Result<u32, VerifyFault>
     ensures verdict { Verifies program.now result }
     ensures within { (m : ℕ) → result ≡ Err (VerifyFault.Rejected m) →

@@ -1,14 +1,19 @@
 use Rattle.std.proofs.Common.{◌≡◌, ℕ, ◌<◌, ◌||◌, Bool, List, [], length, map, Option, Some, None, sym, ap, subst, ◌∙◌, arith}
-use Rattle.std.specs.Prelude.{IfSome, IfNone}
+use Rattle.std.specs.Prelude.{IfSome, IfNone, not}
 use Rattle.et_class.specs.Operands.{operand_kind}
 use Rattle.et_class.specs.PoolOperands.Operand.{Operand}
+use Rattle.et_code.specs.declared.body.TableRow.{TableRow}
 use Rattle.et_code.specs.Bodies.{Body, body_of}
+use Rattle.et_code.specs.Rules.{flag}
+use Rattle.et_code.specs.Starts.{is_start}
 use Rattle.et_program.specs.Entries.{is_static}
 use Rattle.et_event.specs.Programs.{is_initializing}
 use Rattle.et_pool.specs.Operands.{Shape}
 use Rattle.et_verify.specs.Types.{TypesOf}
-use Rattle.et_verify.specs.Flows.{IsLeadWithin}
+use Rattle.et_verify.specs.Flows.{IsLeadWithin, IsStraight}
 use Rattle.et_verify.specs.Typings.{argument_entries, with_free, first_types, leads_in}
+use Rattle.et_verify.specs.Targets.{HasTargets}
+use Rattle.et_verify.proofs.Straight.{is_straight}
 use Rattle.et_verify.proofs.Within.{leads_within}
 use Rattle.et_verify.proofs.Leading.{leads_monotone}
 use Rattle.et_verify.proofs.Decided.{HasType, has_type, first_are, typing_found, no_typing, no_locals}
@@ -35,6 +40,20 @@ find_typing-requires-clause-within c =
 
 pub find_typing-requires-clause-monotone : goal.find_typing-requires-clause-monotone
 find_typing-requires-clause-monotone c = leads_monotone c.args.program.now c.args.method (body_of c.args.code.now)
+
+pub find_typing-requires-clause-straight : goal.find_typing-requires-clause-straight
+find_typing-requires-clause-straight c =
+    let body : Body = body_of c.args.code.now in
+    let starts : List Bool = c.in_ok-starts.starts.items in
+    let targets : List Bool = c.in_ok-targets.targets.items in
+    let flags : (k : ℕ) → flag starts k ≡ is_start body.code k = (λ (k : ℕ). c.in_ok-starts.ensures k ∙ ap (λ (bytes : List ℕ). is_start bytes k) c.deref.ensures.value) in
+    let some : HasTargets c.deref-2.result.now c.deref-3.result.now c.deref-4.result.now targets = c.in_ok-targets.ensures in
+    let marked : HasTargets starts body.code body.table targets =
+    subst (λ (fs : List Bool). HasTargets fs body.code body.table targets) c.deref-2.ensures.value
+    (subst (λ (bytes : List ℕ). HasTargets c.deref-2.result.now bytes body.table targets) c.deref-3.ensures.value
+    (subst (λ (rows : List TableRow). HasTargets c.deref-2.result.now c.deref-3.result.now rows targets) c.deref-4.ensures.value some)) in
+    let all : IsStraight (leads_in c.args.program.now c.args.method body) (λ q. not (flag targets q)) = is_straight c.args.program.now c.args.method body starts targets flags marked c.requires.some in
+    subst (λ (fs : List Bool). IsStraight (leads_in c.args.program.now c.args.method body) (λ q. not (flag fs q))) (sym c.deref-6.ensures.value) all
 
 -- the types with which the search begins
 entry_is : (c : goal.After-drop-entry-inside-3) → (h : HasType c.args.program.now c.args.method c.args.shape.now) → c.in-Some.entry ≡ first_types c.args.program.now c.args.method (body_of c.args.code.now) h.type

@@ -1,25 +1,24 @@
-use Rattle.std.proofs.Common.{◌≡◌, ℕ, ◌<◌, Bool, true, false, List, length, map, Option, Some, None, refl, sym, ap, subst, ◌∙◌, arith}
-use Rattle.std.specs.Prelude.{filter}
-use Rattle.std.specs.Option.{option_copied}
-use Rattle.et_class.specs.Entries.{Item}
-use Rattle.et_code.specs.declared.body.TableRow.{TableRow}
+use Rattle.std.proofs.Common.{◌≡◌, ℕ, ◌<◌, ◌⊎◌, inl, inr, Bool, true, false, List, ◌++◌, length, map, Option, Some, None, refl, sym, ap, subst, ◌∙◌, arith, Contains}
+use Rattle.std.specs.Prelude.{IfSome, not}
+use Rattle.std.proofs.lemmas.List.Elements.{Contains-append_right}
 use Rattle.et_code.specs.Bodies.{Body, body_of}
 use Rattle.et_code.specs.Decoding.{Fits}
-use Rattle.et_code.specs.Rules.{flag}
+use Rattle.et_code.specs.Rules.{flag, offsets}
 use Rattle.et_code.specs.Starts.{is_start}
 use Rattle.et_program.specs.Entries.{method_at}
-use Rattle.et_event.specs.Sites.{pool_of_class}
+use Rattle.et_event.specs.Sites.{pool_of_class, target}
 use Rattle.et_event.specs.Sound.{returned_of}
 use Rattle.et_parts.specs.Places.{site_at}
-use Rattle.et_parts.specs.Pools.{pool_slots}
+use Rattle.et_verify.specs.declared.search.Lead.{Lead}
 use Rattle.et_verify.specs.Types.{TypesOf}
-use Rattle.et_verify.specs.Flows.{LeadOf}
+use Rattle.et_verify.specs.Flows.{LeadOf, HasLed, some_place, handlers_of}
 use Rattle.et_verify.specs.Steps.{types_after}
-use Rattle.et_verify.specs.Leads.{may_handle, next_places, handlers_at, caught}
+use Rattle.et_verify.specs.Leads.{next_places, handlers_at, caught}
 use Rattle.et_verify.specs.Typings.{leads_in}
 use Rattle.et_verify.specs.Methods.{MethodOf, IsPlaceIn}
-use Rattle.et_verify.proofs.Within.{place_inside}
-use Rattle.et_verify.proofs.Methods.{not_accepted, pool_here, lead_with, lead_same, handlers_here, nowhere, somewhere}
+use Rattle.et_verify.proofs.Within.{place_inside, all_hold}
+use Rattle.et_verify.proofs.Straight.{kept_there, target_flagged}
+use Rattle.et_verify.proofs.Methods.{not_accepted, pool_here, handlers_here, not_going, not_entering, goes}
 use Rattle.et_verify.proofs.method.MethodFlowFlow.lead.Goals as goal
 
 pub place_at-requires-clause-pc : goal.place_at-requires-clause-pc
@@ -30,16 +29,21 @@ place_at-requires-clause-pc c =
 
 pub step-requires-clause-index : goal.step-requires-clause-index
 step-requires-clause-index c =
+    let p = c.self.inside.program.now in
+    let m : ℕ = c.self.inside.method in
     let body : Body = body_of c.self.inside.code.now in
-    let is : IsPlaceIn c.self.inside.program.now c.self.inside.method body c.args.place c.in-Some.at = c.in-Some.ensures.found body (sym c.as_slice-code.ensures.value) in
+    let start : is_start body.code c.args.place ≡ true = sym (c.self.invariant.flags c.args.place) ∙ (sym c.is_flagged.ensures ∙ c.if-not-is_flagged.false) in
+    let is : IsPlaceIn p m body c.args.place c.in-Some.at = c.in-Some.ensures.found body (sym c.as_slice-code.ensures.value) in
     is.index
 
 pub step-requires-clause-pool : goal.step-requires-clause-pool
 step-requires-clause-pool c =
+    let p = c.self.inside.program.now in
+    let m : ℕ = c.self.inside.method in
     let body : Body = body_of c.self.inside.code.now in
     let start : is_start body.code c.args.place ≡ true = sym (c.self.invariant.flags c.args.place) ∙ (sym c.is_flagged.ensures ∙ c.if-not-is_flagged.false) in
-    let is : IsPlaceIn c.self.inside.program.now c.self.inside.method body c.args.place c.in-Some.at = c.in-Some.ensures.found body (sym c.as_slice-code.ensures.value) in
-    pool_here c.self.inside.program.now c.self.inside.method body c.args.place c.args.types.now c.in-Some.at start is ∙ ap (pool_of_class c.self.inside.program.now) (sym is.class)
+    let is : IsPlaceIn p m body c.args.place c.in-Some.at = c.in-Some.ensures.found body (sym c.as_slice-code.ensures.value) in
+    pool_here p m body c.args.place c.args.types.now c.in-Some.at start is ∙ ap (pool_of_class p) (sym is.class)
 
 pub returns-then-not-branch : goal.returns-then-not-branch
 returns-then-not-branch c =
@@ -48,35 +52,57 @@ returns-then-not-branch c =
     let body : Body = body_of c.self.inside.code.now in
     let start : is_start body.code c.args.place ≡ true = sym (c.self.invariant.flags c.args.place) ∙ (sym c.is_flagged.ensures ∙ c.if-not-is_flagged.false) in
     let is : IsPlaceIn p m body c.args.place c.in-Some.at = c.in-Some.ensures.found body (sym c.as_slice-code.ensures.value) in
-    let refused : types_after body.max_stack (returned_of (method_at p m)) (site_at c.in-Some.at) c.in-Some.at.row c.args.types.now ≡ None =
-    subst (λ (t : TypesOf). types_after body.max_stack (returned_of (method_at p m)) (site_at c.in-Some.at) c.in-Some.at.row t ≡ None) c.in_ok-after.ensures (c.in_ok-step.ensures.refused (returned_of (method_at p m)) c.self.invariant.returns c.if-not-branch.true) in
-    sym (subst (λ (x : MethodOf). leads_in x.program x.method x.body c.args.place c.args.types.now ≡ None) c.self.view_is (not_accepted p m body c.args.place c.args.types.now c.in-Some.at start is refused))
+    let refused : types_after body.max_stack (returned_of (method_at p m)) (site_at c.in-Some.at) c.in-Some.at.row c.args.types.now ≡ None = c.in_ok-step.ensures.refused (returned_of (method_at p m)) c.self.invariant.returns c.if-not-branch.true in
+    subst (λ (x : MethodOf). leads_in x.program x.method x.body c.args.place c.args.types.now ≡ None) c.self.view_is
+    (not_accepted p m body c.args.place c.args.types.now c.in-Some.at start is refused)
 
 pub next_places-requires-clause-pc : goal.next_places-requires-clause-pc
 next_places-requires-clause-pc c =
-    let body : Body = body_of c.self.inside.code.now in
-    let start : is_start body.code c.args.place ≡ true = sym (c.self.invariant.flags c.args.place) ∙ (sym c.is_flagged.ensures ∙ c.if-not-is_flagged.false) in
-    omega (arith, place_inside body.code c.args.place start, c.self.invariant.few)
-
-pub next_places-requires-clause-fits : goal.next_places-requires-clause-fits
-next_places-requires-clause-fits c =
-    let body : Body = body_of c.self.inside.code.now in
-    let is : IsPlaceIn c.self.inside.program.now c.self.inside.method body c.args.place c.in-Some.at = c.in-Some.ensures.found body (sym c.as_slice-code.ensures.value) in
-    subst (λ (bytes : List ℕ). Fits bytes c.args.place c.in-Some.at.instr c.in-Some.at.next) (sym is.code) is.fits
-
-pub returns-then-not-may_lead : goal.returns-then-not-may_lead
-returns-then-not-may_lead c =
     let p = c.self.inside.program.now in
     let m : ℕ = c.self.inside.method in
     let body : Body = body_of c.self.inside.code.now in
     let start : is_start body.code c.args.place ≡ true = sym (c.self.invariant.flags c.args.place) ∙ (sym c.is_flagged.ensures ∙ c.if-not-is_flagged.false) in
     let is : IsPlaceIn p m body c.args.place c.in-Some.at = c.in-Some.ensures.found body (sym c.as_slice-code.ensures.value) in
-    let accepts : types_after body.max_stack (returned_of (method_at p m)) (site_at c.in-Some.at) c.in-Some.at.row c.args.types.now ≡ Some c.step.new.types =
-    subst (λ (t : TypesOf). types_after body.max_stack (returned_of (method_at p m)) (site_at c.in-Some.at) c.in-Some.at.row t ≡ Some c.step.new.types) c.in_ok-after.ensures (c.in_ok-step.ensures.done (returned_of (method_at p m)) c.self.invariant.returns c.if-not-branch.false) in
-    let nexts : c.deref.result.now ≡ next_places c.args.place (site_at c.in-Some.at) c.in-Some.at.row = c.deref.ensures.value ∙ c.in_ok-nexts.ensures in
-    let handlers : c.deref-2.result.now ≡ handlers_at p m body c.args.place = c.deref-2.ensures.value ∙ handlers_here p m body c.args.place c.args.types.now c.in-Some.at start is c.in_ok-handlers.handlers.items c.as_slice-table.result.now c.in_ok-handlers.ensures c.as_slice-table.ensures.value in
-    sym (subst (λ (x : MethodOf). leads_in x.program x.method x.body c.args.place c.args.types.now ≡ None) c.self.view_is
-    (nowhere p m body c.args.place c.args.types.now c.in-Some.at start is c.self.inside.starts.now c.self.invariant.flags c.deref.result.now c.deref-2.result.now c.step.new.types nexts handlers accepts (sym c.may_lead.ensures ∙ c.if-not-may_lead.true)))
+    omega (arith, place_inside body.code c.args.place start, c.self.invariant.few)
+
+pub next_places-requires-clause-fits : goal.next_places-requires-clause-fits
+next_places-requires-clause-fits c =
+    let p = c.self.inside.program.now in
+    let m : ℕ = c.self.inside.method in
+    let body : Body = body_of c.self.inside.code.now in
+    let start : is_start body.code c.args.place ≡ true = sym (c.self.invariant.flags c.args.place) ∙ (sym c.is_flagged.ensures ∙ c.if-not-is_flagged.false) in
+    let is : IsPlaceIn p m body c.args.place c.in-Some.at = c.in-Some.ensures.found body (sym c.as_slice-code.ensures.value) in
+    subst (λ (bytes : List ℕ). Fits bytes c.args.place c.in-Some.at.instr c.in-Some.at.next) (sym is.code) is.fits
+
+pub returns-then-not-may_go : goal.returns-then-not-may_go
+returns-then-not-may_go c =
+    let p = c.self.inside.program.now in
+    let m : ℕ = c.self.inside.method in
+    let body : Body = body_of c.self.inside.code.now in
+    let start : is_start body.code c.args.place ≡ true = sym (c.self.invariant.flags c.args.place) ∙ (sym c.is_flagged.ensures ∙ c.if-not-is_flagged.false) in
+    let is : IsPlaceIn p m body c.args.place c.in-Some.at = c.in-Some.ensures.found body (sym c.as_slice-code.ensures.value) in
+    let accepts : types_after body.max_stack (returned_of (method_at p m)) (site_at c.in-Some.at) c.in-Some.at.row c.args.types.now ≡ Some c.step.new.types = c.in_ok-step.ensures.done (returned_of (method_at p m)) c.self.invariant.returns c.if-not-branch.false in
+    let nexts : some_place c.in_ok-nexts.nexts.on ++ c.in_ok-nexts.nexts.others.items ≡ next_places c.args.place (site_at c.in-Some.at) c.in-Some.at.row = c.in_ok-nexts.ensures.places in
+    let handlers : handlers_of c.in_ok-caught.caught ≡ handlers_at p m body c.args.place = handlers_here p m body c.args.place c.args.types.now c.in-Some.at start is (handlers_of c.in_ok-caught.caught) c.as_slice-table.result.now c.in_ok-caught.ensures.handlers c.as_slice-table.ensures.value in
+    subst (λ (x : MethodOf). leads_in x.program x.method x.body c.args.place c.args.types.now ≡ None) c.self.view_is
+    (not_going p m body c.args.place c.args.types.now c.in-Some.at start is c.self.inside.starts.now c.self.invariant.flags (some_place c.in_ok-nexts.nexts.on ++ c.in_ok-nexts.nexts.others.items) (handlers_of c.in_ok-caught.caught) c.step.new.types nexts handlers accepts (sym c.may_go.ensures ∙ c.if-not-may_go.true))
+
+pub returns-then-not-may_enter : goal.returns-then-not-may_enter
+returns-then-not-may_enter c =
+    let p = c.self.inside.program.now in
+    let m : ℕ = c.self.inside.method in
+    let body : Body = body_of c.self.inside.code.now in
+    let start : is_start body.code c.args.place ≡ true = sym (c.self.invariant.flags c.args.place) ∙ (sym c.is_flagged.ensures ∙ c.if-not-is_flagged.false) in
+    let is : IsPlaceIn p m body c.args.place c.in-Some.at = c.in-Some.ensures.found body (sym c.as_slice-code.ensures.value) in
+    let accepts : types_after body.max_stack (returned_of (method_at p m)) (site_at c.in-Some.at) c.in-Some.at.row c.args.types.now ≡ Some c.step.new.types = c.in_ok-step.ensures.done (returned_of (method_at p m)) c.self.invariant.returns c.if-not-branch.false in
+    let nexts : some_place c.in_ok-nexts.nexts.on ++ c.in_ok-nexts.nexts.others.items ≡ next_places c.args.place (site_at c.in-Some.at) c.in-Some.at.row = c.in_ok-nexts.ensures.places in
+    let handlers : handlers_of c.in_ok-caught.caught ≡ handlers_at p m body c.args.place = handlers_here p m body c.args.place c.args.types.now c.in-Some.at start is (handlers_of c.in_ok-caught.caught) c.as_slice-table.result.now c.in_ok-caught.ensures.handlers c.as_slice-table.ensures.value in
+    subst (λ (x : MethodOf). leads_in x.program x.method x.body c.args.place c.args.types.now ≡ None) c.self.view_is
+    (not_entering p m body c.args.place c.args.types.now c.in-Some.at start is c.self.inside.starts.now c.self.invariant.flags (some_place c.in_ok-nexts.nexts.on ++ c.in_ok-nexts.nexts.others.items) (handlers_of c.in_ok-caught.caught) c.step.new.types nexts handlers accepts (sym c.may_enter.ensures ∙ c.if-not-may_enter.true))
+
+on_straight : (targets : List Bool) (on : Option ℕ) → IfSome on (λ q. flag targets q ≡ false) → IfSome on (λ q. not (flag targets q) ≡ true)
+on_straight targets None h = tt
+on_straight targets (Some q) h = ap not h
 
 pub returns : goal.returns
 returns c =
@@ -85,10 +111,28 @@ returns c =
     let body : Body = body_of c.self.inside.code.now in
     let start : is_start body.code c.args.place ≡ true = sym (c.self.invariant.flags c.args.place) ∙ (sym c.is_flagged.ensures ∙ c.if-not-is_flagged.false) in
     let is : IsPlaceIn p m body c.args.place c.in-Some.at = c.in-Some.ensures.found body (sym c.as_slice-code.ensures.value) in
-    let accepts : types_after body.max_stack (returned_of (method_at p m)) (site_at c.in-Some.at) c.in-Some.at.row c.args.types.now ≡ Some c.step.new.types =
-    subst (λ (t : TypesOf). types_after body.max_stack (returned_of (method_at p m)) (site_at c.in-Some.at) c.in-Some.at.row t ≡ Some c.step.new.types) c.in_ok-after.ensures (c.in_ok-step.ensures.done (returned_of (method_at p m)) c.self.invariant.returns c.if-not-branch.false) in
-    let nexts : c.deref.result.now ≡ next_places c.args.place (site_at c.in-Some.at) c.in-Some.at.row = c.deref.ensures.value ∙ c.in_ok-nexts.ensures in
-    let handlers : c.deref-2.result.now ≡ handlers_at p m body c.args.place = c.deref-2.ensures.value ∙ handlers_here p m body c.args.place c.args.types.now c.in-Some.at start is c.in_ok-handlers.handlers.items c.as_slice-table.result.now c.in_ok-handlers.ensures c.as_slice-table.ensures.value in
-    lead_same c.step.new.types c.in_ok-caught.caught c.in_ok-caught.caught c.in_ok-nexts.nexts.items c.deref.result.now c.in_ok-handlers.handlers.items c.deref-2.result.now (sym c.deref.ensures.value) (sym c.deref-2.ensures.value) refl
-    ∙ sym (subst (λ (x : MethodOf). leads_in x.program x.method x.body c.args.place c.args.types.now ≡ lead_with c.step.new.types c.deref.result.now c.in_ok-caught.caught c.deref-2.result.now) c.self.view_is
-    (somewhere p m body c.args.place c.args.types.now c.in-Some.at start is c.self.inside.starts.now c.self.invariant.flags c.deref.result.now c.deref-2.result.now c.step.new.types nexts handlers accepts (sym c.may_lead.ensures ∙ c.if-not-may_lead.false) c.in_ok-caught.caught c.in_ok-caught.ensures))
+    let accepts : types_after body.max_stack (returned_of (method_at p m)) (site_at c.in-Some.at) c.in-Some.at.row c.args.types.now ≡ Some c.step.new.types = c.in_ok-step.ensures.done (returned_of (method_at p m)) c.self.invariant.returns c.if-not-branch.false in
+    let nexts : some_place c.in_ok-nexts.nexts.on ++ c.in_ok-nexts.nexts.others.items ≡ next_places c.args.place (site_at c.in-Some.at) c.in-Some.at.row = c.in_ok-nexts.ensures.places in
+    let handlers : handlers_of c.in_ok-caught.caught ≡ handlers_at p m body c.args.place = handlers_here p m body c.args.place c.args.types.now c.in-Some.at start is (handlers_of c.in_ok-caught.caught) c.as_slice-table.result.now c.in_ok-caught.ensures.handlers c.as_slice-table.ensures.value in
+    let standing = sym c.may_go.ensures ∙ c.if-not-may_go.false in
+    let some : 0 < length body.code = omega (arith, place_inside body.code c.args.place start) in
+    let lead : Lead = record { on = c.in_ok-nexts.nexts.on; nexts = c.in_ok-nexts.nexts.others; caught = c.in_ok-caught.caught } in
+    let left : (q : ℕ) → Contains c.in_ok-nexts.nexts.others.items q → not (flag c.self.inside.targets.now q) ≡ false = (λ (q : ℕ) d.
+    let here : is_start body.code q ≡ true = sym (c.self.invariant.flags q) ∙ all_hold (flag c.self.inside.starts.now) (some_place c.in_ok-nexts.nexts.on ++ c.in_ok-nexts.nexts.others.items) standing q (Contains-append_right (some_place c.in_ok-nexts.nexts.on) c.in_ok-nexts.nexts.others.items q d) in
+    elim (c.in_ok-nexts.ensures.behind q d) [
+      | inl there ↦ kept_there p m body c.self.inside.starts.now c.self.inside.targets.now c.self.invariant.flags c.self.invariant.marked some q
+          (target_flagged p m body c.self.inside.starts.now c.self.inside.targets.now c.self.invariant.flags c.self.invariant.marked some c.args.place (c.in-Some.at.instr, c.in-Some.at.next) q start is.decoded
+          (subst (λ (bytes : List ℕ). Contains (map (target c.args.place) (offsets bytes c.in-Some.at.instr)) q) is.code there) here)
+      | inr flagged ↦ kept_there p m body c.self.inside.starts.now c.self.inside.targets.now c.self.invariant.flags c.self.invariant.marked some q flagged
+    ]) in
+    subst (λ (x : MethodOf). HasLed (λ q. not (flag x.targets q)) lead c.step.new.types (leads_in x.program x.method x.body c.args.place c.args.types.now)) c.self.view_is
+    (record {
+      lead = record { after = c.step.new.types; nexts = some_place c.in_ok-nexts.nexts.on ++ c.in_ok-nexts.nexts.others.items; caught = caught c.args.types.now; handlers = handlers_of c.in_ok-caught.caught };
+      is = goes p m body c.args.place c.args.types.now c.in-Some.at start is c.self.inside.starts.now c.self.invariant.flags (some_place c.in_ok-nexts.nexts.on ++ c.in_ok-nexts.nexts.others.items) (handlers_of c.in_ok-caught.caught) c.step.new.types nexts handlers accepts standing (sym c.may_enter.ensures ∙ c.if-not-may_enter.false);
+      after_is = refl;
+      nexts = refl;
+      handlers = refl;
+      caught = c.in_ok-caught.ensures.types;
+      on = on_straight c.self.inside.targets.now c.in_ok-nexts.nexts.on c.in_ok-nexts.ensures.on;
+      others = left;
+    })

@@ -5,7 +5,7 @@ use Rattle.std.specs.Option.{option_copied}
 use Rattle.et_code.specs.declared.body.TableRow.{TableRow}
 use Rattle.et_parts.specs.Pools.{pool_slots}
 use Rattle.et_verify.specs.Leads.{may_handle}
-use Rattle.et_verify.proofs.leads.handlers_at.Given as goal
+use Rattle.et_verify.proofs.leads.caught_at.Given as goal
 
 abbrev pub invariant-loop-row : goal.invariant-loop-row
 invariant-loop-row l =
