@@ -1,5 +1,5 @@
 -- What the search decides of a method.
-use Rattle.std.proofs.Common.{◌≡◌, ℕ, zero, ◌+◌, ◌-◌, ◌<◌, ◌≤◌, ◌||◌, Bool, true, List, [], ◌∷◌, ◌++◌, length, map, Option, Some, None, refl, sym, ◌∙◌, ap, subst, arith, rules}
+use Rattle.std.proofs.Common.{◌≡◌, ℕ, ◌-◌, ◌<◌, ◌||◌, Bool, true, List, [], length, map, Option, Some, None, refl, sym, ◌∙◌, ap, subst, arith, rules}
 use Rattle.std.specs.Prelude.{option_map, replicate}
 use Rattle.std.specs.Option.{option_map_or}
 use Rattle.std.proofs.lemmas.List.{length-append}
@@ -7,7 +7,6 @@ use Rattle.std.proofs.lemmas.List.Elements.{All-nil}
 use Rattle.et_class.specs.Descriptors.{MethodType, method_type}
 use Rattle.et_class.specs.Operands.{operand_kind}
 use Rattle.et_class.specs.PoolOperands.Operand.{Operand}
-use Rattle.et_pool.specs.declared.operand.Returned.{Returned}
 use Rattle.et_pool.specs.Operands.{Shape, shape_of, shape_in, return_of}
 use Rattle.et_code.specs.Bodies.{Body}
 use Rattle.et_code.specs.Starts.{Begins, is_start}
@@ -17,8 +16,8 @@ use Rattle.et_event.specs.Programs.{is_initializing}
 use Rattle.et_event.specs.Sound.{returned_of}
 use Rattle.et_verify.specs.declared.types.EntryType.{EntryType}
 use Rattle.et_verify.specs.declared.types.EntryType.TheVariants as entry
-use Rattle.et_verify.specs.Types.{TypesOf, AreTypesBelow}
-use Rattle.et_verify.specs.Flows.{Typing, AreAbove, IsTyping as IsFlowTyping, HasTyping as HasFlowTyping}
+use Rattle.et_verify.specs.Types.{TypesOf}
+use Rattle.et_verify.specs.Flows.{AreAbove, IsTyping as IsFlowTyping, HasTyping as HasFlowTyping}
 use Rattle.et_verify.specs.Typings.{argument_entries, with_free, first_types, FitFrame, IsTyping, HasTyping, leads_in}
 use Rattle.et_verify.proofs.Exact.{flow_typing}
 use Rattle.et_verify.proofs.Restricted.{restricted, method_typing}

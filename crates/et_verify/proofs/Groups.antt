@@ -1,10 +1,8 @@
 -- Groups of operands: one value, or a long or two values.
-use Rattle.std.proofs.Common.{◌≡◌, true, false, Bool, List, [], ◌∷◌, ◌&&◌, Option, Some, None, refl, ap, ◌∙◌}
-use Rattle.std.specs.Prelude.{if◌then◌else◌}
-use Rattle.et_event.specs.declared.rows.Rearrangement.TheVariants as stack
+use Rattle.std.proofs.Common.{◌≡◌, false, List, [], ◌∷◌, ◌&&◌, refl}
 use Rattle.et_verify.specs.declared.types.EntryType.{EntryType}
 use Rattle.et_verify.specs.declared.types.EntryType.TheVariants as entry
-use Rattle.et_verify.specs.Steps.{is_single, is_one, is_pair, rearranged_types}
+use Rattle.et_verify.specs.Steps.{is_single, is_pair}
 
 pub pair_alone : (t u : EntryType) → (t ≡ entry.LongHigh → u ≡ entry.Long → ⊥) → is_pair (t ∷ u ∷ []) ≡ (is_single t && is_single u)
 pair_alone entry.Free u h = refl

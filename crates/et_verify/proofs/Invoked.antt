@@ -8,7 +8,6 @@ use Rattle.et_class.specs.Entries.{Item}
 use Rattle.et_class.specs.Operands.{operand_kind}
 use Rattle.et_class.specs.PoolOperands.Operand.{Operand}
 use Rattle.et_class.specs.PoolOperands.Operand.TheVariants as operand
-use Rattle.et_pool.specs.declared.operand.Returned.{Returned}
 use Rattle.et_pool.specs.declared.operand.Returned.TheVariants.{Void, Value}
 use Rattle.et_pool.specs.Operands.{Shape, shape_of, shape_in, return_of}
 use Rattle.et_program.specs.Entries.{Linked}
@@ -18,8 +17,8 @@ use Rattle.et_event.specs.Sites.{Site, site_member, pool_index}
 use Rattle.et_verify.specs.declared.types.EntryType.{EntryType}
 use Rattle.et_verify.specs.declared.types.EntryType.TheVariants as entry
 use Rattle.et_verify.specs.Effects.{Effect, all_kinds, arguments_with, returned_kind, given_by, type_effect, call_effect, result_kind}
-use Rattle.et_verify.specs.Steps.{below_taken, with_given, moved_by, moved_where}
-use Rattle.et_verify.specs.Calling.{arguments_taken, receiver_taken, call_taken, called}
+use Rattle.et_verify.specs.Steps.{below_taken, with_given, moved_where}
+use Rattle.et_verify.specs.Calling.{arguments_taken, receiver_taken, called}
 
 -- ONE AFTER ANOTHER
 

@@ -1,23 +1,18 @@
 -- Where the code of a method leads, by what is found and tested at a place.
-use Rattle.std.proofs.Common.{◌≡◌, ℕ, ◌<◌, ◌^◌, ◌&&◌, ◌||◌, Bool, true, false, List, [], ◌∷◌, length, Option, Some, None, refl, sym, ◌∙◌, ap, subst}
-use Rattle.std.specs.Prelude.{if◌then◌else◌, filter, map, Result, Ok, Err}
+use Rattle.std.proofs.Common.{◌≡◌, ℕ, ◌&&◌, Bool, true, false, List, [], ◌∷◌, Option, Some, None, refl, sym, ◌∙◌, ap}
+use Rattle.std.specs.Prelude.{if◌then◌else◌, filter, map}
 use Rattle.et_code.specs.declared.body.TableRow.{TableRow}
 use Rattle.std.specs.List.{list_all}
-use Rattle.std.specs.Option.{option_copied}
 use Rattle.et_class.specs.Entries.{Item}
 use Rattle.et_code.specs.declared.instr.Instr.{Instr}
-use Rattle.et_code.specs.declared.instr.CodeFault.{CodeFault}
 use Rattle.et_code.specs.Bodies.{Body}
-use Rattle.et_code.specs.Decoding.{instruction_at, Fits}
+use Rattle.et_code.specs.Decoding.{instruction_at}
 use Rattle.et_code.specs.Rules.{flag}
 use Rattle.et_code.specs.Starts.{is_start}
 use Rattle.et_program.specs.Entries.{Linked, method_at}
-use Rattle.et_event.specs.declared.rows.Row.{Row}
 use Rattle.et_event.specs.Sites.{Site, pool_of_class}
 use Rattle.et_event.specs.Sound.{returned_of}
-use Rattle.et_event.specs.Table.{row_of}
 use Rattle.et_parts.specs.Places.{site_at}
-use Rattle.et_parts.specs.Pools.{pool_slots}
 use Rattle.et_parts.specs.declared.places.Place.{Place}
 use Rattle.et_verify.specs.Types.{TypesOf}
 use Rattle.et_verify.specs.Flows.{LeadOf}

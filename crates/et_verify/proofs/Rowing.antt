@@ -1,5 +1,5 @@
 -- The rows, and both parts of the types after an instruction.
-use Rattle.std.proofs.Common.{◌≡◌, ℕ, ◌<◌, ◌≤◌, ◌⊎◌, inl, inr, Bool, true, false, leb, List, [], ◌∷◌, length, Option, Some, None, refl, sym, ◌∙◌, ap, arith}
+use Rattle.std.proofs.Common.{◌≡◌, ℕ, ◌<◌, ◌≤◌, ◌⊎◌, inl, inr, Bool, true, false, leb, List, length, Option, Some, None, refl, sym, ◌∙◌, ap, arith}
 use Rattle.std.specs.Prelude.{if◌then◌else◌, option_map}
 use Rattle.std.proofs.lemmas.Bool.{le-leb, leb-true}
 use Rattle.et_class.specs.Operands.{may_return}
@@ -15,7 +15,7 @@ use Rattle.et_event.specs.declared.rows.Row.TheVariants as rows
 use Rattle.et_event.specs.Sites.{Site}
 use Rattle.et_verify.specs.declared.types.EntryType.{EntryType}
 use Rattle.et_verify.specs.Types.{TypesOf}
-use Rattle.et_verify.specs.Effects.{Effect, frame_effect, return_effect, kinds_returned, taking}
+use Rattle.et_verify.specs.Effects.{frame_effect, return_effect, kinds_returned, taking}
 use Rattle.et_verify.specs.Steps.{below_taken, with_given, moved_by, moved_where, operands_after, locals_after, fitted, types_after}
 use Rattle.et_verify.specs.Calling.{returned_taken}
 

@@ -1,5 +1,5 @@
 -- The methods of the files, one after another.
-use Rattle.std.proofs.Common.{◌≡◌, ℕ, zero, suc, ◌+◌, ◌<◌, ◌≤◌, Bool, true, false, cond, List, [], ◌∷◌, ◌++◌, length, take, drop, get_or, filter, map, ◌^◌, Some, None, refl, sym, ◌∙◌, ap, subst, ◌⊎◌, inl, inr, arith, add-one, Contains}
+use Rattle.std.proofs.Common.{◌≡◌, ℕ, zero, suc, ◌+◌, ◌<◌, ◌≤◌, Bool, true, false, cond, List, [], ◌∷◌, ◌++◌, length, take, drop, get_or, filter, map, ◌^◌, refl, sym, ◌∙◌, ap, subst, ◌⊎◌, inl, inr, arith, add-one, Contains}
 use Rattle.std.specs.Prelude.{is_some, IsSome, if◌then◌else◌}
 use Rattle.std.proofs.Math.Seq.{take-suc, split_at, get_or-append_seam}
 use Rattle.std.proofs.lemmas.Bool.{cases_eq, cases_lt}
@@ -14,7 +14,7 @@ use Rattle.et_program.specs.ProgramOf.{is_of_file}
 use Rattle.et_program.specs.Slots.{places_from}
 use Rattle.et_program.specs.Tables.{IsTabled}
 use Rattle.et_verify.specs.Typings.{HasTyping, IsVerified}
-use Rattle.et_verify.specs.Verdicts.{verified_count, IsFirstRejected}
+use Rattle.et_verify.specs.Verdicts.{IsFirstRejected}
 
 -- the first so many have typings
 abbrev pub AreSeen : Linked → ℕ → Type 0

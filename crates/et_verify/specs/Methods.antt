@@ -1,7 +1,6 @@
 -- THE CODE OF A METHOD, as the search for its typing goes over it.
 use Rattle.std.specs.Prelude.{◌≡◌, ℕ, ◌<◌, ◌^◌, Bool, false, List, length, Some, Ok}
-use Rattle.et_code.specs.declared.body.RawCode.{RawCode}
-use Rattle.et_code.specs.Bodies.{Body, body_of}
+use Rattle.et_code.specs.Bodies.{Body}
 use Rattle.et_code.specs.Decoding.{instruction_at, Fits}
 use Rattle.et_code.specs.Rules.{flag}
 use Rattle.et_code.specs.Starts.{is_start}

@@ -1,7 +1,7 @@
 use Rattle.std.proofs.Common.{◌≡◌, ℕ, ◌+◌, ◌-◌, ◌*◌, List, [], ◌∷◌, ◌++◌, map, ap, ◌∙◌, arith, rules, to_z, of_z}
 use Rattle.std.specs.Int.{w32, cast_signed}
 use Rattle.et_code.specs.Decoding.{code_word_at}
-use Rattle.et_code.specs.Switches.{rows_from, table_rows}
+use Rattle.et_code.specs.Switches.{rows_from}
 use Rattle.et_event.specs.Sites.{target}
 use Rattle.et_verify.proofs.Leaves.{row_added, rows_ended}
 use Rattle.et_verify.proofs.leads.push_rows.Goals as goal

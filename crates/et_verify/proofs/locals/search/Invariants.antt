@@ -1,5 +1,5 @@
 -- What is before `low` is lower, and what is from `high` on is higher.
-use Rattle.std.proofs.Common.{◌≡◌, ℕ, ◌-◌, ◌<◌, ◌≤◌, length}
+use Rattle.std.proofs.Common.{ℕ, ◌-◌, ◌<◌, ◌≤◌, length}
 use Rattle.et_verify.specs.Locals.{local_at}
 use Rattle.et_verify.proofs.locals.search.Given as goal
 

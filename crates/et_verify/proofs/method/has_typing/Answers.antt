@@ -1,9 +1,8 @@
-use Rattle.std.proofs.Common.{◌≡◌, ℕ, ◌<◌, ◌≤◌, true, Some, None, List, length, sym, ap, subst, ◌∙◌, arith}
+use Rattle.std.proofs.Common.{◌≡◌, ◌≤◌, length, sym, ap, ◌∙◌, arith}
 use Rattle.std.specs.Prelude.{nat_le, nat_lt, ◌^◌}
 use Rattle.std.proofs.lemmas.Bool.{and_parts, leb-true}
-use Rattle.et_code.specs.Bodies.{Body, body_of}
+use Rattle.et_code.specs.Bodies.{Body}
 use Rattle.et_code.specs.Kept.{IsKeptCode}
-use Rattle.et_program.specs.Entries.{method_at}
 use Rattle.et_program.specs.declared.info.MethodInfo.{MethodInfo}
 use Rattle.et_verify.proofs.Decided.{no_code, no_type}
 use Rattle.et_verify.proofs.method.has_typing.Goals as goal

@@ -1,4 +1,4 @@
-use Rattle.std.proofs.Common.{◌≡◌, Some, List, ℕ, true, refl, sym, subst}
+use Rattle.std.proofs.Common.{◌≡◌, Some, refl, sym, subst}
 use Rattle.et_event.specs.declared.rows.Row.{Row}
 use Rattle.et_parts.specs.Places.{site_at}
 use Rattle.et_verify.specs.Steps.{operands_after, locals_after}

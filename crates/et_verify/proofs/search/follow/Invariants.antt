@@ -1,5 +1,5 @@
 -- The code was followed so far, and goes on with these types.
-use Rattle.std.proofs.Common.{◌≡◌, ℕ, ◌+◌, ◌*◌, ◌<◌, ◌≤◌, [], ◌∷◌, ◌++◌, length, vec_len}
+use Rattle.std.proofs.Common.{◌≡◌, ℕ, ◌+◌, ◌*◌, ◌<◌, ◌≤◌, [], ◌∷◌, ◌++◌, vec_len}
 use Rattle.std.specs.Prelude.{IfSome}
 use Rattle.et_verify.specs.Types.{TypesOf}
 use Rattle.et_verify.specs.Flows.{heights}

@@ -1,12 +1,6 @@
-use Rattle.std.proofs.Common.{◌≡◌, ℕ, ◌<◌, Bool, true, List, ◌++◌, length, map, take, drop, sym, ◌∙◌, subst, arith, Contains}
-use Rattle.std.specs.Prelude.{Ok}
+use Rattle.std.proofs.Common.{◌≡◌, ℕ, Bool, List, ◌++◌, length, take, drop, sym, ◌∙◌, subst, arith}
 use Rattle.std.proofs.Math.Seq.{take-append_seam}
-use Rattle.et_code.specs.declared.body.TableRow.{TableRow}
-use Rattle.et_code.specs.declared.instr.Instr.{Instr}
-use Rattle.et_code.specs.Decoding.{instruction_at}
-use Rattle.et_code.specs.Rules.{flag, offsets}
-use Rattle.et_event.specs.Sites.{target}
-use Rattle.et_verify.specs.Targets.{KeepsFlags, AreFlagged, HasTargets}
+use Rattle.et_verify.specs.Targets.{KeepsFlags, HasTargets}
 use Rattle.et_verify.proofs.targets.target_flags.Goals as goal
 
 -- what stands in a list after all of it was written

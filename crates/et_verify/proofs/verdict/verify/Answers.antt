@@ -1,10 +1,10 @@
-use Rattle.std.proofs.Common.{◌≡◌, ℕ, ◌+◌, ◌<◌, Bool, true, false, List, length, get_or, sym, ap, subst, ◌∙◌, arith}
+use Rattle.std.proofs.Common.{◌≡◌, ℕ, ◌<◌, true, false, List, length, get_or, sym, ap, subst, ◌∙◌, arith}
 use Rattle.std.specs.Prelude.{is_some, IsSome}
 use Rattle.et_program.specs.Entries.{method_at}
 use Rattle.et_program.specs.declared.info.MethodInfo.{MethodInfo}
 use Rattle.et_verify.specs.Typings.{HasTyping}
 use Rattle.et_verify.specs.Verdicts.{IsFirstRejected}
-use Rattle.et_verify.proofs.Verified.{AreSeen, has_code, counted, next_seen, rejected_here, room_left, next_counted}
+use Rattle.et_verify.proofs.Verified.{has_code, next_seen, rejected_here, room_left, next_counted}
 use Rattle.et_verify.proofs.verdict.verify.Goals as goal
 use Rattle.et_verify.proofs.verdict.verify.Goals.{then-is_some, else-is_some}
 

@@ -1,4 +1,4 @@
-use Rattle.std.proofs.Common.{◌≡◌, ℕ, ◌+◌, ◌<◌, ◌≤◌, refl, Bool, true, false, List, length, get_or, set, sym, ap, subst, ◌∙◌, arith}
+use Rattle.std.proofs.Common.{◌≡◌, ℕ, ◌+◌, ◌<◌, ◌≤◌, refl, Bool, true, List, length, get_or, set, sym, ap, subst, ◌∙◌, arith}
 use Rattle.std.specs.Prelude.{sum_by}
 use Rattle.std.proofs.lemmas.Bool.{false≢true}
 use Rattle.std.proofs.lemmas.List.{get_or_read}
@@ -7,7 +7,7 @@ use Rattle.et_verify.specs.declared.types.EntryType.TheVariants.{Free}
 use Rattle.et_verify.specs.declared.locals.Held.{Held}
 use Rattle.et_verify.specs.declared.locals.Locals.TheInside.{Inside}
 use Rattle.et_verify.specs.Types.{joined as join_of, rank, joined_lists}
-use Rattle.et_verify.specs.Locals.{spread, AreHeld}
+use Rattle.et_verify.specs.Locals.{spread}
 use Rattle.et_verify.proofs.Held.{nothing, IsJoined, joined_new, joined_same, joined_spread, joined_less, length-spread}
 use Rattle.et_verify.proofs.locals.Locals.join.Goals.{then-not-is, else-not-is}
 use Rattle.et_verify.proofs.locals.Locals.join.Goals as goal

@@ -1,4 +1,4 @@
-use Rattle.std.proofs.Common.{◌≡◌, ℕ, ◌<◌, ◌≤◌, length, arith}
+use Rattle.std.proofs.Common.{◌≤◌, length, arith}
 use Rattle.et_verify.proofs.Held.{first_spread}
 use Rattle.et_verify.proofs.locals.Locals.of.Goals as goal
 

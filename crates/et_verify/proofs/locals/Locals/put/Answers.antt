@@ -1,8 +1,7 @@
-use Rattle.std.proofs.Common.{◌≡◌, ℕ, ◌<◌, List, length, get_or, set, sym, ap, subst, ◌∙◌, arith, rules}
+use Rattle.std.proofs.Common.{◌≡◌, ℕ, ◌<◌, List, length, get_or, set, sym, ap, subst, ◌∙◌, arith}
 use Rattle.std.specs.List.{insert}
 use Rattle.std.proofs.lemmas.List.{get_or_read}
 use Rattle.et_verify.specs.declared.types.EntryType.{EntryType}
-use Rattle.et_verify.specs.declared.types.EntryType.TheVariants.{Free}
 use Rattle.et_verify.specs.declared.locals.Held.{Held}
 use Rattle.et_verify.specs.Locals.{spread, IsAt, IsGapFor, AreHeld}
 use Rattle.et_verify.proofs.Held.{nothing, length-spread, set_at, inserted_at, held_inserted}

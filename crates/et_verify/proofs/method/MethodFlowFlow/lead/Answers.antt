@@ -1,4 +1,4 @@
-use Rattle.std.proofs.Common.{◌≡◌, ℕ, ◌<◌, ◌⊎◌, inl, inr, Bool, true, false, List, ◌++◌, length, map, Option, Some, None, refl, sym, ap, subst, ◌∙◌, arith, Contains}
+use Rattle.std.proofs.Common.{◌≡◌, ℕ, ◌<◌, inl, inr, Bool, true, false, List, ◌++◌, length, map, Option, Some, None, refl, sym, ap, subst, ◌∙◌, arith, Contains}
 use Rattle.std.specs.Prelude.{IfSome, not}
 use Rattle.std.proofs.lemmas.List.Elements.{Contains-append_right}
 use Rattle.et_code.specs.Bodies.{Body, body_of}
@@ -10,8 +10,7 @@ use Rattle.et_event.specs.Sites.{pool_of_class, target}
 use Rattle.et_event.specs.Sound.{returned_of}
 use Rattle.et_parts.specs.Places.{site_at}
 use Rattle.et_verify.specs.declared.search.Lead.{Lead}
-use Rattle.et_verify.specs.Types.{TypesOf}
-use Rattle.et_verify.specs.Flows.{LeadOf, HasLed, some_place, handlers_of}
+use Rattle.et_verify.specs.Flows.{HasLed, some_place, handlers_of}
 use Rattle.et_verify.specs.Steps.{types_after}
 use Rattle.et_verify.specs.Leads.{next_places, handlers_at, caught}
 use Rattle.et_verify.specs.Typings.{leads_in}
