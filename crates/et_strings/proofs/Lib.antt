@@ -1,0 +1,11 @@
+mod Answering
+mod Calling
+mod Chars
+mod Entries
+mod Giving
+mod Plain
+mod Room
+mod RowAnswers
+mod Saying
+mod Strings
+mod Turns

@@ -1,0 +1,9 @@
+use Rattle.std.proofs.Common.{length, ◌-◌, ◌≡◌, ◌+◌, ◌≤◌, drop}
+use Rattle.et_pool.specs.Text.{units_of}
+use Rattle.et_strings.proofs.decoding.count_units.Given as goal
+
+abbrev pub invariant-units : goal.invariant-units
+invariant-units l = (l.at ≤ length l.s) × (l.count ≤ l.at) × (l.count + length (units_of (drop l.at l.s)) ≡ length (units_of l.s))
+
+abbrev pub decreases-units : goal.decreases-units
+decreases-units l = length l.s - l.at

@@ -1,0 +1,4 @@
+pub mod TextsInside
+pub mod TextUnits
+pub mod Pieces
+pub mod Calls
