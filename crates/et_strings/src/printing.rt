@@ -11,7 +11,8 @@ use std::alloc::AllocError;
 fn char_at(units: &[u16], at: usize) -> (Option<char>, usize)
     requires { at < length units.now }
     ensures bound { (at < result.1) × (result.1 ≤ length units.now) }
-    ensures first { utf16_chars (drop at units.now) ≡ result.0 ∷ utf16_chars (drop result.1 units.now) }
+    ensures first { utf16_chars (drop at units.now)
+        ≡ result.0 ∷ utf16_chars (drop result.1 units.now) }
 {
     let high = units[at] as u32;
     if high < 0xD800 || 0xE000 <= high {

@@ -1,11 +1,11 @@
 //! The methods that read a text: its length, a unit, and whether another has the same ones.
 ghost use Rattle.std.specs.Prelude.{◌≡◌, ◌+◌, ◌≤◌, IfOk, List};
-ghost use Rattle.et_event.specs.Moments.{moment};
 ghost use Rattle.et_event.specs.TextRows.{is_text_like as is_text_like_in};
 ghost use Rattle.et_program.specs.BootTexts.TextMethod.TheVariants as methods;
 ghost use Rattle.et_program.specs.Entries.{Linked};
 ghost use Rattle.et_state.specs.declared.records.Record.{Record};
-ghost use Rattle.et_strings.specs.Calls.{AnswersText, HasRoomFor, IsCalled, IsReady, StandBeside, text_moment};
+ghost use Rattle.et_strings.specs.Calls.{AnswersText, HasRoomFor, IsCalled, IsReady};
+ghost use Rattle.et_strings.specs.Calls.{StandBeside, text_moment};
 
 use crate::calls::TextCalled;
 use crate::text::{are_same, text_at, text_length, text_unit};

@@ -1,7 +1,6 @@
 //! The methods that give an object a text: the constructors of a string builder, `append` and `toString`.
 ghost use Rattle.std.specs.Prelude.{◌≡◌, ℕ, ◌+◌, ◌<◌, ◌≤◌, ◌^◌, ◌∷◌, ◌++◌, [], All, IfOk, List, Some, drop, length};
 ghost use Rattle.std.specs.Map.{values_of};
-ghost use Rattle.et_event.specs.Moments.{moment};
 ghost use Rattle.et_event.specs.TextRows.{shown};
 ghost use Rattle.et_program.specs.BootTexts.TextMethod.TheVariants as methods;
 ghost use Rattle.et_program.specs.Entries.{Linked};
@@ -12,7 +11,7 @@ ghost use Rattle.et_state.specs.Sound.{IsSound};
 ghost use Rattle.et_state.specs.Spoken.{spoken, text_of};
 ghost use Rattle.et_state.specs.State.{MachineState, kept_of};
 ghost use Rattle.et_state.specs.Words.{HasFrame, ticked, top, with_new_object, with_top};
-ghost use Rattle.et_state.specs.Texts.{Texts as TextList, longest_text, text_units, with_text};
+ghost use Rattle.et_state.specs.Texts.{longest_text, text_units, with_text};
 ghost use Rattle.et_state.specs.declared.records.Record.{Record};
 ghost use Rattle.et_strings.specs.Calls.{AnswersText, HasRoomFor, IsCalled, IsReady, StandBeside};
 ghost use Rattle.et_strings.specs.TextUnits.{units_in};
@@ -37,13 +36,13 @@ const LONGEST: usize = 65_535;
 const MOST: u64 = 67_108_864;
 
 /// How many units all texts have together where an object is given a text of so many.
-fn units_with(texts: &Texts, object: ObjectId, length: usize) -> u64
-    requires length { length ≤ 2 ^ 40 }
+fn units_with(texts: &Texts, object: ObjectId, count: usize) -> u64
+    requires short { count ≤ 2 ^ 40 }
     requires few { text_units texts.now ≤ 2 ^ 40 }
-    ensures { (text : List ℕ) → Rattle.std.specs.Prelude.length text ≡ length →
+    ensures { (text : List ℕ) → length text ≡ count →
         result ≡ text_units (with_text object text texts.now) }
 {
-    texts.units() + length as u64 - texts.get(object).len() as u64
+    texts.units() + count as u64 - texts.get(object).len() as u64
 }
 
 /// The event of a constructor of a string builder with nothing.

@@ -5,7 +5,8 @@ ghost use Rattle.et_event.specs.Moments.{begins, moment};
 ghost use Rattle.et_event.specs.Sound.{IsSoundFor};
 ghost use Rattle.et_event.specs.TextRows.{is_fit_text, writes_text as is_writing};
 ghost use Rattle.et_state.specs.State.{kept_of};
-ghost use Rattle.et_strings.specs.Calls.{AnswersRow, AnswersText, HasRoomFor, IsCalled, IsReady, SaysRow, StandBeside, entries_given};
+ghost use Rattle.et_strings.specs.Calls.{AnswersRow, AnswersText, HasRoomFor, IsCalled, IsReady};
+ghost use Rattle.et_strings.specs.Calls.{SaysRow, StandBeside, entries_given};
 
 use crate::calls::TextCalled;
 use crate::reading::{char_event, equals_event, length_event};
