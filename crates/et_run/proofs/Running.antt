@@ -1,23 +1,13 @@
--- What a linked program has, so that it may be run, and what its run wrote.
-use Rattle.std.proofs.Common.{◌≡◌, ℕ, ◌+◌, ◌<◌, ◌≤◌, ◌↔◌, Bool, List, Option, Result, Ok, Err, length, map, sym, subst}
-use Rattle.std.specs.Prelude.{All, IfOk, OnErr}
-use Rattle.std.proofs.lemmas.List.{length-map}
+-- What a run wrote.
+use Rattle.std.proofs.Common.{◌≡◌, ℕ, ◌+◌, ◌≤◌, ◌↔◌, Bool, List, Option, Result, Ok, Err, subst}
+use Rattle.std.specs.Prelude.{IfOk, OnErr}
 use Rattle.et_base.specs.declared.value.End.{End}
-use Rattle.et_class.specs.Layout.{ClassOf}
 use Rattle.et_graph.specs.Graph.{Graph}
 use Rattle.et_io.specs.declared.putting.RunFault.{RunFault}
 use Rattle.et_program.specs.Entries.{Linked}
-use Rattle.et_program.specs.Loaded.{LoadedClass, loaded_class}
-use Rattle.et_program.specs.LinkFaults.{IsLinkable}
-use Rattle.et_program.specs.Linking.{IsOfFile, IsLinked}
-use Rattle.et_program.specs.ProgramOf.{IsProgramOf}
-use Rattle.et_program.specs.Tables.{IsTabled}
-use Rattle.et_event.specs.Sound.{IsSoundFor}
 use Rattle.et_state.specs.Start.{start}
-use Rattle.et_linked.specs.ClassNames.{HasClassName}
-use Rattle.et_event.specs.Runnable.{IsRunnable}
 use Rattle.et_event.specs.Start.{start_records}
-use Rattle.et_history.specs.Settings.{IsSoundRun, flush_visits_of, setting}
+use Rattle.et_history.specs.Settings.{flush_visits_of, setting}
 use Rattle.et_history.specs.Whole.{whole_setting, whole_start, whole_visits_of, whole_said}
 use Rattle.et_loop.specs.declared.options.Ran.{Ran}
 use Rattle.et_loop.specs.Traced.{WritesTrace, WritesPrefix}
@@ -27,27 +17,6 @@ use Rattle.et_state.specs.History.{IsLastEvent}
 use Rattle.et_state.specs.State.{Kept}
 use Rattle.et_state.specs.declared.options.Options.{Options}
 use Rattle.et_state.specs.declared.records.Record.{Record}
-use Rattle.et_linked.specs.Programs.{KeepRules}
-
--- a linked program may be run
-pub program_runs : (p : Linked) → ((classes : List ClassOf) → All IsOfFile classes → KeepRules (map loaded_class classes))
-    → ((files : List LoadedClass) (p : Linked) → 0 < length files → KeepRules files → IsLinkable files → IsProgramOf files p → IsRunnable p)
-    → IsLinked p → IsRunnable p
-program_runs p keep run is =
-    run (map loaded_class is.classes) p (subst (λ n. 0 < n) (sym (length-map is.classes loaded_class)) is.some) (keep is.classes is.of_files) is.linkable is.program
-
--- .. and its first state is sound
-pub program_starts : (p : Linked) → ((classes : List ClassOf) → All IsOfFile classes → KeepRules (map loaded_class classes))
-    → ((files : List LoadedClass) (p : Linked) → All HasClassName files → IsProgramOf files p → IsSoundFor p (start p))
-    → IsLinked p → IsSoundFor p (start p)
-program_starts p keep sound is = sound (map loaded_class is.classes) p (keep is.classes is.of_files).names is.program
-
--- .. and a run from there is sound
-pub sound_run : (p : Linked) → ((classes : List ClassOf) → All IsOfFile classes → KeepRules (map loaded_class classes))
-    → ((files : List LoadedClass) (p : Linked) → 0 < length files → KeepRules files → IsLinkable files → IsProgramOf files p → IsRunnable p)
-    → ((files : List LoadedClass) (p : Linked) → All HasClassName files → IsProgramOf files p → IsSoundFor p (start p))
-    → IsTabled p → IsLinked p → IsSoundRun p (start p)
-sound_run p keep run first tabled is = record { tabled = tabled; runnable = program_runs p keep run is; state = program_starts p keep first is }
 
 -- WHAT A RUN WROTE: told by the history over what the machine keeps, and so by the one in which nothing is freed
 module _ (reached : Graph → ℕ → Bool) (p : Linked) (options : Options) (s : Kept) (made : List Record) (first : s ≡ start p) (records : made ≡ start_records p) where

@@ -1,14 +1,15 @@
 -- Quiet events of a machine, one after the other, and the one behind them.
-use Rattle.std.proofs.Common.{◌≡◌, ℕ, suc, ◌+◌, ◌-◌, ◌*◌, ◌<◌, ◌≤◌, List, [], length, Contains, None, refl, sym, ◌∙◌, ap, subst, arith}
+use Rattle.std.proofs.Common.{◌≡◌, ℕ, suc, ◌+◌, ◌-◌, ◌*◌, ◌<◌, ◌≤◌, List, [], length, Contains, Some, None, refl, sym, ◌∙◌, ap, subst, arith}
 use Rattle.std.specs.Prelude.{slice_index}
 use Rattle.std.proofs.lemmas.Grind.{get_or_default_zero}
 use Rattle.et_graph.specs.Graph.{Graph}
 use Rattle.et_program.specs.Entries.{Linked}
-use Rattle.et_event.specs.Event.{event}
-use Rattle.et_history.specs.Settings.{IsSoundRun, said_by, unended_threads}
+use Rattle.et_event.specs.Told.{event_with_texts, said_by}
+use Rattle.et_history.specs.Settings.{IsSoundRun, unended_threads}
 use Rattle.et_state.specs.Roots.{graph_of}
 use Rattle.et_state.specs.State.{Kept}
 use Rattle.et_state.specs.declared.records.Record.{Record}
+use Rattle.et_base.specs.declared.value.End.TheVariants as ended
 use Rattle.et_state.specs.declared.ends.EventEnd.{EventEnd}
 use Rattle.et_state.specs.declared.ends.EventEnd.TheVariants as ends
 use Rattle.et_state.specs.Answers.{Answers, SaysWhereDone, TicksWhereDone}
@@ -26,13 +27,13 @@ quiet_marks : (e : ℕ) (g h : Graph) (lost old new : List ℕ) → h.made ≡ g
 quiet_marks e g h lost old new same step each others =
     (lost, step, record { fresh = λ o a b. absurd (omega (arith, same)); lost_before = λ o le c. each o c; kept = λ o side out. others o out })
 
--- no event prints
-says_nothing : (end : EventEnd) (bytes : List ℕ) → bytes ≡ [] → SaysWhereDone end [] [] bytes
-says_nothing ends.Done bytes none = none
-says_nothing ends.Waited bytes none = none
-says_nothing (ends.IllTyped method pc) bytes none = none
-says_nothing ends.ObjectLimit bytes none = none
-says_nothing (ends.Native method) bytes none = none
+-- what an event prints that was done, where nothing was printed
+said_none : (end : EventEnd) (said bytes : List ℕ) → end_after 0 end ≡ None → ((method : ℕ) → end ≡ ends.Native method → ⊥) → SaysWhereDone end said [] bytes → bytes ≡ [] → said ≡ []
+said_none ends.Done said bytes done native says none = sym says ∙ none
+said_none ends.Waited said bytes done native says none = sym says ∙ none
+said_none (ends.IllTyped method pc) said bytes done native says none = absurd (let e : Some (ended.IllTyped 0 method pc) ≡ None = done in cc)
+said_none ends.ObjectLimit said bytes done native says none = absurd (let e : Some ended.ObjectLimit ≡ None = done in cc)
+said_none (ends.Native method) said bytes done native says none = absurd (native method refl)
 
 -- the clock went on by one
 pub ticks_where : (end : EventEnd) (old new : ℕ) → end_after 0 end ≡ None → ((method : ℕ) → end ≡ ends.Native method → ⊥) → TicksWhereDone end old new → new ≡ old + 1
@@ -42,7 +43,7 @@ module _ (p : Linked) (place most e : ℕ) (s : Kept) (old : List ℕ) (thread t
   -- after so many quiet events
   pub record IsGoing (quiet : ℕ) (mid : Kept) (new : List ℕ) (out : List Record) (bytes : List ℕ) (visits : ℕ) : Type 0 where
     pub few : quiet < most
-    pub events : AreQuiet (event p) (said_by p) unended_threads graph_of place quiet e s mid old new
+    pub events : AreQuiet (event_with_texts p) (said_by p) unended_threads graph_of place quiet e s mid old new
     pub clock : mid.guest.clock ≡ e + quiet
     pub sound : IsSoundRun p mid
     pub made : AreMade (graph_of mid)
@@ -80,30 +81,35 @@ module _ (p : Linked) (place most e : ℕ) (s : Kept) (old : List ℕ) (thread t
         (place, inside, get_or_default_zero (unended_threads mid) place thread inside ∙ g.same_thread)
 
     -- ITS NEXT EVENT
-    module _ (end : EventEnd) (s' : Kept) (out' : List Record) (lost : List ℕ) (after : ℕ) where
-      comes : after ≤ visits + 8 + ((graph_of (state_after mid (event p mid thread))).made - (graph_of mid).made) → ComesTo (event p) (said_by p) unended_threads graph_of place most e s old new before after quiet mid
+    module _ (end : EventEnd) (s' : Kept) (out' : List Record) (bytes' : List ℕ) (lost : List ℕ) (after : ℕ) where
+      comes : after ≤ visits + 8 + ((graph_of (state_after mid (event_with_texts p mid thread))).made - (graph_of mid).made) → ComesTo (event_with_texts p) (said_by p) unended_threads graph_of place most e s old new before after quiet mid
       comes few =
-          let now : after ≤ visits + 8 + ((graph_of (state_after mid (event p mid (slice_index (unended_threads mid) place)))).made - (graph_of mid).made) =
-          subst (λ (t : ℕ). after ≤ visits + 8 + ((graph_of (state_after mid (event p mid t))).made - (graph_of mid).made)) (sym g.same_thread) few in
+          let now : after ≤ visits + 8 + ((graph_of (state_after mid (event_with_texts p mid (slice_index (unended_threads mid) place)))).made - (graph_of mid).made) =
+          subst (λ (t : ℕ). after ≤ visits + 8 + ((graph_of (state_after mid (event_with_texts p mid t))).made - (graph_of mid).made)) (sym g.same_thread) few in
           record { few = g.few; events = g.events; visits = omega (arith, now, g.allowed) }
 
-      pub going_broken : after ≤ visits + 8 + ((graph_of (state_after mid (event p mid thread))).made - (graph_of mid).made) → IsBrokenOff (event p) (said_by p) unended_threads graph_of place most e s old new before after
+      pub going_broken : after ≤ visits + 8 + ((graph_of (state_after mid (event_with_texts p mid thread))).made - (graph_of mid).made) → IsBrokenOff (event_with_texts p) (said_by p) unended_threads graph_of place most e s old new before after
       going_broken few = record { quiet = quiet; mid = mid; comes = comes few }
 
-      answers_now : Answers (event p mid thread) end mid s' out out' → Answers (event_at (event p) (said_by p) unended_threads graph_of place mid) end mid s' [] out'
+      answers_now : Answers (event_with_texts p mid thread) end mid s' out out' → Answers (event_at (event_with_texts p) (said_by p) unended_threads graph_of place mid) end mid s' [] out'
       answers_now h =
-          subst (λ (t : ℕ). Answers (event p mid t) end mid s' [] out') (sym g.same_thread)
-          (subst (λ (rs : List Record). Answers (event p mid thread) end mid s' rs out') g.empty h)
+          subst (λ (t : ℕ). Answers (event_with_texts p mid t) end mid s' [] out') (sym g.same_thread)
+          (subst (λ (rs : List Record). Answers (event_with_texts p mid thread) end mid s' rs out') g.empty h)
 
-      pub going_ends : Answers (event p mid thread) end mid s' out out' → StepsWhereDone end (graph_of mid) (graph_of s') lost → after ≤ visits + 8 + ((graph_of (state_after mid (event p mid thread))).made - (graph_of mid).made)
-          → IsStretch (event p) (said_by p) unended_threads graph_of place most e s old new before after s' out' bytes lost (record { quiet = quiet; end = end })
-      going_ends h step few = record { mid = mid; comes = comes few; answers = answers_now h; says = says_nothing end bytes g.unsaid; step = step }
+      says_now : SaysWhereDone end (said_by p mid thread) bytes bytes' → SaysWhereDone end (said_by p mid (slice_index (unended_threads mid) place)) [] bytes'
+      says_now h =
+          subst (λ (t : ℕ). SaysWhereDone end (said_by p mid t) [] bytes') (sym g.same_thread)
+          (subst (λ (bs : List ℕ). SaysWhereDone end (said_by p mid thread) bs bytes') g.unsaid h)
 
-      pub going_native : Answers (event p mid thread) end mid s' out out' → (method : ℕ) → end ≡ ends.Native method → ⊥
-      going_native h method is = is_native method end (event_at (event p) (said_by p) unended_threads graph_of place mid) mid s' out' is (answers_now h)
+      pub going_ends : Answers (event_with_texts p mid thread) end mid s' out out' → SaysWhereDone end (said_by p mid thread) bytes bytes' → StepsWhereDone end (graph_of mid) (graph_of s') lost → after ≤ visits + 8 + ((graph_of (state_after mid (event_with_texts p mid thread))).made - (graph_of mid).made)
+          → IsStretch (event_with_texts p) (said_by p) unended_threads graph_of place most e s old new before after s' out' bytes' lost (record { quiet = quiet; end = end })
+      going_ends h says step few = record { mid = mid; comes = comes few; answers = answers_now h; says = says_now says; step = step }
+
+      pub going_native : Answers (event_with_texts p mid thread) end mid s' out out' → (method : ℕ) → end ≡ ends.Native method → ⊥
+      going_native h method is = is_native method end (event_at (event_with_texts p) (said_by p) unended_threads graph_of place mid) mid s' out' is (answers_now h)
 
       -- a quiet one
-      module _ (h : Answers (event p mid thread) end mid s' out out') (step : StepsWhereDone end (graph_of mid) (graph_of s') lost) (done : end_after 0 end ≡ None) where
+      module _ (h : Answers (event_with_texts p mid thread) end mid s' out out') (says : SaysWhereDone end (said_by p mid thread) bytes bytes') (step : StepsWhereDone end (graph_of mid) (graph_of s') lost) (done : end_after 0 end ≡ None) where
         led : IsStepTo (graph_of mid) (graph_of s') lost
         led = step_done 0 end (graph_of mid) (graph_of s') lost (going_native h) done step
 
@@ -113,40 +119,40 @@ module _ (p : Linked) (place most e : ℕ) (s : Kept) (old : List ℕ) (thread t
             let le = lost_made (graph_of mid) (graph_of s') lost (reached_there (graph_of mid) g.made) led o c in
             omega (arith, le, same, g.same_objects, g.stamps.places)
 
-        pub going_on : (new' : List ℕ) → quiet + 1 < most → out' ≡ [] → (graph_of s').made ≡ objects → length (unended_threads s') ≡ threads → slice_index (unended_threads s') place ≡ thread
+        pub going_on : (new' : List ℕ) → quiet + 1 < most → out' ≡ [] → bytes' ≡ [] → (graph_of s').made ≡ objects → length (unended_threads s') ≡ threads → slice_index (unended_threads s') place ≡ thread
             → length new' ≡ length new → ((o : ℕ) → Contains lost o → slice_index new' o ≡ e + quiet) → ((o : ℕ) → ¬ Contains lost o → slice_index new' o ≡ slice_index new o)
-            → s'.guest.clock ≡ e + quiet + 1 → IsSoundRun p s' → after ≤ visits + 8 + ((graph_of (state_after mid (event p mid thread))).made - (graph_of mid).made) → IsGoing (quiet + 1) s' new' out' bytes after
+            → s'.guest.clock ≡ e + quiet + 1 → IsSoundRun p s' → after ≤ visits + 8 + ((graph_of (state_after mid (event_with_texts p mid thread))).made - (graph_of mid).made) → IsGoing (quiet + 1) s' new' out' bytes' after
         unfolding AreQuiet
-        going_on new' more told same count there long each others clock sound few =
-            let o : Outcome Kept = event_at (event p) (said_by p) unended_threads graph_of place mid in
+        going_on new' more told unsaid same count there long each others clock sound few =
+            let o : Outcome Kept = event_at (event_with_texts p) (said_by p) unended_threads graph_of place mid in
             let a : IsAnswered 0 o end mid s' out' = answered_is 0 o end mid s' out' (answers_now h) in
             let made : (graph_of s').made ≡ (graph_of mid).made = same ∙ sym g.same_objects in
-            let is : IsQuiet (event p) (said_by p) unended_threads graph_of place (e + quiet) mid s' new new' = record {
+            let is : IsQuiet (event_with_texts p) (said_by p) unended_threads graph_of place (e + quiet) mid s' new new' = record {
               done = a.next ∙ done;
               state = a.state;
               told = sym a.told ∙ told;
-              unsaid = refl;
+              unsaid = said_none end _ bytes' done (going_native h) (says_now says) unsaid;
               made = made;
               count = count ∙ sym g.same_threads;
               turn = there ∙ sym g.same_thread;
               marks = quiet_marks (e + quiet) (graph_of mid) (graph_of s') lost new new' made led each others;
               long = long;
             } in
-            let all : AreQuiet (event p) (said_by p) unended_threads graph_of place (suc quiet) e s s' old new' = (mid, new, g.events, is) in
+            let all : AreQuiet (event_with_texts p) (said_by p) unended_threads graph_of place (suc quiet) e s s' old new' = (mid, new, g.events, is) in
             let next : suc quiet ≡ quiet + 1 = omega arith in
             let comes_there = comes few in
             let state : s' ≡ state_after mid o = a.state in
-            let grown : (graph_of (state_after mid (event p mid thread))).made ≡ (graph_of mid).made =
-            ap (λ (t : ℕ). (graph_of (state_after mid (event p mid t))).made) (sym g.same_thread) ∙ (ap (λ (x : Kept). (graph_of x).made) (sym state) ∙ made) in
+            let grown : (graph_of (state_after mid (event_with_texts p mid thread))).made ≡ (graph_of mid).made =
+            ap (λ (t : ℕ). (graph_of (state_after mid (event_with_texts p mid t))).made) (sym g.same_thread) ∙ (ap (λ (x : Kept). (graph_of x).made) (sym state) ∙ made) in
             record {
               few = more;
-              events = subst (λ (k : ℕ). AreQuiet (event p) (said_by p) unended_threads graph_of place k e s s' old new') next all;
+              events = subst (λ (k : ℕ). AreQuiet (event_with_texts p) (said_by p) unended_threads graph_of place k e s s' old new') next all;
               clock = omega (arith, clock);
               sound = sound;
               made = step_there (graph_of mid) (graph_of s') lost g.made led;
               stamps = record { few = omega (arith, g.stamps.few, made); places = omega (arith, g.stamps.places, made, long) };
               empty = told;
-              unsaid = g.unsaid;
+              unsaid = unsaid;
               same_objects = same;
               same_threads = count;
               same_thread = there;

@@ -1,47 +1,48 @@
-//! The machine of a linked program, as the run with stamps knows it.
+//! The machine of a linked program with its texts, as the run with stamps knows them.
 ghost use Rattle.std.specs.Prelude.{◌≡◌, ◌≤◌, OnOk};
 ghost use Rattle.et_graph.specs.Listing.{death_pairs};
-ghost use Rattle.et_event.specs.Event.{event};
-ghost use Rattle.et_history.specs.Settings.{IsSoundRun, flush_visits_of, said_by, unended_threads, flushed_of};
+ghost use Rattle.et_event.specs.Told.{event_with_texts, said_by};
+ghost use Rattle.et_history.specs.Settings.{IsSoundRun, flush_visits_of, unended_threads, flushed_of};
 ghost use Rattle.et_state.specs.Roots.{graph_of as graph_kept};
-ghost use Rattle.et_state.specs.State.{Kept, kept_of};
+ghost use Rattle.et_state.specs.State.{Kept};
+ghost use Rattle.et_run.specs.WithTexts.{state_of};
 
 use crate::named::NamedProgram;
 use crate::room::GuestRoom;
-use crate::steps::machine_flush;
+use crate::steps::running_flush;
 use crate::stretches::stretch;
 use crate::threads::nth_unended;
+use crate::with_texts::MachineWithTexts;
 use et_base::{NoMemory, ObjectId, Steps, ThreadId};
 use et_graph::{Death, Stamps};
 use et_loop::{Guest, Output, Stretch, TimeSlice};
 use et_program::Program;
-use et_state::Machine;
 use std::alloc::Global;
 use std::marker::{Model, PhantomData};
 use std::sync::ledger::Ledger;
 
-/// The machine of a linked program, which its code refers to. A contract sees it as that machine.
+/// The machine of a linked program with its texts, which its code refers to. A contract sees it as these two.
 #[derive(Drop)]
 pub struct ProgramGuest<'a> {
-    machine: Machine,
+    running: MachineWithTexts,
     code: PhantomData<&'a Program>,
 }
 
 impl<'a> Model for ProgramGuest<'a> {
-    ghost use Rattle.et_state.specs.State.{MachineState};
+    ghost use Rattle.et_run.specs.declared.with_texts.MachineWithTexts.{MachineWithTexts};
 
-    ghost Value = { MachineState };
+    ghost Value = { MachineWithTexts };
 
-    ghost view = { λ g. g.machine };
+    ghost view = { λ g. g.running };
 }
 
 impl<'a> ProgramGuest<'a> {
-    /// Of a machine.
-    pub fn of(machine: Machine) -> ProgramGuest<'a>
-        ensures { result ≡ machine }
+    /// Of a machine with its texts.
+    pub fn of(running: MachineWithTexts) -> ProgramGuest<'a>
+        ensures { result ≡ running }
     {
         ProgramGuest {
-            machine,
+            running,
             code: PhantomData,
         }
     }
@@ -54,9 +55,9 @@ impl<'a> Guest for ProgramGuest<'a> {
 
     ghost State = { Kept };
 
-    ghost state = { λ m. kept_of m };
+    ghost state = { λ r. state_of r };
 
-    ghost event_of = { event };
+    ghost event_of = { event_with_texts };
 
     ghost said_of = { said_by };
 
@@ -72,26 +73,26 @@ impl<'a> Guest for ProgramGuest<'a> {
 
     ghost is_sound = { IsSoundRun };
 
-    ghost lost_of = { λ m. m.lost };
+    ghost lost_of = { λ r. r.machine.lost };
 
     ghost has_places = { λ r n. n ≤ r.numbers };
 
     ghost deaths_of = { λ r. r.deaths };
 
     fn unended(&self) -> usize {
-        self.machine.unended_count()
+        self.running.machine.unended_count()
     }
 
     fn unended_at(&self, k: usize) -> ThreadId {
-        nth_unended(&self.machine, k)
+        nth_unended(&self.running.machine, k)
     }
 
     fn made(&self) -> u32 {
-        self.machine.heap.count()
+        self.running.machine.heap.count()
     }
 
     fn lost(&self) -> &[ObjectId] {
-        self.machine.lost()
+        self.running.machine.lost()
     }
 
     fn begin_room(alloc: Global) -> GuestRoom {
@@ -117,9 +118,9 @@ impl<'a> Guest for ProgramGuest<'a> {
         room: &mut GuestRoom,
         visits: &mut Steps<L>,
     ) -> Result<(), NoMemory> {
-        machine_flush(
+        running_flush(
             code.program(),
-            &mut self.machine,
+            &mut self.running,
             stamps,
             &mut room.roots,
             &mut room.room,
@@ -139,7 +140,7 @@ impl<'a> Guest for ProgramGuest<'a> {
         stretch(
             alloc,
             code.program(),
-            &mut self.machine,
+            &mut self.running,
             slice,
             out,
             stamps,

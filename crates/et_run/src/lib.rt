@@ -1,7 +1,8 @@
-//! A linked program and its machine, as the run with stamps knows them.
+//! A linked program and its machine with its texts, as the run with stamps knows them.
 #![tactic(auto)]
 
 mod first;
+mod forgetting;
 mod guest;
 mod named;
 mod program_run;
@@ -10,6 +11,8 @@ mod steps;
 mod stretches;
 mod threads;
 mod turns;
+mod with_texts;
 
 pub use program_run::run;
 pub use turns::turn_event;
+pub use with_texts::MachineWithTexts;

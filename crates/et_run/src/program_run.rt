@@ -18,14 +18,15 @@ ghost use Rattle.et_event.specs.Runnable.{IsRunnable};
 use crate::first::start_lines;
 use crate::guest::ProgramGuest;
 use crate::named::NamedProgram;
+use crate::with_texts::MachineWithTexts;
 use et_base::{NoMemory, Steps};
 use et_history::laws::{histories_say_the_same, traces_are_the_same};
+use et_history::run_laws::linked_programs_run_soundly;
 use et_io::{RunFault, Sink};
-use et_linked::run_laws::{files_keep_rules, programs_may_run};
-use et_linked::start_laws::first_state_is_sound;
 use et_loop::{Ran, run_guest};
 use et_program::Program;
 use et_state::{Lines, Machine, Options};
+use et_strings::Texts;
 use std::alloc::Global;
 use std::sync::ledger::Ledger;
 
@@ -83,8 +84,12 @@ fn run_from<O: Sink, G: Sink, L: Ledger>(
     ensures never_falls { O.faults sink.old ≤ O.faults sink.new }
     ensures guest_never_falls { G.faults guest.old ≤ G.faults guest.new }
 {
+    // Laws: they tell the prover, and do nothing.
+    program.is_linked();
+    linked_programs_run_soundly();
     let code = NamedProgram::of(program);
-    let mut running = ProgramGuest::of(machine);
+    let texts = Texts::begin(alloc);
+    let mut running = ProgramGuest::of(MachineWithTexts { machine, texts });
     run_guest(
         alloc,
         &code,
@@ -149,9 +154,7 @@ pub fn run<O: Sink, G: Sink, L: Ledger>(
 {
     // Laws: they tell the prover, and do nothing.
     program.is_linked();
-    files_keep_rules();
-    programs_may_run();
-    first_state_is_sound();
+    linked_programs_run_soundly();
     traces_are_the_same();
     histories_say_the_same();
     match first(alloc, program) {

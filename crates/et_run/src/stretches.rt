@@ -1,8 +1,8 @@
 //! Events of a machine that one thread does at once.
 ghost use Rattle.std.specs.Prelude.{◌≡◌, ◌+◌, ◌<◌, ◌≤◌, ◌^◌, [], None, All, IfOk, IsTrue, OnErr, OnOk, length, slice_index};
-ghost use Rattle.et_event.specs.Event.{event};
+ghost use Rattle.et_event.specs.Told.{event_with_texts, said_by};
 ghost use Rattle.et_heap.specs.Objects.{made_count};
-ghost use Rattle.et_history.specs.Settings.{IsSoundRun, said_by, unended_threads};
+ghost use Rattle.et_history.specs.Settings.{IsSoundRun, unended_threads};
 ghost use Rattle.et_walk.specs.Telling.{names_of_program};
 ghost use Rattle.et_loop.specs.Quiet.{IsStretch, IsBrokenOff};
 ghost use Rattle.et_loop.specs.Run.{end_after};
@@ -10,11 +10,12 @@ ghost use Rattle.et_loop.specs.Stamping.{AreMade, HasStamps};
 ghost use Rattle.et_state.specs.Answers.{TicksWhereDone};
 ghost use Rattle.et_state.specs.Naming.{IsNamed};
 ghost use Rattle.et_state.specs.Roots.{graph_of};
-ghost use Rattle.et_state.specs.State.{kept_of};
+ghost use Rattle.et_run.specs.WithTexts.{state_of};
 ghost use Rattle.et_state.specs.Threads.{unended_of};
 
-use crate::steps::machine_event;
+use crate::steps::running_event;
 use crate::threads::nth_unended;
+use crate::with_texts::MachineWithTexts;
 use et_base::{NoMemory, Steps, ThreadId};
 use et_graph::Stamps;
 use et_loop::{Output, Stretch, TimeSlice, stamp_each};
@@ -82,47 +83,48 @@ fn is_quiet(machine: &Machine, standing: &Standing, end: &EventEnd, out: &Output
 pub fn stretch<L: Ledger>(
     alloc: Global,
     program: &Program,
-    machine: &mut Machine,
+    running: &mut MachineWithTexts,
     slice: TimeSlice,
     out: &mut Output,
     stamps: &mut Stamps,
     visits: &mut Steps<L>,
 ) -> Result<Stretch, NoMemory>
-    requires clock { machine.old.guest.clock + slice.events ≤ 2 ^ 40 }
+    requires clock { running.old.machine.guest.clock + slice.events ≤ 2 ^ 40 }
     requires some { 0 < slice.events }
-    requires sound { IsSoundRun program.now (kept_of machine.old) }
-    requires place { slice.place < length (unended_threads (kept_of machine.old)) }
-    requires made { AreMade (graph_of (kept_of machine.old)) }
-    requires stamps { HasStamps (graph_of (kept_of machine.old)) stamps.old }
+    requires sound { IsSoundRun program.now (state_of running.old) }
+    requires place { slice.place < length (unended_threads (state_of running.old)) }
+    requires made { AreMade (graph_of (state_of running.old)) }
+    requires stamps { HasStamps (graph_of (state_of running.old)) stamps.old }
     requires empty { out.old.records ≡ [] }
     requires unsaid { out.old.said.items ≡ [] }
-    ensures stretch { IfOk result (λ stretch. IsStretch (event program.now) (said_by program.now)
-        unended_threads graph_of slice.place slice.events machine.old.guest.clock
-        (kept_of machine.old) stamps.old stamps.new visits.old visits.new (kept_of machine.new)
-        out.new.records out.new.said.items machine.new.lost stretch) }
-    ensures broken { OnErr result (IsBrokenOff (event program.now) (said_by program.now) unended_threads
-        graph_of slice.place slice.events machine.old.guest.clock (kept_of machine.old) stamps.old
-        stamps.new visits.old visits.new) }
-    ensures sound { OnOk result (IsSoundRun program.now (kept_of machine.new)) }
+    ensures stretch { IfOk result (λ stretch. IsStretch
+        (event_with_texts program.now) (said_by program.now) unended_threads graph_of slice.place
+        slice.events running.old.machine.guest.clock (state_of running.old) stamps.old
+        stamps.new visits.old visits.new (state_of running.new) out.new.records
+        out.new.said.items running.new.machine.lost stretch) }
+    ensures broken { OnErr result (IsBrokenOff (event_with_texts program.now) (said_by program.now)
+        unended_threads graph_of slice.place slice.events running.old.machine.guest.clock
+        (state_of running.old) stamps.old stamps.new visits.old visits.new) }
+    ensures sound { OnOk result (IsSoundRun program.now (state_of running.new)) }
     ensures clock { IfOk result (λ stretch. TicksWhereDone stretch.end
-        (machine.old.guest.clock + stretch.quiet) machine.new.guest.clock) }
+        (running.old.machine.guest.clock + stretch.quiet) running.new.machine.guest.clock) }
     ensures named { OnOk result (All (IsNamed (names_of_program program.now)) out.new.records) }
 {
-    let thread = nth_unended(machine, slice.place);
+    let thread = nth_unended(&running.machine, slice.place);
     let standing = Standing {
         place: slice.place,
         thread,
-        threads: machine.unended_count(),
-        objects: machine.heap.count(),
+        threads: running.machine.unended_count(),
+        objects: running.machine.heap.count(),
     };
     let mut quiet = 0;
     'events: loop {
-        let e = machine.clock();
-        let end = machine_event(alloc, program, machine, thread, &mut out.records, visits)?;
-        if quiet + 1 == slice.events || !is_quiet(machine, &standing, &end, out) {
+        let e = running.machine.clock();
+        let end = running_event(alloc, program, running, thread, out, visits)?;
+        if quiet + 1 == slice.events || !is_quiet(&running.machine, &standing, &end, out) {
             return Ok(Stretch { quiet, end });
         }
-        stamp_each(stamps, machine.lost(), e);
+        stamp_each(stamps, running.machine.lost(), e);
         quiet += 1;
     }
 }

@@ -1,18 +1,23 @@
 //! The event of a thread that has the turn.
-ghost use Rattle.std.specs.Prelude.{◌≡◌, ◌+◌, ◌-◌, ◌<◌, ◌≤◌, ◌^◌, IfOk, OnOk, length};
-ghost use Rattle.et_event.specs.Answered.{EventAnswers};
+ghost use Rattle.std.specs.Prelude.{◌≡◌, ◌+◌, ◌-◌, ◌<◌, ◌≤◌, ◌^◌, IfOk, IsSome, OnOk, length};
+ghost use Rattle.et_event.specs.Answered.{DefersOrAnswers, TextAnswers};
 ghost use Rattle.et_event.specs.Beginning.{BeginsEvent};
 ghost use Rattle.et_event.specs.Event.{event};
 ghost use Rattle.et_event.specs.Families.{family_of as family};
 ghost use Rattle.et_event.specs.declared.families.Family.TheVariants as families;
 ghost use Rattle.et_event.specs.Runnable.{IsRunnable};
 ghost use Rattle.et_event.specs.Sound.{IsSoundFor};
+ghost use Rattle.et_event.specs.SoundTexts.{HasSoundTexts};
+ghost use Rattle.et_event.specs.Told.{event_with_texts, said_by};
+ghost use Rattle.et_run.specs.WithTexts.{state_of, text_turn};
+ghost use Rattle.et_state.specs.Answers.{SaysWhereDone};
 ghost use Rattle.et_state.specs.declared.stage.Turn.TheVariants as turns;
 ghost use Rattle.et_state.specs.Outcome.{state_after};
 ghost use Rattle.et_state.specs.State.{kept_of};
 ghost use Rattle.et_state.specs.Threads.{turn_of};
 ghost use Rattle.et_state.specs.Words.{IsUnended, thread_at};
 
+use crate::with_texts::MachineWithTexts;
 use et_base::{NoMemory, Steps, ThreadId};
 use et_calls::calls_event;
 use et_event::Row;
@@ -20,15 +25,16 @@ use et_ops::plain_event;
 use et_parts::{ill_typed, place_of};
 use et_program::Program;
 use et_refs::heap_row_event;
-use et_state::{EventEnd, Lines, Machine, Turn};
+use et_spoken::laws::{events_lead_to_sound_states, texts_stay_sound};
+use et_state::{EventEnd, Lines, Machine, Output, Turn};
+use et_strings::strings_event;
 use et_sync::sync_event;
 use et_throw::throw_event;
-use et_walk::laws::events_lead_to_sound_states;
 use std::alloc::Global;
 use std::sync::ledger::Ledger;
 
-/// The event of a thread whose turn is a call or a return, to be entered, or a step of an initializer. After `NoMemory` the
-/// machine may only be dropped.
+/// The event of a thread whose turn is a call or a return, to be entered, or a step of an initializer; `Native` where it calls
+/// a method of texts. After `NoMemory` the machine may only be dropped.
 fn call_turn_event<L: Ledger>(
     alloc: Global,
     program: &Program,
@@ -39,20 +45,25 @@ fn call_turn_event<L: Ledger>(
 ) -> Result<EventEnd, NoMemory>
     requires begins { BeginsEvent program.now machine.old thread }
     requires family { family program.now (kept_of machine.old) thread ≡ families.Calls }
-    ensures event { IfOk result (λ end. EventAnswers (event program.now
+    ensures event { IfOk result (λ end.
+        DefersOrAnswers (text_turn program.now (kept_of machine.old) thread) (event program.now
         (kept_of machine.old) thread) end machine.old machine.new out.old out.new) }
     ensures visits { visits.new ≤ visits.old + 7 }
+    ensures deferred { IsSome (text_turn program.now (kept_of machine.old) thread) →
+        visits.new ≤ visits.old + 2 }
 {
-    match calls_event(alloc, program, machine, thread, out, visits) {
-        Ok(EventEnd::Native { .. }) => sync_event(alloc, program, machine, thread, out, visits),
-        answer => answer,
+    match calls_event(alloc, program, machine, thread, out, visits)? {
+        EventEnd::Native { method } => match program.text_method(method) {
+            Some(_) => Ok(EventEnd::Native { method }),
+            None => sync_event(alloc, program, machine, thread, out, visits),
+        },
+        end => Ok(end),
     }
 }
 
-/// The event of a thread whose turn is an instruction. It is decoded once where it is a plain one, or one on fields, arrays
-/// and classes. It visits eight objects at most, and one for each that the event makes. After `NoMemory` the machine may only
-/// be dropped.
-#[tactic(auto, using(et_event::proofs::FamilyTurns::family_at))]
+/// The event of a thread whose turn is an instruction; `Native` where it calls a method of texts or reads System.out. It is
+/// decoded once where it is a plain one, or one on fields, arrays and classes. It visits eight objects at most, and one for
+/// each that the event makes. After `NoMemory` the machine may only be dropped.
 #[inline(always)]
 fn instruction_event<L: Ledger>(
     alloc: Global,
@@ -64,10 +75,13 @@ fn instruction_event<L: Ledger>(
 ) -> Result<EventEnd, NoMemory>
     requires begins { BeginsEvent program.now machine.old thread }
     requires turn { turn_of (thread_at machine.old.guest thread) ≡ turns.Instruction }
-    ensures event { IfOk result (λ end. EventAnswers (event program.now
+    ensures event { IfOk result (λ end.
+        DefersOrAnswers (text_turn program.now (kept_of machine.old) thread) (event program.now
         (kept_of machine.old) thread) end machine.old machine.new out.old out.new) }
     ensures visits { visits.new ≤ visits.old + 8 + (length (state_after (kept_of machine.old)
         (event program.now (kept_of machine.old) thread)).heap - length machine.old.heap) }
+    ensures deferred { IsSome (text_turn program.now (kept_of machine.old) thread) →
+        visits.new ≤ visits.old + 2 }
 {
     let Some(place) = place_of(program, machine, thread) else {
         return Ok(ill_typed(machine, thread));
@@ -83,8 +97,7 @@ fn instruction_event<L: Ledger>(
     }
 }
 
-/// The event of a thread, by what it does in its turn.
-#[tactic(auto, using(et_event::proofs::FamilyTurns::family_at))]
+/// The event of a thread, by what it does in its turn; `Native` where it calls a method of texts or reads System.out.
 fn event_by_turn<L: Ledger>(
     alloc: Global,
     program: &Program,
@@ -94,10 +107,13 @@ fn event_by_turn<L: Ledger>(
     visits: &mut Steps<L>,
 ) -> Result<EventEnd, NoMemory>
     requires begins { BeginsEvent program.now machine.old thread }
-    ensures event { IfOk result (λ end. EventAnswers (event program.now
+    ensures event { IfOk result (λ end.
+        DefersOrAnswers (text_turn program.now (kept_of machine.old) thread) (event program.now
         (kept_of machine.old) thread) end machine.old machine.new out.old out.new) }
     ensures visits { visits.new ≤ visits.old + 8 + (length (state_after (kept_of machine.old)
         (event program.now (kept_of machine.old) thread)).heap - length machine.old.heap) }
+    ensures deferred { IsSome (text_turn program.now (kept_of machine.old) thread) →
+        visits.new ≤ visits.old + 2 }
 {
     match machine.turn(thread) {
         Turn::Instruction => instruction_event(alloc, program, machine, thread, out, visits),
@@ -110,29 +126,59 @@ fn event_by_turn<L: Ledger>(
 }
 
 /// The event of a thread that has not ended: an instruction, a step of an unwinding or of an initializer, the entry of the
-/// thread, or its end. It answers what the table of events says: `Done` or `Waited`, and then the machine keeps the next
-/// state, to which a legal step led, and the records of the event stand behind those that were there; or `IllTyped` or
-/// `ObjectLimit`, and then machine and records are as before. Each of these leaves a sound state. Whatever it answers, it visits
-/// eight objects at most, and one for each that the event makes. After `NoMemory` the machine may only be dropped.
+/// thread, or its end. It answers what the table of events and the rows of texts say: `Done` or `Waited`, and then machine and
+/// texts are those of the next state, to which a legal step led, the records of the event stand behind those that were there,
+/// and so do the bytes that it prints; or `IllTyped` or `ObjectLimit`, and then all is as before. Each of these leaves a sound
+/// state. Whatever it answers, it visits eight objects at most, and one for each that the event makes. After `NoMemory` machine
+/// and texts may only be dropped.
 pub fn turn_event<L: Ledger>(
     alloc: Global,
     program: &Program,
-    machine: &mut Machine,
+    running: &mut MachineWithTexts,
     thread: ThreadId,
-    out: &mut Lines,
+    out: &mut Output,
     visits: &mut Steps<L>,
 ) -> Result<EventEnd, NoMemory>
-    requires sound { IsSoundFor program.now (kept_of machine.old) }
-    requires clock { machine.old.guest.clock < 2 ^ 40 }
-    requires thread { IsUnended machine.old.guest thread }
+    requires sound { IsSoundFor program.now (state_of running.old) }
+    requires texts { HasSoundTexts program.now (state_of running.old) }
+    requires clock { running.old.machine.guest.clock < 2 ^ 40 }
+    requires thread { IsUnended running.old.machine.guest thread }
     requires program { IsRunnable program.now }
-    ensures event { IfOk result (λ end. EventAnswers (event program.now
-        (kept_of machine.old) thread) end machine.old machine.new out.old out.new) }
-    ensures visits { visits.new ≤ visits.old + 8 + (length (state_after (kept_of machine.old)
-        (event program.now (kept_of machine.old) thread)).heap - length machine.old.heap) }
-    ensures sound { OnOk result (IsSoundFor program.now (kept_of machine.new)) }
+    ensures event { IfOk result (λ end. TextAnswers (event_with_texts program.now
+        (state_of running.old) thread) end running.old.machine running.new.machine
+        running.old.texts running.new.texts out.old.records out.new.records) }
+    ensures said { IfOk result (λ end. SaysWhereDone end (said_by program.now
+        (state_of running.old) thread) out.old.said.items out.new.said.items) }
+    ensures visits { visits.new ≤ visits.old + 8 + (length (state_after (state_of running.old)
+        (event_with_texts program.now (state_of running.old) thread)).heap
+        - length running.old.machine.heap) }
+    ensures sound { OnOk result (IsSoundFor program.now (state_of running.new)) }
+    ensures sound_texts { OnOk result (HasSoundTexts program.now (state_of running.new)) }
 {
     // Laws: they tell the prover, and do nothing.
     events_lead_to_sound_states();
-    event_by_turn(alloc, program, machine, thread, out, visits)
+    texts_stay_sound();
+    running.machine.has_no_texts();
+    match event_by_turn(
+        alloc,
+        program,
+        &mut running.machine,
+        thread,
+        &mut out.records,
+        visits,
+    )? {
+        EventEnd::Native { .. } => strings_event(
+            alloc,
+            program,
+            &mut running.machine,
+            &mut running.texts,
+            thread,
+            out,
+            visits,
+        ),
+        end => {
+            running.machine.has_no_texts();
+            Ok(end)
+        }
+    }
 }

@@ -5,33 +5,33 @@ use Rattle.et_loop.proofs.RunLemmas.{front_nothing}
 use Rattle.et_loop.proofs.Talking.{say_nothing}
 use Rattle.et_history.specs.Settings.{said_by}
 use Rattle.et_history.specs.Whole.{whole_setting, whole_start, whole_said}
-use Rattle.et_run.proofs.Running.{program_runs, program_starts, sound_run, whole_trace, whole_prefix, whole_visits, whole_cut, whole_says, whole_says_prefix, whole_says_cut}
+use Rattle.et_run.proofs.Running.{whole_trace, whole_prefix, whole_visits, whole_cut, whole_says, whole_says_prefix, whole_says_cut}
 use Rattle.et_run.proofs.program_run.run.Goals as goal
 
 pub run_from-requires-clause-runnable : goal.run_from-requires-clause-runnable
-run_from-requires-clause-runnable g c = program_runs c.args.program.now c.files_keep_rules.ensures c.programs_may_run.ensures c.is_linked.ensures.linked
+run_from-requires-clause-runnable g c = (c.linked_programs_run_soundly.ensures c.args.program.now c.is_linked.ensures.tabled c.is_linked.ensures.linked).runnable
 
 pub run_from-requires-clause-sound : goal.run_from-requires-clause-sound
-run_from-requires-clause-sound g c = program_starts c.args.program.now c.files_keep_rules.ensures c.first_state_is_sound.ensures c.is_linked.ensures.linked
+run_from-requires-clause-sound g c = (c.linked_programs_run_soundly.ensures c.args.program.now c.is_linked.ensures.tabled c.is_linked.ensures.linked).state
 
 pub returns-in-Ok-clause-trace : goal.returns-in-Ok-clause-trace
 returns-in-Ok-clause-trace g c reached decides =
     let p : Linked = c.args.program.now in
-    let sound = sound_run p c.files_keep_rules.ensures c.programs_may_run.ensures c.first_state_is_sound.ensures c.is_linked.ensures.tabled c.is_linked.ensures.linked in
+    let sound = c.linked_programs_run_soundly.ensures p c.is_linked.ensures.tabled c.is_linked.ensures.linked in
     whole_trace reached p c.args.options.now _ _ c.in-Ok.ensures.state c.in-Ok.ensures.records (g.O.Sink.taken c.args.sink.now) (g.O.Sink.taken c.run_from.new.sink) c.run_from.result
     (λ ran. c.traces_are_the_same.ensures.trace reached p c.args.options.now ran (g.O.Sink.taken c.args.sink.now) (g.O.Sink.taken c.run_from.new.sink) decides sound c.requires.options) (c.run_from.ensures.trace reached decides)
 
 pub returns-in-Ok-clause-prefix : goal.returns-in-Ok-clause-prefix
 returns-in-Ok-clause-prefix g c reached decides =
     let p : Linked = c.args.program.now in
-    let sound = sound_run p c.files_keep_rules.ensures c.programs_may_run.ensures c.first_state_is_sound.ensures c.is_linked.ensures.tabled c.is_linked.ensures.linked in
+    let sound = c.linked_programs_run_soundly.ensures p c.is_linked.ensures.tabled c.is_linked.ensures.linked in
     whole_prefix reached p c.args.options.now _ _ c.in-Ok.ensures.state c.in-Ok.ensures.records (g.O.Sink.taken c.args.sink.now) (g.O.Sink.taken c.run_from.new.sink) c.run_from.result
     (c.traces_are_the_same.ensures.prefix reached p c.args.options.now (g.O.Sink.taken c.args.sink.now) (g.O.Sink.taken c.run_from.new.sink) decides sound c.requires.options) (c.run_from.ensures.prefix reached decides)
 
 pub returns-in-Ok-clause-visits : goal.returns-in-Ok-clause-visits
 returns-in-Ok-clause-visits g c reached decides =
     let p : Linked = c.args.program.now in
-    let sound = sound_run p c.files_keep_rules.ensures c.programs_may_run.ensures c.first_state_is_sound.ensures c.is_linked.ensures.tabled c.is_linked.ensures.linked in
+    let sound = c.linked_programs_run_soundly.ensures p c.is_linked.ensures.tabled c.is_linked.ensures.linked in
     whole_visits reached p c.args.options.now _ _ c.in-Ok.ensures.state c.in-Ok.ensures.records (g.O.Sink.taken c.args.sink.now) (g.O.Sink.taken c.run_from.new.sink) c.args.visits.now c.run_from.new.visits c.run_from.result
     (λ e end last. c.traces_are_the_same.ensures.visits reached p c.args.options.now e end decides sound c.requires.options last) (c.run_from.ensures.trace reached decides) (c.run_from.ensures.visits reached decides)
 
@@ -41,7 +41,7 @@ returns-in-Err-clause-prefix g c reached decides = front_nothing reached (whole_
 pub returns-in-Ok-clause-cut : goal.returns-in-Ok-clause-cut
 returns-in-Ok-clause-cut g c reached decides =
     let p : Linked = c.args.program.now in
-    let sound = sound_run p c.files_keep_rules.ensures c.programs_may_run.ensures c.first_state_is_sound.ensures c.is_linked.ensures.tabled c.is_linked.ensures.linked in
+    let sound = c.linked_programs_run_soundly.ensures p c.is_linked.ensures.tabled c.is_linked.ensures.linked in
     let before = g.O.Sink.taken c.args.sink.now in
     let after = g.O.Sink.taken c.run_from.new.sink in
     whole_cut reached p c.args.options.now _ _ c.in-Ok.ensures.state c.in-Ok.ensures.records before after c.args.visits.now c.run_from.new.visits c.run_from.result
@@ -53,7 +53,7 @@ returns-in-Err-clause-cut g c reached decides = inl refl
 pub returns-in-Ok-clause-said : goal.returns-in-Ok-clause-said
 returns-in-Ok-clause-said g c reached decides =
     let p : Linked = c.args.program.now in
-    let sound = sound_run p c.files_keep_rules.ensures c.programs_may_run.ensures c.first_state_is_sound.ensures c.is_linked.ensures.tabled c.is_linked.ensures.linked in
+    let sound = c.linked_programs_run_soundly.ensures p c.is_linked.ensures.tabled c.is_linked.ensures.linked in
     let before = g.G.Sink.taken c.args.guest.now in
     let after = g.G.Sink.taken c.run_from.new.guest in
     whole_says reached p c.args.options.now _ _ c.in-Ok.ensures.state c.in-Ok.ensures.records (said_by p) before after c.run_from.result
@@ -62,7 +62,7 @@ returns-in-Ok-clause-said g c reached decides =
 pub returns-in-Ok-clause-said_prefix : goal.returns-in-Ok-clause-said_prefix
 returns-in-Ok-clause-said_prefix g c reached decides =
     let p : Linked = c.args.program.now in
-    let sound = sound_run p c.files_keep_rules.ensures c.programs_may_run.ensures c.first_state_is_sound.ensures c.is_linked.ensures.tabled c.is_linked.ensures.linked in
+    let sound = c.linked_programs_run_soundly.ensures p c.is_linked.ensures.tabled c.is_linked.ensures.linked in
     let before = g.G.Sink.taken c.args.guest.now in
     let after = g.G.Sink.taken c.run_from.new.guest in
     whole_says_prefix reached p c.args.options.now _ _ c.in-Ok.ensures.state c.in-Ok.ensures.records (said_by p) before after c.run_from.result
@@ -71,7 +71,7 @@ returns-in-Ok-clause-said_prefix g c reached decides =
 pub returns-in-Ok-clause-said_cut : goal.returns-in-Ok-clause-said_cut
 returns-in-Ok-clause-said_cut g c reached decides =
     let p : Linked = c.args.program.now in
-    let sound = sound_run p c.files_keep_rules.ensures c.programs_may_run.ensures c.first_state_is_sound.ensures c.is_linked.ensures.tabled c.is_linked.ensures.linked in
+    let sound = c.linked_programs_run_soundly.ensures p c.is_linked.ensures.tabled c.is_linked.ensures.linked in
     let before = g.G.Sink.taken c.args.guest.now in
     let after = g.G.Sink.taken c.run_from.new.guest in
     whole_says_cut reached p c.args.options.now _ _ c.in-Ok.ensures.state c.in-Ok.ensures.records (said_by p) before after c.args.visits.now c.run_from.new.visits c.run_from.result

@@ -1,9 +1,11 @@
 use Rattle.std.proofs.Common.{◌≡◌, ℕ, ◌+◌, List, length, Contains, refl, sym, ap, ◌∙◌, subst, rules, arith}
-use Rattle.std.specs.Prelude.{All, IsTrue}
+use Rattle.std.specs.Prelude.{All, IsTrue, slice_index}
+use Rattle.et_history.specs.Settings.{unended_threads}
 use Rattle.et_walk.specs.Telling.{names_of_program}
 use Rattle.et_state.specs.Answers.{TicksWhereDone}
 use Rattle.et_state.specs.Naming.{IsNamed}
-use Rattle.et_state.specs.State.{MachineState, kept_of}
+use Rattle.et_run.specs.WithTexts.{state_of}
+use Rattle.et_run.specs.declared.with_texts.MachineWithTexts.{MachineWithTexts}
 use Rattle.et_state.specs.declared.ends.EventEnd.TheVariants.{Done}
 use Rattle.et_state.specs.declared.records.Record.{Record}
 use Rattle.et_loop.proofs.RunLemmas.{on_any}
@@ -12,33 +14,36 @@ use Rattle.et_run.proofs.stretches.stretch.Goals as goal
 
 pub events-init : goal.events-init
 events-init g c =
-    let heap : length c.machine.inside.heap ≡ length (kept_of c.args.machine.now).heap = ap (λ (m : MachineState). length (kept_of m).heap) c.machine.view_is in
-    going_first c.args.program.now c.args.slice.place c.args.slice.events c.args.machine.now.guest.clock (kept_of c.args.machine.now) c.args.stamps.now c.nth_unended-thread.result c.unended_count.result c.count.result c.args.visits.now c.args.out.now.records c.args.out.now.said.items c.requires.some refl c.requires.sound c.requires.made c.requires.stamps c.requires.empty c.requires.unsaid
-    (omega (arith, c.count.ensures.value, heap)) (sym c.unended_count.ensures) (sym c.nth_unended-thread.ensures)
+    let made : c.count.result + 1 ≡ length (state_of c.args.running.now).heap = c.count.ensures.value ∙ ap (λ (r : MachineWithTexts). length (state_of r).heap) c.running.view_is in
+    let count : c.unended_count.result ≡ length (unended_threads (state_of c.args.running.now)) = c.unended_count.ensures ∙ ap (λ (r : MachineWithTexts). length (unended_threads (state_of r))) c.running.view_is in
+    let thread : c.nth_unended-thread.result ≡ slice_index (unended_threads (state_of c.args.running.now)) c.args.slice.place = c.nth_unended-thread.ensures ∙ ap (λ (r : MachineWithTexts). slice_index (unended_threads (state_of r)) c.args.slice.place) c.running.view_is in
+    going_first c.args.program.now c.args.slice.place c.args.slice.events c.args.running.now.machine.guest.clock (state_of c.args.running.now) c.args.stamps.now c.nth_unended-thread.result c.unended_count.result c.count.result c.args.visits.now c.args.out.now.records c.args.out.now.said.items c.requires.some refl c.requires.sound c.requires.made c.requires.stamps c.requires.empty c.requires.unsaid
+    (omega (arith, made)) (sym count) (sym thread)
 
-pub machine_event-requires-clause-clock : goal.machine_event-requires-clause-clock
-machine_event-requires-clause-clock g c = omega (arith, c.events.invariant.clock, c.events.invariant.few, c.requires.clock)
+pub running_event-requires-clause-clock : goal.running_event-requires-clause-clock
+running_event-requires-clause-clock g c = omega (arith, c.events.invariant.clock, c.events.invariant.few, c.requires.clock)
 
-pub machine_event-requires-clause-thread : goal.machine_event-requires-clause-thread
-machine_event-requires-clause-thread g c =
-    is_there c.args.program.now c.args.slice.place c.args.slice.events c.args.machine.now.guest.clock (kept_of c.args.machine.now) c.args.stamps.now c.nth_unended-thread.result c.unended_count.result c.count.result c.args.visits.now
-    c.events.quiet (kept_of c.events.machine) c.events.stamps c.events.out.records c.events.out.said.items c.events.visits c.events.invariant (omega (arith, c.requires.place, c.unended_count.ensures))
+pub running_event-requires-clause-thread : goal.running_event-requires-clause-thread
+running_event-requires-clause-thread g c =
+    let count : c.unended_count.result ≡ length (unended_threads (state_of c.args.running.now)) = c.unended_count.ensures ∙ ap (λ (r : MachineWithTexts). length (unended_threads (state_of r))) c.running.view_is in
+    is_there c.args.program.now c.args.slice.place c.args.slice.events c.args.running.now.machine.guest.clock (state_of c.args.running.now) c.args.stamps.now c.nth_unended-thread.result c.unended_count.result c.count.result c.args.visits.now
+    c.events.quiet (state_of c.events.running) c.events.stamps c.events.out.records c.events.out.said.items c.events.visits c.events.invariant (omega (arith, c.requires.place, count))
 
 pub returns-in_err-end-clause-broken : goal.returns-in_err-end-clause-broken
 returns-in_err-end-clause-broken g c =
     on_any c.from_residual.result
-    (going_broken c.args.program.now c.args.slice.place c.args.slice.events c.args.machine.now.guest.clock (kept_of c.args.machine.now) c.args.stamps.now c.nth_unended-thread.result c.unended_count.result c.count.result c.args.visits.now
-    c.events.quiet (kept_of c.events.machine) c.events.stamps c.events.out.records c.events.out.said.items c.events.visits c.events.invariant Done (kept_of c.machine_event.new.machine) c.machine_event.new.out c.machine_event.new.machine.lost c.machine_event.new.visits c.in_err-end.ensures.visits)
+    (going_broken c.args.program.now c.args.slice.place c.args.slice.events c.args.running.now.machine.guest.clock (state_of c.args.running.now) c.args.stamps.now c.nth_unended-thread.result c.unended_count.result c.count.result c.args.visits.now
+    c.events.quiet (state_of c.events.running) c.events.stamps c.events.out.records c.events.out.said.items c.events.visits c.events.invariant Done (state_of c.running_event.new.running) c.running_event.new.out.records c.running_event.new.out.said.items c.running_event.new.running.machine.lost c.running_event.new.visits c.in_err-end.ensures.visits)
 
 pub returns-then-quiet-slice-clause-stretch : goal.returns-then-quiet-slice-clause-stretch
 returns-then-quiet-slice-clause-stretch g c =
-    going_ends c.args.program.now c.args.slice.place c.args.slice.events c.args.machine.now.guest.clock (kept_of c.args.machine.now) c.args.stamps.now c.nth_unended-thread.result c.unended_count.result c.count.result c.args.visits.now
-    c.events.quiet (kept_of c.events.machine) c.events.stamps c.events.out.records c.events.out.said.items c.events.visits c.events.invariant c.in_ok-end.end (kept_of c.machine_event.new.machine) c.machine_event.new.out c.machine_event.new.machine.lost c.machine_event.new.visits
-    c.in_ok-end.ensures.answers c.in_ok-end.ensures.step c.in_ok-end.ensures.visits
+    going_ends c.args.program.now c.args.slice.place c.args.slice.events c.args.running.now.machine.guest.clock (state_of c.args.running.now) c.args.stamps.now c.nth_unended-thread.result c.unended_count.result c.count.result c.args.visits.now
+    c.events.quiet (state_of c.events.running) c.events.stamps c.events.out.records c.events.out.said.items c.events.visits c.events.invariant c.in_ok-end.end (state_of c.running_event.new.running) c.running_event.new.out.records c.running_event.new.out.said.items c.running_event.new.running.machine.lost c.running_event.new.visits
+    c.in_ok-end.ensures.answers c.in_ok-end.ensures.says c.in_ok-end.ensures.step c.in_ok-end.ensures.visits
 
 pub returns-then-quiet-slice-clause-clock : goal.returns-then-quiet-slice-clause-clock
 returns-then-quiet-slice-clause-clock g c =
-    subst (λ (n : ℕ). TicksWhereDone c.in_ok-end.end n c.machine_event.new.machine.guest.clock) c.events.invariant.clock c.in_ok-end.ensures.clock
+    subst (λ (n : ℕ). TicksWhereDone c.in_ok-end.end n c.running_event.new.running.machine.guest.clock) c.events.invariant.clock c.in_ok-end.ensures.clock
 
 pub returns-then-quiet-slice-clause-named : goal.returns-then-quiet-slice-clause-named
 returns-then-quiet-slice-clause-named g c =
@@ -48,19 +53,19 @@ returns-then-quiet-slice-clause-named g c =
 pub stamp_each-requires-clause-places : goal.stamp_each-requires-clause-places
 stamp_each-requires-clause-places g c = λ o h.
     let yes : IsTrue c.is_quiet.result = search rules in
-    lost_there c.args.program.now c.args.slice.place c.args.slice.events c.args.machine.now.guest.clock (kept_of c.args.machine.now) c.args.stamps.now c.nth_unended-thread.result c.unended_count.result c.count.result c.args.visits.now
-    c.events.quiet (kept_of c.events.machine) c.events.stamps c.events.out.records c.events.out.said.items c.events.visits c.events.invariant c.in_ok-end.end (kept_of c.machine_event.new.machine) c.machine_event.new.out c.machine_event.new.machine.lost c.machine_event.new.visits
-    c.in_ok-end.ensures.answers c.in_ok-end.ensures.step (c.is_quiet.ensures.done yes) (c.is_quiet.ensures.objects yes) o (subst (λ (os : List ℕ). Contains os o) c.lost.ensures h)
+    lost_there c.args.program.now c.args.slice.place c.args.slice.events c.args.running.now.machine.guest.clock (state_of c.args.running.now) c.args.stamps.now c.nth_unended-thread.result c.unended_count.result c.count.result c.args.visits.now
+    c.events.quiet (state_of c.events.running) c.events.stamps c.events.out.records c.events.out.said.items c.events.visits c.events.invariant c.in_ok-end.end (state_of c.running_event.new.running) c.running_event.new.out.records c.running_event.new.out.said.items c.running_event.new.running.machine.lost c.running_event.new.visits
+    c.in_ok-end.ensures.answers c.in_ok-end.ensures.says c.in_ok-end.ensures.step (c.is_quiet.ensures.done yes) (c.is_quiet.ensures.objects yes) o (subst (λ (os : List ℕ). Contains os o) c.lost.ensures h)
 
 pub events-preserved : goal.events-preserved
 events-preserved g c =
     let yes : IsTrue c.is_quiet.result = search rules in
-    let at : c.clock-e.result ≡ c.args.machine.now.guest.clock + c.events.quiet = c.clock-e.ensures ∙ c.events.invariant.clock in
-    let there = λ (o : ℕ) (h : Contains c.machine_event.new.machine.lost o). subst (λ (os : List ℕ). Contains os o) (sym c.lost.ensures) h in
+    let at : c.clock-e.result ≡ c.args.running.now.machine.guest.clock + c.events.quiet = c.clock-e.ensures ∙ c.events.invariant.clock in
+    let there = λ (o : ℕ) (h : Contains c.running_event.new.running.machine.lost o). subst (λ (os : List ℕ). Contains os o) (sym c.lost.ensures) h in
     let back = λ (o : ℕ) (h : Contains c.lost.result.now o). subst (λ (os : List ℕ). Contains os o) c.lost.ensures h in
-    let ticked = ticks_where c.in_ok-end.end c.events.machine.guest.clock c.machine_event.new.machine.guest.clock (c.is_quiet.ensures.done yes) (going_native c.args.program.now c.args.slice.place c.args.slice.events c.args.machine.now.guest.clock (kept_of c.args.machine.now) c.args.stamps.now c.nth_unended-thread.result c.unended_count.result c.count.result c.args.visits.now
-    c.events.quiet (kept_of c.events.machine) c.events.stamps c.events.out.records c.events.out.said.items c.events.visits c.events.invariant c.in_ok-end.end (kept_of c.machine_event.new.machine) c.machine_event.new.out c.machine_event.new.machine.lost c.machine_event.new.visits c.in_ok-end.ensures.answers) c.in_ok-end.ensures.clock in
-    going_on c.args.program.now c.args.slice.place c.args.slice.events c.args.machine.now.guest.clock (kept_of c.args.machine.now) c.args.stamps.now c.nth_unended-thread.result c.unended_count.result c.count.result c.args.visits.now
-    c.events.quiet (kept_of c.events.machine) c.events.stamps c.events.out.records c.events.out.said.items c.events.visits c.events.invariant c.in_ok-end.end (kept_of c.machine_event.new.machine) c.machine_event.new.out c.machine_event.new.machine.lost c.machine_event.new.visits
-    c.in_ok-end.ensures.answers c.in_ok-end.ensures.step (c.is_quiet.ensures.done yes) c.stamp_each.new.stamps (omega arith) (c.is_quiet.ensures.told yes) (c.is_quiet.ensures.objects yes) (c.is_quiet.ensures.threads yes) (c.is_quiet.ensures.thread yes)
+    let ticked = ticks_where c.in_ok-end.end c.events.running.machine.guest.clock c.running_event.new.running.machine.guest.clock (c.is_quiet.ensures.done yes) (going_native c.args.program.now c.args.slice.place c.args.slice.events c.args.running.now.machine.guest.clock (state_of c.args.running.now) c.args.stamps.now c.nth_unended-thread.result c.unended_count.result c.count.result c.args.visits.now
+    c.events.quiet (state_of c.events.running) c.events.stamps c.events.out.records c.events.out.said.items c.events.visits c.events.invariant c.in_ok-end.end (state_of c.running_event.new.running) c.running_event.new.out.records c.running_event.new.out.said.items c.running_event.new.running.machine.lost c.running_event.new.visits c.in_ok-end.ensures.answers) c.in_ok-end.ensures.clock in
+    going_on c.args.program.now c.args.slice.place c.args.slice.events c.args.running.now.machine.guest.clock (state_of c.args.running.now) c.args.stamps.now c.nth_unended-thread.result c.unended_count.result c.count.result c.args.visits.now
+    c.events.quiet (state_of c.events.running) c.events.stamps c.events.out.records c.events.out.said.items c.events.visits c.events.invariant c.in_ok-end.end (state_of c.running_event.new.running) c.running_event.new.out.records c.running_event.new.out.said.items c.running_event.new.running.machine.lost c.running_event.new.visits
+    c.in_ok-end.ensures.answers c.in_ok-end.ensures.says c.in_ok-end.ensures.step (c.is_quiet.ensures.done yes) c.stamp_each.new.stamps (omega arith) (c.is_quiet.ensures.told yes) (c.is_quiet.ensures.unsaid yes) (c.is_quiet.ensures.objects yes) (c.is_quiet.ensures.threads yes) (c.is_quiet.ensures.thread yes)
     c.stamp_each.ensures.long (λ o h. c.stamp_each.ensures.each o (there o h) ∙ at) (λ o out. c.stamp_each.ensures.others o (λ h. out (back o h))) (omega (arith, ticked, c.events.invariant.clock)) c.in_ok-end.ensures.sound c.in_ok-end.ensures.visits
