@@ -20,7 +20,7 @@ use Rattle.et_loop.specs.Traced.{WritesTrace}
 use Rattle.et_loop.specs.Visits.{allowed_visits, IsCut}
 use Rattle.et_run.specs.Start.{start_records}
 use Rattle.et_run.specs.Whole.{whole_setting, whole_start, whole_visits_of}
-use Rattle.et_top.specs.Bench.{bench_options, bench_trace, bench_visits, summary_text, class_alone, IsBenchRun, IsReadBack, IsNotReadBack}
+use Rattle.et_top.specs.Bench.{bench_options, bench_trace, summary_text, class_alone, IsBenchRun, IsReadBack, IsNotReadBack}
 use Rattle.et_top.specs.Faults.{Fault}
 use Rattle.et_top.specs.Refusals.{status_of}
 use Rattle.et_top.specs.Told.{Cause, File, Reading, Memory, Other, IsCause, refusal_of}

@@ -1,5 +1,5 @@
 -- `convert` of what `convert` wrote.
-use Rattle.std.proofs.Common.{◌≡◌, ℕ, ◌<◌, ◌≤◌, ◌^◌, Bool, true, false, List, [], length, Option, Some, Result, Ok, Err, inl, inr, refl, sym, ap, subst, ◌∙◌, arith}
+use Rattle.std.proofs.Common.{◌≡◌, ℕ, ◌<◌, ◌≤◌, ◌^◌, Bool, true, false, List, [], length, Option, Some, Ok, Err, inl, inr, refl, sym, ap, subst, arith}
 use Rattle.std.specs.Prelude.{All, nat_lt, if◌then◌else◌}
 use Rattle.std.proofs.lemmas.Bool.Decides.{nat_tests}
 use Rattle.et_base.specs.declared.line.TraceLine.{TraceLine}
@@ -12,7 +12,7 @@ use Rattle.et_top.specs.Faults.{Fault, TooLong}
 use Rattle.et_top.specs.Loaded.{file_bytes, most_of_trace, IsTraceOf}
 use Rattle.et_convert.specs.Spellings.{SpellsTrace}
 use Rattle.et_convert.specs.Conversions.{converted_lines, converted_bytes}
-use Rattle.et_top.specs.Top.{Defined, Usage, Refused, Writes, Traces, Verifies, Benches, IsAskedDefined, defined_text}
+use Rattle.et_top.specs.Top.{Defined, Usage, Refused, Writes, Traces, Prints, Verifies, Benches, IsAskedDefined}
 use Rattle.et_top.proofs.ReadLemmas.{bytes_there}
 
 -- what is written, where something is
@@ -21,6 +21,7 @@ text_in (Writes text) = text
 text_in Usage = λ reached. []
 text_in (Refused fault) = λ reached. []
 text_in (Traces program options) = λ reached. []
+text_in (Prints program options) = λ reached. []
 text_in (Verifies program) = λ reached. []
 text_in (Benches program) = λ reached. []
 
@@ -33,6 +34,7 @@ IsWritten (Writes text) = Unit {0}
 IsWritten Usage = ⊥
 IsWritten (Refused fault) = ⊥
 IsWritten (Traces program options) = ⊥
+IsWritten (Prints program options) = ⊥
 IsWritten (Verifies program) = ⊥
 IsWritten (Benches program) = ⊥
 

@@ -1,15 +1,22 @@
 -- What a process gives once its output is handed on, or isn't.
-use Rattle.std.proofs.Common.{◌≡◌, ℕ, ◌+◌, ◌≤◌, ◌∙◌, arith, Bool, true, false, List, Option, Result, Ok, Err, inl, inr, refl, sym, ap, subst}
+use Rattle.std.proofs.Common.{◌≡◌, ℕ, ◌+◌, ◌≤◌, ◌∙◌, arith, Bool, true, false, List, [], append-nil, Option, Result, Ok, Err, inl, inr, refl, sym, ap, subst}
 use Rattle.std.specs.Prelude.{IfOk}
 use Rattle.et_graph.specs.Graph.{Graph}
-use Rattle.et_run.proofs.OneTrace.{whole_front, whole_trace}
+use Rattle.et_run.proofs.OneTrace.{whole_front, whole_trace, whole_said_front}
 use Rattle.et_io.specs.Faults.{Rose, count_after}
+use Rattle.et_io.specs.Sink.{with_more}
+use Rattle.et_loop.specs.Said.{Says}
+use Rattle.et_loop.specs.declared.options.Ran.{Ran}
+use Rattle.et_run.specs.Settings.{said_by}
+use Rattle.et_run.specs.Start.{start_records}
+use Rattle.et_run.specs.Whole.{whole_setting, whole_start, whole_said}
+use Rattle.et_state.specs.declared.options.Options.{Options}
 use Rattle.et_program.specs.Entries.{Linked}
 use Rattle.et_top.specs.Bench.{summary_text}
 use Rattle.et_top.specs.Faults.{Fault, Absent, TooLong, BadClass, BadText, BadTrace, LinkFault, BadEvent, status_of_fault}
 use Rattle.et_top.specs.Process.{EndsAs}
 use Rattle.et_top.specs.Status.{is_whole, is_write_status}
-use Rattle.et_top.specs.Top.{Defined, Usage, Refused, Writes, Verifies, Traces, Benches, WritesSummary, CutsSummary, verified_text, GivesDefined}
+use Rattle.et_top.specs.Top.{Defined, Usage, Refused, Writes, Verifies, Traces, Prints, Benches, WritesSummary, CutsSummary, PrintsCut, verified_text, GivesDefined}
 use Rattle.et_verify.specs.Verdicts.{verified_count}
 use Rattle.et_top.specs.declared.status.Status.{Status}
 use Rattle.et_top.specs.declared.status.Status.TheVariants as status
@@ -56,6 +63,20 @@ module _ (reached : Graph → ℕ → Bool) (before after : Option (List ℕ)) (
     wrote = whole_front before after (summary_text reached w.lines) w.wrote;
   }
 
+  cut_prints : (program : Linked) (options : Options) (ran : Ran) → Says reached (whole_setting program options) (whole_said (said_by program)) (whole_start program) (start_records program) ran before after → PrintsCut reached before after 0 0 program options
+  cut_prints program options ran says = record {
+    printed = whole_said_front _ _ _ _ _ ran before after says;
+    visits = inr (
+      ran.event,
+      record {
+        goes = says.ends.first;
+        rest = [];
+        taken = says.taken ∙ ap (λ (bytes : List ℕ). with_more before bytes) (sym (append-nil _));
+        visits = least _;
+      },
+    );
+  }
+
   -- A whole output that was not handed on: the write failed, and a prefix of it was taken. Of the counter, which is dropped
   -- then, nothing is asked.
   cut_gives : (d : Defined) (came : Status) → is_whole came ≡ true → later → GivesDefined reached before after old new read written d came → GivesDefined reached before after 0 0 read later d status.WriteFault
@@ -75,6 +96,9 @@ module _ (reached : Graph → ℕ → Bool) (before after : Option (List ℕ)) (
       (λ is. (rose, record { wrote = whole_trace _ _ _ _ is.ran before after is.wrote; visits = inl refl }))
       (λ is. (rose, record { wrote = whole_trace _ _ _ _ is.ran before after is.wrote; visits = inl refl }))
       (λ is. (rose, record { wrote = whole_trace _ _ _ _ is.ran before after is.wrote; visits = inl refl })) came whole h
+  cut_gives (Prints program options) came whole rose h =
+      of_whole (λ s. GivesDefined reached before after old new read written (Prints program options) s → GivesDefined reached before after 0 0 read later (Prints program options) status.WriteFault)
+      (λ is. (rose, cut_prints program options is.ran is.printed)) (λ is. (rose, cut_prints program options is.ran is.printed)) (λ is. (rose, cut_prints program options is.ran is.printed)) came whole h
   cut_gives (Benches program) came whole rose h =
       of_whole (λ s. GivesDefined reached before after old new read written (Benches program) s → GivesDefined reached before after 0 0 read later (Benches program) status.WriteFault)
       (λ is. (rose, cut_summary program status.Done is)) (λ is. (rose, cut_summary program status.IllTyped is)) (λ is. (rose, cut_summary program status.ObjectLimit is)) came whole h

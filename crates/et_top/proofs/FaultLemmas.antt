@@ -126,3 +126,9 @@ pub counted_alone : (failed : Bool) (a a' : ℕ) → CountsWrite failed a a' 0 0
 counted_alone failed a a' (inl h) = h.0
 counted_alone false a a' (inr h) = h.0
 counted_alone true a a' (inr h) = absurd (omega (arith, h.1))
+
+-- .. and where that one counts none, by the other
+pub counted_beside : (failed : Bool) (b b' : ℕ) → CountsWrite failed 0 0 b b' → b' ≡ count_after failed b
+counted_beside failed b b' (inr h) = h.1
+counted_beside false b b' (inl h) = h.1
+counted_beside true b b' (inl h) = absurd (omega (arith, h.0))

@@ -5,6 +5,7 @@ mod ReadLemmas
 mod LinkLemmas
 mod ModelLemmas
 mod TopLemmas
+mod PrintLemmas
 mod NumberLemmas
 mod OptionLemmas
 mod SplitLemmas

@@ -14,14 +14,14 @@ use Rattle.et_link.specs.Refusals.{LinkIs, RefusesLink}
 use Rattle.et_link.specs.declared.fault.LinkFault.TheVariants as link
 use Rattle.et_convert.specs.Spellings.{SpellsTrace, HasSpellingFault, HasSpellingAnswer, IsSpelledTrace, IsRefusedTrace}
 use Rattle.et_replay.specs.declared.model.Kind.{Kind}
-use Rattle.et_top.specs.Command.{Asked, Trace, Assemble, Verify, Replay, Convert, Curve, Bench, command, Snapshot}
+use Rattle.et_top.specs.Command.{Asked, Trace, Run, Assemble, Verify, Replay, Convert, Curve, Bench, command, Snapshot}
 use Rattle.et_top.specs.Faults.{Fault, BadClass, BadText, BadTrace, LinkFault}
 use Rattle.et_top.specs.Loaded.{file_bytes, before, most_of_class, most_of_trace, IsClassOf, IsListingOf, IsTraceOf, AreFirstAnd, AreClassesOf, IsLinkedOf, IsProgramOfFiles}
 use Rattle.et_top.specs.Bench.{IsListingProgram, bench_listing, class_alone}
-use Rattle.et_top.specs.Top.{Usage, IsAskedDefined, IsDefined, traces, verifies, benches}
+use Rattle.et_top.specs.Top.{Usage, IsAskedDefined, IsDefined, traces, prints, verifies, benches}
 use Rattle.et_top.proofs.Found.{class_found, fault_found, lines_found, line_found, listing_found, listing_fault_found}
 use Rattle.et_top.proofs.LinkLemmas.{linked_found, link_fault_found}
-use Rattle.et_top.proofs.PathLemmas.{HasPaths, paths_of_trace, paths_of_verify, command_has}
+use Rattle.et_top.proofs.PathLemmas.{HasPaths, paths_of_trace, paths_of_run, paths_of_verify, command_has}
 
 -- exactly one
 abbrev One : {A : Type 0} → (A → Type 0) → Type 0
@@ -151,6 +151,9 @@ module _ (class_is_one : (bytes : List ℕ) → HasOneClass bytes)
   one_asked kinds (Some (Trace options paths)) held has =
       let some : 0 < length (map held paths) = subst (λ n. 0 < n) (sym (length-map paths held)) (paths_of_trace options paths has) in
       decided (IsProgramOfFiles (map held paths)) (λ program d. d ≡ traces options program) (one_program (map held paths) some) (λ program is. the_one (traces options program))
+  one_asked kinds (Some (Run options paths)) held has =
+      let some : 0 < length (map held paths) = subst (λ n. 0 < n) (sym (length-map paths held)) (paths_of_run options paths has) in
+      decided (IsProgramOfFiles (map held paths)) (λ program d. d ≡ prints options program) (one_program (map held paths) some) (λ program is. the_one (prints options program))
   one_asked kinds (Some (Assemble path)) held has = decided (IsListingOf (file_bytes most_of_class (held path))) _ (one_listing marks_are_one (file_bytes most_of_class (held path))) (λ class is. the_one _)
   one_asked kinds (Some (Verify paths)) held has =
       let some : 0 < length (map held paths) = subst (λ n. 0 < n) (sym (length-map paths held)) (paths_of_verify paths has) in

@@ -1,16 +1,17 @@
--- A command `trace` or `verify` has a path.
+-- A command `trace`, `run` or `verify` has a path.
 use Rattle.std.proofs.Common.{ℕ, ◌-◌, ◌^◌, ◌<◌, Bool, true, false, List, [], ◌∷◌, length, Option, Some, None, option_map, arith}
 use Rattle.std.specs.Prelude.{◌==◌, if◌then◌else◌, option_and_then}
 use Rattle.et_state.specs.declared.options.Options.{Options}
 use Rattle.et_top.specs.declared.command.Models.{Models}
 use Rattle.et_top.specs.Words.{Split, split}
 use Rattle.et_top.specs.Numbers.{number_within}
-use Rattle.et_top.specs.Command.{Asked, Trace, Assemble, Verify, Replay, Convert, Curve, Bench, command, asked, some_paths, plain_path, plain_paths, only_path, trace_options, replay_options, Snapshot, path_and_event, snapshot}
+use Rattle.et_top.specs.Command.{Asked, Trace, Run, Assemble, Verify, Replay, Convert, Curve, Bench, command, asked, some_paths, plain_path, plain_paths, only_path, trace_options, run_options, replay_options, Snapshot, path_and_event, snapshot}
 
--- where it is `trace` or `verify`, there is a path
+-- where it is one of these, there is a path
 pub HasPaths : Option Asked → Type 0
 HasPaths None = Unit {0}
 HasPaths (Some (Trace options paths)) = 0 < length paths
+HasPaths (Some (Run options paths)) = 0 < length paths
 HasPaths (Some (Assemble path)) = Unit {0}
 HasPaths (Some (Verify paths)) = 0 < length paths
 HasPaths (Some (Replay models path)) = Unit {0}
@@ -22,6 +23,10 @@ HasPaths (Some (Bench number)) = Unit {0}
 pub paths_of_trace : (options : Options) (paths : List (List ℕ)) → HasPaths (Some (Trace options paths)) → 0 < length paths
 unfolding HasPaths
 paths_of_trace options paths has = has
+
+pub paths_of_run : (options : Options) (paths : List (List ℕ)) → HasPaths (Some (Run options paths)) → 0 < length paths
+unfolding HasPaths
+paths_of_run options paths has = has
 
 pub paths_of_verify : (paths : List (List ℕ)) → HasPaths (Some (Verify paths)) → 0 < length paths
 unfolding HasPaths
@@ -49,6 +54,19 @@ some_or_none false paths o some = options_have paths o some
 trace_has : (paths : List (List ℕ)) (o : Option Options) → HasPaths (option_and_then (λ paths. option_map (λ options. Trace options paths) o) (some_paths paths))
 trace_has [] o = nothing_has
 trace_has (path ∷ paths) o = some_or_none (length (path ∷ paths) == 0) (path ∷ paths) o (let some : 0 < length (path ∷ paths) = omega arith in some)
+
+run_options_have : (paths : List (List ℕ)) (o : Option Options) → 0 < length paths → HasPaths (option_map (λ options. Run options paths) o)
+unfolding HasPaths
+run_options_have paths None some = tt
+run_options_have paths (Some options) some = some
+
+run_or_none : (b : Bool) (paths : List (List ℕ)) (o : Option Options) → 0 < length paths → HasPaths (option_and_then (λ paths. option_map (λ options. Run options paths) o) (if b then None else Some paths))
+run_or_none true paths o some = nothing_has
+run_or_none false paths o some = run_options_have paths o some
+
+run_has : (paths : List (List ℕ)) (o : Option Options) → HasPaths (option_and_then (λ paths. option_map (λ options. Run options paths) o) (some_paths paths))
+run_has [] o = nothing_has
+run_has (path ∷ paths) o = run_or_none (length (path ∷ paths) == 0) (path ∷ paths) o (let some : 0 < length (path ∷ paths) = omega arith in some)
 
 assemble_has : (o : Option (List ℕ)) → HasPaths (option_map Assemble o)
 unfolding HasPaths
@@ -114,13 +132,14 @@ bench_has (Some number) = tt
 asked_has : (name : List ℕ) (s : Split) → HasPaths (asked name s)
 asked_has name s =
     either_has _ _ _ (trace_has s.operands (trace_options s.options))
+    (either_has _ _ _ (run_has s.operands (run_options s.options))
     (either_has _ _ _ (assemble_has (plain_path s))
     (either_has _ _ _ (verify_has s)
     (either_has _ _ _ (replay_has (replay_options s.options) (only_path s.operands))
     (either_has _ _ _ (convert_has (plain_path s))
     (either_has _ _ _ (curve_has (plain_path s))
     (either_has _ _ _ (snapshot_has s)
-    (either_has _ _ _ (bench_has (option_and_then (number_within 0 (2 ^ 63 - 1)) (plain_path s))) nothing_has)))))))
+    (either_has _ _ _ (bench_has (option_and_then (number_within 0 (2 ^ 63 - 1)) (plain_path s))) nothing_has))))))))
 
 split_has : (name : List ℕ) (o : Option Split) → HasPaths (option_and_then (asked name) o)
 split_has name None = nothing_has

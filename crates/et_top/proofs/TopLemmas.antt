@@ -20,7 +20,7 @@ use Rattle.et_top.specs.Command.{Asked}
 use Rattle.et_top.specs.Asked.{asked_by}
 use Rattle.et_top.specs.declared.command.Command.{Command}
 use Rattle.et_replay.specs.declared.model.Kind.{Kind}
-use Rattle.et_top.specs.Top.{IsAskedDefined, Defined, Usage, Refused, Writes, Verifies, Traces, defined_text, verifies, traces, Benches, benches, status_of_end, WritesHistory, GivesDefined}
+use Rattle.et_top.specs.Top.{IsAskedDefined, Defined, Usage, Refused, Writes, Verifies, Traces, Prints, defined_text, verifies, traces, prints, Benches, benches, status_of_end, WritesHistory, GivesDefined}
 use Rattle.et_top.specs.declared.status.Status.{Status}
 use Rattle.et_top.specs.declared.status.Status.TheVariants as status
 use Rattle.et_top.specs.declared.refusal.Refusal.{Refusal}
@@ -155,6 +155,7 @@ IsLoaded read (Refused fault) = Unit {0}
 IsLoaded read (Writes text) = Unit {0}
 IsLoaded read (Verifies program) = Unit {0}
 IsLoaded read (Traces program options) = Unit {0}
+IsLoaded read (Prints program options) = Unit {0}
 IsLoaded read (Benches program) = read → ⊥
 
 -- .. and where a history is, nothing was visited
@@ -164,6 +165,7 @@ IsStill old new (Refused fault) = Unit {0}
 IsStill old new (Writes text) = Unit {0}
 IsStill old new (Verifies program) = Unit {0}
 IsStill old new (Traces program options) = new ≡ old
+IsStill old new (Prints program options) = new ≡ old
 IsStill old new (Benches program) = new ≡ old
 
 pub still : (visits : ℕ) (d : Defined) → IsStill visits visits d
@@ -172,6 +174,7 @@ still visits (Refused fault) = tt
 still visits (Writes text) = tt
 still visits (Verifies program) = tt
 still visits (Traces program options) = refl
+still visits (Prints program options) = refl
 still visits (Benches program) = refl
 
 module _ (reached : Graph → ℕ → Bool) (taken : Option (List ℕ)) (old new : ℕ) (read written : Type 0) where
@@ -181,6 +184,7 @@ module _ (reached : Graph → ℕ → Bool) (taken : Option (List ℕ)) (old new
   reading_gives (Writes text) loaded h = (h, refl)
   reading_gives (Verifies program) loaded h = (h, refl)
   reading_gives (Traces program options) loaded h = (h, refl)
+  reading_gives (Prints program options) loaded h = (h, refl)
   reading_gives (Benches program) loaded h = absurd (loaded h)
 
   pub memory_gives : (d : Defined) → IsStill old new d → GivesDefined reached taken taken old new read written d status.NoMemory
@@ -189,6 +193,7 @@ module _ (reached : Graph → ℕ → Bool) (taken : Option (List ℕ)) (old new
   memory_gives (Writes text) none = front_nothing taken (text reached)
   memory_gives (Verifies program) none = inl refl
   memory_gives (Traces program options) none = record { wrote = λ e end last. front_nothing taken _; visits = inl none }
+  memory_gives (Prints program options) none = record { printed = λ e end last. front_nothing taken _; visits = inl (none, refl) }
   memory_gives (Benches program) none = inl (refl, inl ([], inl none))
 
   file_gives : (fault : Fault) (answer : Status) → answer ≡ status_of_fault fault → GivesDefined reached taken taken old new read written (Refused fault) answer
@@ -246,6 +251,20 @@ module _ (reached : Graph → ℕ → Bool) (taken : Option (List ℕ)) (old new
   refused_trace options found r d answer e is how none =
       subst (GivesDefined reached taken taken old new read written d) (sym how)
       (by_cause d r (subst (IsLoaded read) (sym e) (traces_loaded options found)) (subst (IsStill old new) (sym e) (traces_still options found none)) (λ fault c. e ∙ ap (traces options) (cause_file found (cause_of r) fault is c))
+      (cause_reads found (cause_of r) is) (cause_other found (cause_of r) is))
+
+  prints_still : (options : Options) (found : Result Linked Fault) → new ≡ old → IsStill old new (prints options found)
+  prints_still options (Err fault) none = tt
+  prints_still options (Ok program) none = none
+
+  prints_loaded : (options : Options) (found : Result Linked Fault) → IsLoaded read (prints options found)
+  prints_loaded options (Err fault) = tt
+  prints_loaded options (Ok program) = tt
+
+  pub refused_print : (options : Options) (found : Result Linked Fault) (r : Refusal) (d : Defined) (answer : Status) → d ≡ prints options found → IsCause read found (cause_of r) → answer ≡ status_of r → new ≡ old → GivesDefined reached taken taken old new read written d answer
+  refused_print options found r d answer e is how none =
+      subst (GivesDefined reached taken taken old new read written d) (sym how)
+      (by_cause d r (subst (IsLoaded read) (sym e) (prints_loaded options found)) (subst (IsStill old new) (sym e) (prints_still options found none)) (λ fault c. e ∙ ap (prints options) (cause_file found (cause_of r) fault is c))
       (cause_reads found (cause_of r) is) (cause_other found (cause_of r) is))
 
   verifies_loaded : (found : Result Linked Fault) → IsLoaded read (verifies found)

@@ -13,6 +13,8 @@ use Rattle.et_top.specs.Numbers.{number_within, numbers}
 pub data Asked : Type 0 where
   -- the trace of the classes of these files
   Trace : (options : Options) → (paths : List (List ℕ)) → Asked
+  -- what the program of the classes of these files prints
+  Run : (options : Options) → (paths : List (List ℕ)) → Asked
   -- the class file of a listing
   Assemble : (path : List ℕ) → Asked
   -- whether each method of these files has a typing
@@ -50,15 +52,27 @@ schedule_of quantum None = option_map Quantum (number_or 100 1 (2 ^ 40) quantum)
 schedule_of None (Some text) = option_map Words (numbers text)
 schedule_of (Some quantum) (Some text) = None
 
+-- how a program is run, in the format of this version
+abbrev pub options_of : Option ℕ → List Given → Option Options
+options_of version options =
+    option_and_then (λ interval. option_and_then (λ limit. option_and_then (λ version. option_map (λ schedule.
+    record { interval = interval; limit = limit; schedule = schedule; format = version_format version })
+    (schedule_of (option_value (codes "quantum") options) (option_value (codes "words") options)))
+    version)
+    (number_or 1000000000 0 (2 ^ 40) (option_value (codes "limit") options)))
+    (number_or 0 0 (2 ^ 40) (option_value (codes "flush") options))
+
 abbrev pub trace_options : List Given → Option Options
 trace_options options =
     if are_options (codes "flush" ∷ codes "limit" ∷ codes "format" ∷ codes "quantum" ∷ codes "words" ∷ []) options
-    then option_and_then (λ interval. option_and_then (λ limit. option_and_then (λ version. option_map (λ schedule.
-    record { interval = interval; limit = limit; schedule = schedule; format = version_format version })
-    (schedule_of (option_value (codes "quantum") options) (option_value (codes "words") options)))
-    (number_or 1 1 2 (option_value (codes "format") options)))
-    (number_or 1000000000 0 (2 ^ 40) (option_value (codes "limit") options)))
-    (number_or 0 0 (2 ^ 40) (option_value (codes "flush") options))
+    then options_of (number_or 1 1 2 (option_value (codes "format") options)) options
+    else None
+
+-- what is printed has one format
+abbrev pub run_options : List Given → Option Options
+run_options options =
+    if are_options (codes "flush" ∷ codes "limit" ∷ codes "quantum" ∷ codes "words" ∷ []) options
+    then options_of (Some 1) options
     else None
 
 -- a capacity in bytes, where the option is there
@@ -115,6 +129,9 @@ plain_paths s = if length s.options == 0 then some_paths s.operands else None
 abbrev pub trace : Split → Option Asked
 trace s = option_and_then (λ paths. option_map (λ options. Trace options paths) (trace_options s.options)) (some_paths s.operands)
 
+abbrev pub run : Split → Option Asked
+run s = option_and_then (λ paths. option_map (λ options. Run options paths) (run_options s.options)) (some_paths s.operands)
+
 abbrev pub replay : Split → Option Asked
 replay s = option_and_then (λ path. option_map (λ models. Replay models path) (replay_options s.options)) (only_path s.operands)
 
@@ -133,6 +150,7 @@ bench s = option_map Bench (option_and_then (number_within 0 (2 ^ 63 - 1)) (plai
 abbrev pub asked : List ℕ → Split → Option Asked
 asked name s =
     if bytes_eq name (codes "trace") then trace s
+    else if bytes_eq name (codes "run") then run s
     else if bytes_eq name (codes "asm") then option_map Assemble (plain_path s)
     else if bytes_eq name (codes "verify") then option_map Verify (plain_paths s)
     else if bytes_eq name (codes "replay") then replay s

@@ -3,7 +3,7 @@
 use Rattle.std.specs.Prelude.{◌≡◌, ℕ, ◌-◌, ◌≤◌, Bool, true, false, List, [], ◌∷◌, ◌++◌, length, take, All, Option, None, Some, Ok}
 use Rattle.et_class.specs.Layout.{ClassOf}
 use Rattle.et_io.specs.Files.{Held}
-use Rattle.et_top.specs.Command.{Asked, Trace, Assemble, Verify, Replay, Convert, Curve, Bench, Snapshot}
+use Rattle.et_top.specs.Command.{Asked, Trace, Run, Assemble, Verify, Replay, Convert, Curve, Bench, Snapshot}
 use Rattle.et_top.specs.Loaded.{file_bytes, most_of_class, IsClassOf}
 use Rattle.et_top.specs.declared.status.Status.{Status}
 use Rattle.et_top.specs.declared.status.Status.TheVariants as status
@@ -12,6 +12,7 @@ use Rattle.et_top.specs.declared.status.Status.TheVariants as status
 abbrev pub paths_of : Option Asked → List (List ℕ)
 paths_of None = []
 paths_of (Some (Trace options paths)) = paths
+paths_of (Some (Run options paths)) = paths
 paths_of (Some (Assemble path)) = path ∷ []
 paths_of (Some (Verify paths)) = paths
 paths_of (Some (Replay models path)) = path ∷ []
@@ -43,7 +44,7 @@ is_early status.Rejected = false
 is_early status.BadEvent = false
 
 -- the first so many of the paths were read, in order and each once; where the files tell what they hold, each of these but
--- the last holds a class file (only `trace` and `verify` name several files); and by every answer that isn't early all were read
+-- the last holds a class file (only `trace`, `run` and `verify` name several files); and by every answer that isn't early all were read
 pub record ReadsInOrder (told : Option Held) (old new paths : List (List ℕ)) (answer : Status) : Type 0 where
   pub count : ℕ
   pub few : count ≤ length paths

@@ -12,6 +12,7 @@ use Rattle.et_state.specs.declared.options.Options.{Options}
 use Rattle.et_text.specs.declared.fault.TraceFault.TheVariants as faults
 use Rattle.et_loop.specs.declared.options.Ran.{Ran}
 use Rattle.et_loop.specs.Traced.{WritesTrace, WritesPrefix}
+use Rattle.et_loop.specs.Said.{Says, SaysPrefix, IsCutSaid}
 use Rattle.et_convert.specs.Conversions.{converted_bytes}
 use Rattle.et_replay.specs.Curve.{curve_text}
 use Rattle.et_replay.specs.Replay.{replay_text}
@@ -24,7 +25,8 @@ use Rattle.et_top.specs.declared.command.Models.{Models}
 use Rattle.et_top.specs.Command as words
 use Rattle.et_program.specs.Entries.{Linked}
 use Rattle.et_run.specs.Start.{start_records}
-use Rattle.et_run.specs.Whole.{whole_setting, whole_start, whole_visits_of}
+use Rattle.et_run.specs.Whole.{whole_setting, whole_start, whole_visits_of, whole_said}
+use Rattle.et_run.specs.Settings.{said_by}
 use Rattle.et_loop.specs.Visits.{allowed_visits, IsCut}
 use Rattle.et_verify.specs.Typings.{IsVerified}
 use Rattle.et_verify.specs.Verdicts.{verified_count, IsFirstRejected}
@@ -35,18 +37,23 @@ use Rattle.et_top.specs.declared.status.Status.{Status}
 use Rattle.et_top.specs.declared.status.Status.TheVariants as status
 
 -- what the words and the files define: no command, a file that is refused, a text, the verdict on a program, the trace of a
--- history, or the summary of one. A text may tell of what is reached; it takes a test that decides that
+-- history, what one prints, or the summary of one. A text may tell of what is reached; it takes a test that decides that
 pub data Defined : Type 0 where
   Usage : Defined
   Refused : Fault → Defined
   Writes : (text : (Graph → ℕ → Bool) → List ℕ) → Defined
   Verifies : (program : Linked) → Defined
   Traces : (program : Linked) → (options : Options) → Defined
+  Prints : (program : Linked) → (options : Options) → Defined
   Benches : (program : Linked) → Defined
 
 abbrev pub traces : Options → Result Linked Fault → Defined
 traces options (Err fault) = Refused fault
 traces options (Ok program) = Traces program options
+
+abbrev pub prints : Options → Result Linked Fault → Defined
+prints options (Err fault) = Refused fault
+prints options (Ok program) = Prints program options
 
 abbrev pub verifies : Result Linked Fault → Defined
 verifies (Err fault) = Refused fault
@@ -89,6 +96,8 @@ abbrev pub IsAskedDefined : List Kind → Option words.Asked → Held → Define
 IsAskedDefined kinds None held d = d ≡ Usage
 IsAskedDefined kinds (Some (words.Trace options paths)) held d =
     (program : Result Linked Fault) × IsProgramOfFiles (map held paths) program × (d ≡ traces options program)
+IsAskedDefined kinds (Some (words.Run options paths)) held d =
+    (program : Result Linked Fault) × IsProgramOfFiles (map held paths) program × (d ≡ prints options program)
 IsAskedDefined kinds (Some (words.Assemble path)) held d =
     (class : Result (List ℕ) Fault) × IsListingOf (file_bytes most_of_class (held path)) class × (d ≡ defined_text (λ reached bytes. bytes) class)
 IsAskedDefined kinds (Some (words.Verify paths)) held d =
@@ -135,6 +144,20 @@ module _ (reached : Graph → ℕ → Bool) (before after : Option (List ℕ)) (
   pub record WritesCut (program : Linked) (options : Options) : Type 0 where
     pub wrote : WritesPrefix reached (whole_setting program options) (whole_start program) (start_records program) before after
     pub visits : IsCut reached (whole_setting program options) whole_visits_of (whole_start program) (start_records program) before after old new
+
+  -- the history of the program ended so, and out took what its events print, no more and no less; and objects were visited no
+  -- more often than the history allows
+  pub record PrintsHistory (program : Linked) (options : Options) (answer : Status) : Type 0 where
+    pub ran : Ran
+    pub ended : answer ≡ status_of_end ran.end
+    pub printed : Says reached (whole_setting program options) (whole_said (said_by program)) (whole_start program) (start_records program) ran before after
+    pub visits : new ≤ old + allowed_visits reached (whole_setting program options) whole_visits_of (whole_start program) (start_records program) ran.event
+
+  -- the history of the program was cut off: out took a prefix of what it prints, and the counter allows for the turns up to the
+  -- one in which that was, or is as before where no turn was begun
+  pub record PrintsCut (program : Linked) (options : Options) : Type 0 where
+    pub printed : SaysPrefix reached (whole_setting program options) (whole_said (said_by program)) (whole_start program) (start_records program) before after
+    pub visits : IsCutSaid reached (whole_setting program options) (whole_said (said_by program)) (whole_start program) (start_records program) whole_visits_of before after old new
 
   -- the history of the program ended so, its trace was read back, and out took the summary of its lines
   pub record WritesSummary (program : Linked) (answer : Status) : Type 0 where
@@ -193,4 +216,11 @@ module _ (reached : Graph → ℕ → Bool) (before after : Option (List ℕ)) (
   GivesDefined read written (Traces program options) status.WriteFault = written × WritesCut program options
   GivesDefined read written (Traces program options) status.NoMemory = WritesCut program options
   GivesDefined read written (Traces program options) answer = ⊥
+  GivesDefined read written (Prints program options) status.Done = PrintsHistory program options status.Done
+  GivesDefined read written (Prints program options) status.IllTyped = PrintsHistory program options status.IllTyped
+  GivesDefined read written (Prints program options) status.ObjectLimit = PrintsHistory program options status.ObjectLimit
+  GivesDefined read written (Prints program options) status.ReadFault = read × (after ≡ before)
+  GivesDefined read written (Prints program options) status.WriteFault = written × PrintsCut program options
+  GivesDefined read written (Prints program options) status.NoMemory = PrintsCut program options
+  GivesDefined read written (Prints program options) answer = ⊥
   GivesDefined read written (Benches program) answer = GivesBench written program answer

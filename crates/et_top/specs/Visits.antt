@@ -1,11 +1,11 @@
--- WHERE OBJECTS ARE VISITED: only in the run of a trace, and in that of a bench.
+-- WHERE OBJECTS ARE VISITED: only in the run of a program, for its trace or for what it prints, and in that of a bench.
 use Rattle.std.specs.Prelude.{ℕ, ◌+◌, ◌<◌, List, length, Option, Some}
-use Rattle.et_top.specs.Command.{Asked, Trace, Bench}
-use Rattle.et_top.specs.Top.{Defined, Usage, Refused, Writes, Verifies, Traces, Benches}
+use Rattle.et_top.specs.Command.{Asked, Trace, Run, Bench}
+use Rattle.et_top.specs.Top.{Defined, Usage, Refused, Writes, Verifies, Traces, Prints, Benches}
 use Rattle.et_top.specs.declared.status.Status.{Status}
 use Rattle.et_top.specs.declared.status.Status.TheVariants as status
 
--- a trace is answered so where its run was not begun: a file was refused, or a read failed
+-- a trace, and what is printed, is answered so where its run was not begun: a file was refused, or a read failed
 abbrev pub IsBeforeRun : Status → Type 0
 IsBeforeRun status.Done = ⊥
 IsBeforeRun status.IllTyped = ⊥
@@ -19,15 +19,17 @@ abbrev pub IsBeforeBench : Status → Type 0
 IsBeforeBench status.BadTrace = ⊥
 IsBeforeBench answer = IsBeforeRun answer
 
--- the words ask for no trace and no bench, or for one whose run was not begun
+-- the words ask for no run, or for one that was not begun
 abbrev pub IsWithoutRun : Option Asked → Status → Type 0
 IsWithoutRun (Some (Trace options paths)) answer = IsBeforeRun answer
+IsWithoutRun (Some (Run options paths)) answer = IsBeforeRun answer
 IsWithoutRun (Some (Bench number)) answer = IsBeforeBench answer
 IsWithoutRun _ answer = Unit {0}
 
--- the words and the files define no trace and no bench, so that there is no run, whatever is answered
+-- the words and the files define no history, so that there is no run, whatever is answered
 abbrev pub IsNoTrace : Defined → Type 0
 IsNoTrace (Traces program options) = ⊥
+IsNoTrace (Prints program options) = ⊥
 IsNoTrace (Benches program) = ⊥
 IsNoTrace Usage = Unit {0}
 IsNoTrace (Refused fault) = Unit {0}

@@ -52,6 +52,11 @@ pub enum Command<'a> {
         options: Options,
         paths: &'a [String],
     },
+    /// What the program of the classes of these files prints; as for a trace.
+    Run {
+        options: Options,
+        paths: &'a [String],
+    },
     /// The class file of a listing.
     Assemble(&'a str),
     /// Whether each method of these files, of which there is at least one, has a typing.
@@ -94,24 +99,22 @@ fn schedule_of(
     }
 }
 
-/// The options of `trace`.
-fn trace_options(alloc: Global, given: &[Given<'_>]) -> Result<Option<Options>, NoMemory>
-    ensures options { IfOk result (λ options. options ≡ command.trace_options given.now) }
+/// How a program is run, in the format of this version.
+fn options_of(
+    alloc: Global,
+    version: Option<u64>,
+    given: &[Given<'_>],
+) -> Result<Option<Options>, NoMemory>
+    ensures options { IfOk result (λ options. options ≡ command.options_of version given.now) }
     ensures range { IfOk result (λ options. IfSome options AreOptions) }
 {
-    if !are_options(
-        &[b"flush", b"limit", b"format", b"quantum", b"words"],
-        given,
-    ) {
-        return Ok(None);
-    }
     let Some(interval) = number_or(0, 0, MOST_EVENTS, value_of(b"flush", given)) else {
         return Ok(None);
     };
     let Some(limit) = number_or(1_000_000_000, 0, MOST_EVENTS, value_of(b"limit", given)) else {
         return Ok(None);
     };
-    let Some(version) = number_or(1, 1, 2, value_of(b"format", given)) else {
+    let Some(version) = version else {
         return Ok(None);
     };
     let schedule = schedule_of(
@@ -128,6 +131,34 @@ fn trace_options(alloc: Global, given: &[Given<'_>]) -> Result<Option<Options>, 
         schedule,
         format: version_format(version),
     }))
+}
+
+/// The options of `trace`.
+fn trace_options(alloc: Global, given: &[Given<'_>]) -> Result<Option<Options>, NoMemory>
+    ensures options { IfOk result (λ options. options ≡ command.trace_options given.now) }
+    ensures range { IfOk result (λ options. IfSome options AreOptions) }
+{
+    if !are_options(
+        &[b"flush", b"limit", b"format", b"quantum", b"words"],
+        given,
+    ) {
+        return Ok(None);
+    }
+    let version = number_or(1, 1, 2, value_of(b"format", given));
+    let options = options_of(alloc, version, given)?;
+    Ok(options)
+}
+
+/// The options of `run`.
+fn run_options(alloc: Global, given: &[Given<'_>]) -> Result<Option<Options>, NoMemory>
+    ensures options { IfOk result (λ options. options ≡ command.run_options given.now) }
+    ensures range { IfOk result (λ options. IfSome options AreOptions) }
+{
+    if !are_options(&[b"flush", b"limit", b"quantum", b"words"], given) {
+        return Ok(None);
+    }
+    let options = options_of(alloc, Some(1), given)?;
+    Ok(options)
 }
 
 /// A nursery and an old space, or neither.
@@ -217,6 +248,22 @@ fn trace<'a>(alloc: Global, parts: &Split<'a>) -> Result<Option<Command<'a>>, No
     }
 }
 
+/// The command `run`.
+fn run<'a>(alloc: Global, parts: &Split<'a>) -> Result<Option<Command<'a>>, NoMemory>
+    ensures asked { IfOk result
+        (λ asked. option_map asked_by asked ≡ command.run (split_of parts.now)) }
+    ensures range { IfOk result (λ asked. IfSome asked AreInRange) }
+{
+    if parts.operands.is_empty() {
+        return Ok(None);
+    }
+    let paths = parts.operands;
+    match run_options(alloc, &parts.options)? {
+        Some(options) => Ok(Some(Command::Run { options, paths })),
+        None => Ok(None),
+    }
+}
+
 /// The command `replay`.
 fn replay<'a>(parts: &Split<'a>) -> Option<Command<'a>>
     ensures asked { option_map asked_by result ≡ command.replay (split_of parts.now) }
@@ -265,6 +312,7 @@ fn asked<'a>(alloc: Global, name: &str, parts: &Split<'a>) -> Result<Option<Comm
 {
     match name {
         "trace" => trace(alloc, parts),
+        "run" => run(alloc, parts),
         "asm" => Ok(plain_path(parts).map(Command::Assemble)),
         "verify" => Ok(plain_paths(parts).map(Command::Verify)),
         "replay" => Ok(replay(parts)),

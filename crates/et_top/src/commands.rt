@@ -17,7 +17,8 @@ use crate::follow_file::{follow_file, load_bytes};
 use crate::load_listing::load_listing;
 use crate::load_trace::load_trace_to;
 use crate::models::replay_trace;
-use crate::programs::{load_program, run};
+use crate::prints;
+use crate::programs::{self, load_program};
 use crate::status::Status;
 use crate::verdict::tell_verdict;
 use et_base::Steps;
@@ -63,7 +64,46 @@ pub fn trace<F: Files, O: Sink, E: Sink, L: Ledger>(
         (map string_bytes paths.now) → visits.new ≡ visits.old }
 {
     match load_program(alloc, paths, files) {
-        Ok(program) => run(alloc, &program, options, out, err, visits),
+        Ok(program) => programs::run(alloc, &program, options, out, err, visits),
+        Err(refusal) => refuse(alloc, err, &refusal),
+    }
+}
+
+/// The command `run`.
+pub fn run<F: Files, O: Sink, E: Sink, L: Ledger>(
+    alloc: Global,
+    options: &Options,
+    paths: &[String],
+    files: &mut F,
+    out: &mut O,
+    err: &mut E,
+    visits: &mut Steps<L>,
+) -> Status
+    requires options { AreOptions options.now }
+    requires some { 0 < length paths.now }
+    ensures gives { (held : Held) →
+        F.holds files.old ≡ Some held → (kinds : List Kind) (d : Defined) →
+        IsAskedDefined kinds (Some (words.Run options.now (map string_bytes paths.now))) held d →
+        (reached : Graph → ℕ → Bool) → Decides reached → GivesDefined reached (O.taken out.old)
+        (O.taken out.new) visits.old visits.new (Rose (F.faults files.old) (F.faults files.new))
+        (Rose (O.faults out.old) (O.faults out.new)) d result }
+    ensures usage { result ≡ Status.Usage → ⊥ }
+    ensures read_fault { F.faults files.new
+        ≡ count_after (is_read_status result) (F.faults files.old) }
+    ensures write_fault { O.faults out.new
+        ≡ count_after (is_write_status result) (O.faults out.old) }
+    ensures reads { ReadsInOrder (F.holds files.old) (F.asked files.old) (F.asked files.new)
+        (map string_bytes paths.now) result }
+    ensures no_visits { IsBeforeRun result → visits.new ≡ visits.old }
+    ensures no_trace { (held : Held) → F.holds files.old ≡ Some held → (kinds : List Kind)
+        (d : Defined) →
+        IsAskedDefined kinds (Some (words.Run options.now (map string_bytes paths.now))) held d →
+        IsNoTrace d → visits.new ≡ visits.old }
+    ensures unread { HasUnread (F.asked files.old) (F.asked files.new)
+        (map string_bytes paths.now) → visits.new ≡ visits.old }
+{
+    match load_program(alloc, paths, files) {
+        Ok(program) => prints::run(alloc, &program, options, out, err, visits),
         Err(refusal) => refuse(alloc, err, &refusal),
     }
 }

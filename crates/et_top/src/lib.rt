@@ -17,6 +17,7 @@ mod load_trace;
 mod models;
 mod numbers;
 mod options;
+mod prints;
 mod process;
 mod programs;
 mod refusal;

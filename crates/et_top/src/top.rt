@@ -13,7 +13,7 @@ ghost use Rattle.et_top.specs.Visits.{IsWithoutRun, IsNoTrace, HasUnread};
 use crate::answers::refuse;
 use crate::bench::{CELLS, ROUNDS, bench};
 use crate::command::{Command, read_words};
-use crate::commands::{assemble, convert, curve, replay, snapshot, trace, verify};
+use crate::commands::{assemble, convert, curve, replay, run, snapshot, trace, verify};
 use crate::refusal::Refusal;
 use crate::status::Status;
 use et_base::Steps;
@@ -58,6 +58,7 @@ fn perform<F: Files, O: Sink, E: Sink, L: Ledger>(
         Command::Trace { options, paths } => {
             trace(alloc, options, *paths, files, out, err, visits)
         }
+        Command::Run { options, paths } => { run(alloc, options, *paths, files, out, err, visits) }
         Command::Assemble(path) => assemble(alloc, *path, files, out, err),
         Command::Verify(paths) => verify(alloc, *paths, files, out, err),
         Command::Replay {
@@ -76,6 +77,8 @@ fn perform<F: Files, O: Sink, E: Sink, L: Ledger>(
 ///
 /// - `trace` reads the class files at the paths in their order, links them (JVMS 5.3, 5.4), runs their program from its
 ///   first state by the options, and writes the trace of its history. The counter tells how often objects were visited.
+/// - `run` reads and runs the same by the same options but that of the format, and writes the bytes that the program prints, and
+///   no trace.
 /// - `asm` reads a listing and writes its class file.
 /// - `verify` reads the class files at the paths as `trace` does and links them. Where each of their methods that have code
 ///   has a typing it writes how many these are; `Rejected` says which is the first that has none.
@@ -95,7 +98,7 @@ fn perform<F: Files, O: Sink, E: Sink, L: Ledger>(
 /// linking; a method that is rejected; the run. Each file is read once, and only when the one before it was found good. A
 /// read that fails counts one fault and is answered so, and so does a put; no other answer changes these counts. Until all
 /// that is read is known to be good, and to link, nothing is put to out; after `WriteFault` and `NoMemory` out took a prefix
-/// of the output. A fault of err changes nothing. Only the run of a trace or of a bench visits objects: no other answer
+/// of the output. A fault of err changes nothing. Only the run of a program or of a bench visits objects: no other answer
 /// changes the counter, nor does `NoMemory` where neither is defined or a file was not read.
 pub fn elephant<F: Files, O: Sink, E: Sink, L: Ledger>(
     alloc: Global,

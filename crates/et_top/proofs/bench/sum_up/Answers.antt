@@ -1,8 +1,7 @@
 use Rattle.std.proofs.Common.{refl, ap, subst}
 use Rattle.et_io.specs.Faults.{Rose}
-use Rattle.et_text.specs.declared.fault.TraceFault.TheVariants as faults
 use Rattle.et_top.specs.Bench.{IsNotReadBack}
-use Rattle.et_top.specs.Status.{is_read_status, is_write_status}
+use Rattle.et_top.specs.Status.{is_write_status}
 use Rattle.et_top.specs.Visits.{IsBeforeBench}
 use Rattle.et_top.proofs.BenchHistory.{bad_gives, want_gives}
 use Rattle.et_top.proofs.FaultLemmas.{same_count}

@@ -1,4 +1,4 @@
-use Rattle.std.proofs.Common.{ℕ, ◌∙◌, ◌++◌, ap}
+use Rattle.std.proofs.Common.{◌∙◌, ◌++◌, ap}
 use Rattle.std.specs.Fmt.{decimal}
 use Rattle.et_top.specs.Bench.{bench_listing, to_modulus, to_seed, to_length, to_cells, to_rounds, to_end}
 use Rattle.et_top.proofs.TextLemmas.{put_together}

@@ -1,5 +1,4 @@
-use Rattle.std.proofs.Common.{ℕ, List, Ok, subst, sym}
-use Rattle.et_base.specs.declared.line.TraceLine.{TraceLine}
+use Rattle.std.proofs.Common.{Ok, subst, sym}
 use Rattle.et_top.specs.Following.{FollowsBytes, FollowsTrace}
 use Rattle.et_top.specs.Loaded.{IsTraceOf}
 use Rattle.et_top.specs.Told.{cause_of, is_reading}

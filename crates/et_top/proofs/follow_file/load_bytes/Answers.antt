@@ -1,4 +1,4 @@
-use Rattle.std.proofs.Common.{subst, arith}
+use Rattle.std.proofs.Common.{subst}
 use Rattle.et_convert.specs.Spellings.{SpellsTrace}
 use Rattle.et_top.specs.Loaded.{IsTraceOf}
 use Rattle.et_top.specs.Told.{cause_of, is_reading}

@@ -103,3 +103,22 @@ pub returns-in-Bench-clause-unread : goal.returns-in-Bench-clause-unread
 returns-in-Bench-clause-unread g c few =
     let few' = subst (λ (x : Command). HasUnread (g.F.Files.asked c.args.files.now) (g.F.Files.asked c.args.files.now) (paths_of (Some (asked_by x)))) c.in-Bench.is few in
     absurd (omega (arith, few'))
+
+pub returns-in-Run-clause-gives : goal.returns-in-Run-clause-gives
+returns-in-Run-clause-gives g c held told d defined reached decides =
+    c.run.ensures.gives held told [] d (by_arm _ held d _ _ c.in-Run.is defined) reached decides
+
+pub returns-in-Run-clause-no_visits : goal.returns-in-Run-clause-no_visits
+returns-in-Run-clause-no_visits g c without =
+    c.run.ensures.no_visits (subst (λ (x : Command). IsWithoutRun (Some (asked_by x)) c.run.result) c.in-Run.is without)
+
+pub returns-in-Run-clause-no_trace : goal.returns-in-Run-clause-no_trace
+returns-in-Run-clause-no_trace g c held told d defined none =
+    c.run.ensures.no_trace held told [] d (by_arm _ held d _ _ c.in-Run.is defined) none
+
+pub returns-in-Run-clause-unread : goal.returns-in-Run-clause-unread
+returns-in-Run-clause-unread g c few =
+    c.run.ensures.unread (subst (λ (x : Command). HasUnread (g.F.Files.asked c.args.files.now) (g.F.Files.asked c.run.new.files) (paths_of (Some (asked_by x)))) c.in-Run.is few)
+
+pub returns-in-Run-clause-reads : goal.returns-in-Run-clause-reads
+returns-in-Run-clause-reads g c = subst (λ (x : Command). ReadsInOrder (g.F.Files.holds c.args.files.now) (g.F.Files.asked c.args.files.now) (g.F.Files.asked c.run.new.files) (paths_of (Some (asked_by x))) c.run.result) (sym c.in-Run.is) c.run.ensures.reads

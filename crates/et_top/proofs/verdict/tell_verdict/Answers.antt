@@ -1,4 +1,4 @@
-use Rattle.std.proofs.Common.{refl, ap, ◌∙◌, Err, sym}
+use Rattle.std.proofs.Common.{refl, ap, ◌∙◌, sym}
 use Rattle.et_io.specs.Faults.{Rose}
 use Rattle.et_top.specs.Status.{is_read_status, is_write_status}
 use Rattle.et_top.proofs.FaultLemmas.{same_count}

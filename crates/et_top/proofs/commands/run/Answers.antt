@@ -1,0 +1,57 @@
+use Rattle.std.proofs.Common.{sym, ◌∙◌, ap, subst, refl, map, string_bytes}
+use Rattle.et_io.specs.Faults.{Rose}
+use Rattle.et_top.specs.Reads.{ReadsInOrder}
+use Rattle.et_top.specs.declared.status.Status.{Status}
+use Rattle.et_top.specs.declared.status.Status.TheVariants as status
+use Rattle.et_top.specs.Status.{is_read_status, is_write_status}
+use Rattle.et_top.specs.Told.{cause_of, is_read_cause}
+use Rattle.et_top.proofs.FaultLemmas.{same_count, counted_as, read_status, no_write_status}
+use Rattle.et_top.proofs.ReadLemmas.{reads_whole}
+use Rattle.et_top.specs.Top.{prints, GivesDefined}
+use Rattle.et_top.specs.Visits.{IsNoTrace}
+use Rattle.et_top.proofs.PrintLemmas.{print_more}
+use Rattle.et_top.proofs.TopLemmas.{refused_print}
+use Rattle.et_top.proofs.VisitLemmas.{none_unread}
+use Rattle.et_top.proofs.commands.run.Goals as goal
+
+pub returns-in-Ok-clause-gives : goal.returns-in-Ok-clause-gives
+returns-in-Ok-clause-gives g c held told kinds d defined reached decides =
+    let before = g.O.Sink.taken c.args.out.now in
+    let after = g.O.Sink.taken c.run.new.out in
+    let old = c.args.visits.now in
+    let new = c.run.new.visits in
+    let read = Rose (g.F.Files.faults c.args.files.now) (g.F.Files.faults c.load_program.new.files) in
+    let written = Rose (g.O.Sink.faults c.args.out.now) (g.O.Sink.faults c.run.new.out) in
+    let is = defined.2 ∙ ap (prints c.args.options.now) (c.in-Ok.ensures.tells held told defined.0 defined.1) in
+    subst (λ x. GivesDefined reached before after old new read written x c.run.result) (sym is)
+    (print_more reached before after old new read written c.in-Ok.program c.args.options.now c.run.result (c.run.ensures.gives reached decides))
+
+pub returns-in-Err-clause-gives : goal.returns-in-Err-clause-gives
+returns-in-Err-clause-gives g c held told kinds d defined reached decides =
+    refused_print reached (g.O.Sink.taken c.args.out.now) c.args.visits.now c.args.visits.now (Rose (g.F.Files.faults c.args.files.now) (g.F.Files.faults c.load_program.new.files)) (Rose (g.O.Sink.faults c.args.out.now) (g.O.Sink.faults c.args.out.now))
+    c.args.options.now defined.0 c.in-Err.refusal d c.refuse.result defined.2 (c.in-Err.ensures.tells held told defined.0 defined.1) c.refuse.ensures refl
+
+pub returns-in-Ok-clause-no_visits : goal.returns-in-Ok-clause-no_visits
+returns-in-Ok-clause-no_visits g c before = absurd (c.run.ensures.of_run before)
+
+pub returns-in-Ok-clause-no_trace : goal.returns-in-Ok-clause-no_trace
+returns-in-Ok-clause-no_trace g c held told kinds d defined none =
+    absurd (subst IsNoTrace (defined.2 ∙ ap (prints c.args.options.now) (c.in-Ok.ensures.tells held told defined.0 defined.1)) none)
+
+pub returns-in-Ok-clause-unread : goal.returns-in-Ok-clause-unread
+returns-in-Ok-clause-unread g c few = absurd (none_unread _ _ _ _ c.in-Ok.ensures.reads few)
+
+pub returns-in-Ok-clause-read_fault : goal.returns-in-Ok-clause-read_fault
+returns-in-Ok-clause-read_fault g c = same_count (is_read_status c.run.result) _ _ c.in-Ok.ensures.faults c.run.ensures.no_read
+
+pub returns-in-Ok-clause-reads : goal.returns-in-Ok-clause-reads
+returns-in-Ok-clause-reads g c = reads_whole _ _ _ _ status.Done _ refl c.in-Ok.ensures.reads
+
+pub returns-in-Err-clause-reads : goal.returns-in-Err-clause-reads
+returns-in-Err-clause-reads g c = subst (λ (s : Status). ReadsInOrder (g.F.Files.holds c.args.files.now) (g.F.Files.asked c.args.files.now) (g.F.Files.asked c.load_program.new.files) (map string_bytes c.args.paths.now) s) (sym c.refuse.ensures) c.in-Err.ensures.reads
+
+pub returns-in-Err-clause-read_fault : goal.returns-in-Err-clause-read_fault
+returns-in-Err-clause-read_fault g c = counted_as (is_read_cause (cause_of c.in-Err.refusal)) (is_read_status c.refuse.result) _ _ c.in-Err.ensures.faults (ap is_read_status c.refuse.ensures ∙ read_status c.in-Err.refusal)
+
+pub returns-in-Err-clause-write_fault : goal.returns-in-Err-clause-write_fault
+returns-in-Err-clause-write_fault g c = same_count (is_write_status c.refuse.result) _ _ refl (ap is_write_status c.refuse.ensures ∙ no_write_status c.in-Err.refusal c.in-Err.ensures.file)
