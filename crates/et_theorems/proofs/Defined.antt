@@ -11,10 +11,10 @@ use Rattle.et_program.specs.Linking.{IsOfFile, IsLinked}
 use Rattle.et_replay.specs.declared.model.Kind.{Kind}
 use Rattle.et_state.specs.declared.options.Options.{Options}
 use Rattle.et_state.specs.Options.{AreOptions}
-use Rattle.et_top.specs.Command.{Asked, Trace, Assemble, Verify, Replay, Convert, Curve, Snapshot, Bench, command}
+use Rattle.et_top.specs.Command.{Asked, Trace, Run, Assemble, Verify, Replay, Convert, Curve, Snapshot, Bench, command}
 use Rattle.et_top.specs.Faults.{Fault, TooLong}
 use Rattle.et_top.specs.Loaded.{file_bytes, most_of_class, before, IsClassOf, AreClassesOf, IsLinkedOf, IsProgramOfFiles}
-use Rattle.et_top.specs.Top.{Defined, Usage, Refused, Traces, IsAskedDefined, IsDefined, traces, verifies, benches, defined_text, reaching}
+use Rattle.et_top.specs.Top.{Defined, Usage, Refused, Traces, IsAskedDefined, IsDefined, traces, prints, verifies, benches, defined_text, reaching}
 use Rattle.et_theorems.proofs.Ranges.{HasRanges, ranges_of_trace, command_has}
 
 -- OF FILES
@@ -81,6 +81,11 @@ unfolding IsTraces
 bench_traces_not (Ok p) is = is
 bench_traces_not (Err fault) is = is
 
+print_traces_not : (options : Options) (r : Result Linked Fault) → IsTraces (prints options r) → ⊥
+unfolding IsTraces
+print_traces_not options (Ok p) is = is
+print_traces_not options (Err fault) is = is
+
 verdict_traces_not : (r : Result Linked Fault) → IsTraces (verifies r) → ⊥
 unfolding IsTraces
 verdict_traces_not (Ok p) is = is
@@ -126,6 +131,7 @@ trace_by held p options other paths (Ok q) is e = record {
 pub trace_command : (kinds : List Kind) (held : Held) (o : Option Asked) (p : Linked) (options : Options) → IsAskedDefined kinds o held (Traces p options) → IsTraceCommand held o p options
 trace_command kinds held None p options is = absurd (usage_traces_not (is_traces p options _ is))
 trace_command kinds held (Some (Trace other paths)) p options (program, is, e) = trace_by held p options other paths program is e
+trace_command kinds held (Some (Run other paths)) p options (program, is, e) = absurd (print_traces_not other program (is_traces p options _ e))
 trace_command kinds held (Some (Assemble path)) p options (class, is, e) = absurd (text_traces_not _ class (is_traces p options _ e))
 trace_command kinds held (Some (Verify paths)) p options (program, is, e) = absurd (verdict_traces_not program (is_traces p options _ e))
 trace_command kinds held (Some (Replay models path)) p options (trace, is, e) = absurd (text_traces_not _ trace (is_traces p options _ e))

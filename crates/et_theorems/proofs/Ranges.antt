@@ -11,7 +11,7 @@ use Rattle.et_state.specs.Options.{AreOptions, IsSchedule}
 use Rattle.et_top.specs.declared.command.Models.{Models}
 use Rattle.et_top.specs.Words.{Given, Split, split}
 use Rattle.et_top.specs.Numbers.{is_number, spelled_number, number_within, each, numbers}
-use Rattle.et_top.specs.Command.{Asked, Trace, Assemble, Verify, Replay, Convert, Curve, Snapshot, Bench, command, asked, option_value, number_or, schedule_of, trace_options, replay_options, some_paths, plain_path, plain_paths, only_path, path_and_event}
+use Rattle.et_top.specs.Command.{Asked, Trace, Run, Assemble, Verify, Replay, Convert, Curve, Snapshot, Bench, command, asked, option_value, number_or, schedule_of, trace_options, run_options, replay_options, some_paths, plain_path, plain_paths, only_path, path_and_event}
 
 -- WHAT IS THERE
 
@@ -147,6 +147,10 @@ trace_has : (paths : List (List ℕ)) (o : Option Options) → IfSome o AreOptio
 trace_has [] o h = nothing_has
 trace_has (path ∷ paths) o h = some_or_none (length (path ∷ paths) == 0) (path ∷ paths) o (let some : 0 < length (path ∷ paths) = omega arith in some) h
 
+run_has : (paths : List (List ℕ)) (o : Option Options) → HasRanges (option_and_then (λ paths. option_map (λ options. Run options paths) o) (some_paths paths))
+unfolding HasRanges
+run_has paths o = then_has (λ paths. option_map (λ options. Run options paths) o) (some_paths paths) (λ paths. mapped_has (λ options. Run options paths) o (λ options. tt))
+
 snapshot_has : (operands : List (List ℕ)) → HasRanges (path_and_event operands)
 unfolding HasRanges
 snapshot_has [] = tt
@@ -181,13 +185,14 @@ bench_has o = mapped_has Bench o (λ number. tt)
 asked_has : (name : List ℕ) (s : Split) → HasRanges (asked name s)
 asked_has name s =
     either_has _ _ _ (trace_has s.operands (trace_options s.options) (options_within s.options))
+    (either_has _ _ _ (run_has s.operands (run_options s.options))
     (either_has _ _ _ (assemble_has (plain_path s))
     (either_has _ _ _ (verify_has (plain_paths s))
     (either_has _ _ _ (replay_has (replay_options s.options) (only_path s.operands))
     (either_has _ _ _ (convert_has (plain_path s))
     (either_has _ _ _ (curve_has (plain_path s))
     (either_has _ _ _ (either_has (length s.options == 0) _ _ (snapshot_has s.operands) nothing_has)
-    (either_has _ _ _ (bench_has (option_and_then (number_within 0 (2 ^ 63 - 1)) (plain_path s))) nothing_has)))))))
+    (either_has _ _ _ (bench_has (option_and_then (number_within 0 (2 ^ 63 - 1)) (plain_path s))) nothing_has))))))))
 
 split_has : (name : List ℕ) (o : Option Split) → HasRanges (option_and_then (asked name) o)
 split_has name None = nothing_has
