@@ -144,14 +144,22 @@ const SAD: &str = "class Sad java/lang/Thread 0021\nmethod <init> ()V 0001 1 1\n
 /// The line of an event without a meaning names its thread.
 #[test]
 fn a_second_thread_is_ill_typed(rt: HostRuntime) -> Result<(), Fail> {
-    let rows: [Row; 1] = [Row {
-        line: "trace Sad.class",
-        status: Status::IllTyped,
-        trace: b"H 1 0\nC 1 [Ljava/lang/String;\nA 0 0 1 1 24 0\nC 2 Sad\nN 1 2 main ([Ljava/lang/String;)V\nM 1 0 1 0\n\
+    let rows: [Row; 2] = [
+        Row {
+            line: "run Sad.class",
+            status: Status::IllTyped,
+            trace: b"",
+            refusal: b"elephant: ill typed 1 Sad run ()V 0\n",
+        },
+        Row {
+            line: "trace Sad.class",
+            status: Status::IllTyped,
+            trace: b"H 1 0\nC 1 [Ljava/lang/String;\nA 0 0 1 1 24 0\nC 2 Sad\nN 1 2 main ([Ljava/lang/String;)V\nM 1 0 1 0\n\
              A 2 0 2 2 24 0\nN 2 2 <init> ()V\nM 4 0 2 2\nE 7 0 2\nE 9 0 1\nN 3 2 run ()V\nM 11 1 3 2\nF 11 1\nD 1 8\n\
              Z 11 2\n",
-        refusal: b"elephant: ill typed 1 Sad run ()V 0\n",
-    }];
+            refusal: b"elephant: ill typed 1 Sad run ()V 0\n",
+        },
+    ];
     are_answered(&rt, rt.alloc(), &[("Sad.class", SAD)], &rows)
 }
 

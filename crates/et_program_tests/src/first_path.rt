@@ -205,7 +205,7 @@ fn files_are_refused(rt: HostRuntime) -> Result<(), Fail> {
     let alloc = rt.alloc();
     let long = vec![in alloc; 0u8; 1_048_577]?;
     let mut files = files_with(alloc, &long)?;
-    let rows: [(&str, Status, &[u8]); 4] = [
+    let rows: [(&str, Status, &[u8]); 8] = [
         (
             "trace Box.class",
             Status::TooLong,
@@ -218,6 +218,22 @@ fn files_are_refused(rt: HostRuntime) -> Result<(), Fail> {
         ),
         ("trace --flush", Status::Usage, b"elephant: usage\n"),
         ("trace", Status::Usage, b"elephant: usage\n"),
+        (
+            "run Box.class",
+            Status::TooLong,
+            b"elephant: too long Box.class\n",
+        ),
+        (
+            "run No.class",
+            Status::Absent,
+            b"elephant: absent No.class\n",
+        ),
+        (
+            "run --format 2 Box.class",
+            Status::Usage,
+            b"elephant: usage\n",
+        ),
+        ("run", Status::Usage, b"elephant: usage\n"),
     ];
     for (line, status, refusal) in rows {
         is_answered(&rt, alloc, &mut files, line, status, b"", refusal)?;
@@ -233,6 +249,27 @@ fn files_are_refused(rt: HostRuntime) -> Result<(), Fail> {
         b"",
         b"elephant: read fault Box.class\n",
     )
+}
+
+/// A program that prints nothing: `run` writes nothing, by any options, also where no write would succeed.
+#[test]
+fn nothing_is_printed(rt: HostRuntime) -> Result<(), Fail> {
+    let alloc = rt.alloc();
+    let lines = [
+        "run Box.class",
+        "run --flush 1 Box.class",
+        "run --limit 3 --words 0,1 -- Box.class",
+    ];
+    for line in lines {
+        let mut files = files_with(alloc, &BOX)?;
+        let mut out = MemSink::begin(alloc, 0);
+        let mut err = MemSink::begin(alloc, 1000);
+        out.fail_at(1)?;
+        let status = answer(alloc, line, &mut files, &mut out, &mut err)?;
+        assert_eq!(rt; status, Status::Done, "{line}");
+        assert!(rt; out.bytes().is_empty() && err.bytes().is_empty());
+    }
+    Ok(())
 }
 
 #[test]

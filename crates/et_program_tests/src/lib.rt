@@ -25,6 +25,8 @@ mod first_path;
 #[cfg(test)]
 mod linking;
 #[cfg(test)]
+mod prints;
+#[cfg(test)]
 mod process;
 #[cfg(test)]
 mod programs;
