@@ -135,7 +135,7 @@ public class Texts {
         list.add(list);
         Report.text(list.toString());
         Report.text(new AbstractMap.SimpleImmutableEntry<Object, Object>("a", null).toString());
-        Report.text(Collections.synchronizedList(list.subList(0, 3)).toString());
+        Report.text(Objects.toString(Collections.synchronizedList(list.subList(0, 3))));
         Report.text(Objects.toString(Collections.synchronizedMap(new HashMap<Object, Object>())));
         Report.text(Arrays.toString(new int[] {1, -2}));
         Report.text(Arrays.toString(new long[] {1, -2}));
