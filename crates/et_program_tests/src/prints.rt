@@ -59,7 +59,7 @@ const EQUAL: Printing = (
 /// A builder is no string, whatever its units are.
 const UNLIKE: Printing = (
     "Unlike",
-    "4 1\ngetstatic java/lang/System out Ljava/io/PrintStream;\nldc string ab\n\
+    "5 1\ngetstatic java/lang/System out Ljava/io/PrintStream;\nldc string ab\n\
      new java/lang/StringBuilder\ndup\nldc string ab\n\
      invokespecial java/lang/StringBuilder <init> (Ljava/lang/String;)V\n\
      invokevirtual java/lang/String equals (Ljava/lang/Object;)Z\n\
