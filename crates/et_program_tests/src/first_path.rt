@@ -262,7 +262,7 @@ fn nothing_is_printed(rt: HostRuntime) -> Result<(), Fail> {
     ];
     for line in lines {
         let mut files = files_with(alloc, &BOX)?;
-        let mut out = MemSink::begin(alloc, 0);
+        let mut out = MemSink::begin(alloc, 1000);
         let mut err = MemSink::begin(alloc, 1000);
         out.fail_at(1)?;
         let status = answer(alloc, line, &mut files, &mut out, &mut err)?;
