@@ -12,6 +12,7 @@ use Rattle.et_state.specs.Outcome.{Outcome}
 use Rattle.et_state.specs.State.{Kept, MachineState, kept_of}
 use Rattle.et_state.specs.Threads.{turn_of}
 use Rattle.et_state.specs.Words.{thread_at, top}
+use Rattle.et_event.specs.declared.rows.HeapRow.{HeapRow}
 use Rattle.et_event.specs.declared.rows.HeapRow.TheVariants as heap_rows
 use Rattle.et_event.specs.declared.rows.Row.{Row}
 use Rattle.et_event.specs.declared.rows.Row.TheVariants as rows
@@ -24,6 +25,7 @@ use Rattle.et_event.proofs.OutTurns.{out_at_turn}
 use Rattle.et_parts.proofs.Answering.{if_ok}
 use Rattle.et_parts.specs.Places.{IsPlace, site_at}
 use Rattle.et_parts.specs.declared.places.Place.{Place}
+use Rattle.et_refs.specs.Rows.{is_get_static}
 
 pub out_at_place : (p : Linked) (m : MachineState) (t : ℕ) (place : Place) → turn_of (thread_at m.guest t) ≡ Instruction → IsPlace p (top m.guest t) place → out_turn p (kept_of m) t ≡ out_at (moment p m t) (site_at place) place.row
 out_at_place p m t place turn is =
@@ -99,3 +101,45 @@ module _ {E : Type 0} (p : Linked) (m : MachineState) (t : ℕ) (o : Outcome Kep
 pub left_to_other : (p : Linked) (m : MachineState) (t : ℕ) (o : Outcome Kept) (end : EventEnd) (out : List Record) → end ≡ ends.Native (unwrap_or (top m.guest t).method 0) → out_method p (kept_of m) t ≡ Some (unwrap_or (top m.guest t).method 0)
     → DefersOrAnswers (out_method p (kept_of m) t) o end m m out out
 left_to_other p m t o end out named is = subst (λ (q : Option ℕ). DefersOrAnswers q o end m m out out) (sym is) (named, refl, refl)
+
+-- THE OTHER ROWS read no static field
+
+other_row : (e : Moment) (at : Site) (r : HeapRow) → is_get_static r ≡ false → false ≡ is_some (out_at e at (rows.Heap r))
+other_row e at heap_rows.GetStatic h = cc
+other_row e at heap_rows.PutStatic h = refl
+other_row e at heap_rows.GetField h = refl
+other_row e at heap_rows.PutField h = refl
+other_row e at (heap_rows.LoadElement k) h = refl
+other_row e at (heap_rows.StoreElement k) h = refl
+other_row e at heap_rows.New h = refl
+other_row e at heap_rows.NewArray h = refl
+other_row e at heap_rows.NewReferenceArray h = refl
+other_row e at heap_rows.NewMultiArray h = refl
+other_row e at heap_rows.ArrayLength h = refl
+other_row e at heap_rows.CheckCast h = refl
+other_row e at heap_rows.InstanceOf h = refl
+
+pub static_row : (r : HeapRow) → is_get_static r ≡ true → r ≡ heap_rows.GetStatic
+static_row heap_rows.GetStatic h = refl
+static_row heap_rows.PutStatic h = cc
+static_row heap_rows.GetField h = cc
+static_row heap_rows.PutField h = cc
+static_row (heap_rows.LoadElement k) h = cc
+static_row (heap_rows.StoreElement k) h = cc
+static_row heap_rows.New h = cc
+static_row heap_rows.NewArray h = cc
+static_row heap_rows.NewReferenceArray h = cc
+static_row heap_rows.NewMultiArray h = cc
+static_row heap_rows.ArrayLength h = cc
+static_row heap_rows.CheckCast h = cc
+static_row heap_rows.InstanceOf h = cc
+
+module _ (p : Linked) (m : MachineState) (t : ℕ) (place : Place) (r : HeapRow) (turn : turn_of (thread_at m.guest t) ≡ Instruction) (here : IsPlace p (top m.guest t) place) (row : place.row ≡ rows.Heap r) (other : is_get_static r ≡ false) where
+  is : false ≡ is_some (out_at (moment p m t) (site_at place) (rows.Heap r))
+  is = other_row (moment p m t) (site_at place) r other
+
+  pub none_left : out_method p (kept_of m) t ≡ None
+  none_left = not_left p m t place (rows.Heap r) false turn here row is refl
+
+  pub none_read : IsSome (out_turn p (kept_of m) t) → ⊥
+  none_read some = let at_true : false ≡ true = left_where p m t place (rows.Heap r) false turn here row is some in absurd (cc)

@@ -1,17 +1,16 @@
 -- What the instructions on fields, arrays and classes come to, by their rows.
-use Rattle.std.specs.Prelude.{◌≡◌, Bool, true, false, Result, Ok}
+use Rattle.std.specs.Prelude.{◌≡◌, Bool, true, false}
 use Rattle.et_state.specs.Threads.{FrameState}
 use Rattle.et_state.specs.State.{Kept, MachineState}
 use Rattle.et_state.specs.Outcome.{Outcome}
 use Rattle.et_program.specs.Entries.{Linked}
 use Rattle.et_event.specs.declared.rows.HeapRow.{HeapRow}
 use Rattle.et_event.specs.declared.rows.HeapRow.TheVariants.{GetStatic, NewMultiArray}
-use Rattle.et_event.specs.Heap.{get_static, new_multi_array}
+use Rattle.et_event.specs.Heap.{new_multi_array}
 use Rattle.et_event.specs.Moments.{Moment}
 use Rattle.et_event.specs.Sites.{Site}
 use Rattle.et_refs.specs.Accesses.{MayWant, wanted_outcome}
 use Rattle.et_refs.specs.Changes.{MayChange, change_outcome}
-use Rattle.et_refs.specs.declared.refusals.Refusal.{Refusal}
 use Rattle.et_refs.specs.declared.rows.Plan.{Plan}
 use Rattle.et_refs.specs.declared.rows.Plan.TheVariants as plan
 
@@ -20,16 +19,14 @@ abbrev pub plan_outcome : Moment → Site → Plan → Outcome Kept
 plan_outcome e at (plan.Change x) = change_outcome e at x
 plan_outcome e at (plan.Access x) = wanted_outcome e at x
 plan_outcome e at plan.Arrays = new_multi_array e at
-plan_outcome e at plan.Out = get_static e at
 
 -- what holds of the plan of a row
 abbrev pub MayDo : Linked → MachineState → FrameState → HeapRow → Plan → Type 0
 MayDo p m f r (plan.Change x) = MayChange m f x
 MayDo p m f r (plan.Access x) = MayWant p f x
 MayDo p m f r plan.Arrays = r ≡ NewMultiArray
-MayDo p m f r plan.Out = r ≡ GetStatic
 
--- the event is left to the call that reads System.out
-abbrev pub is_left : Result Plan Refusal → Bool
-is_left (Ok plan.Out) = true
-is_left other = false
+-- the row of getstatic
+abbrev pub is_get_static : HeapRow → Bool
+is_get_static GetStatic = true
+is_get_static other = false

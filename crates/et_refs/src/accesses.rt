@@ -137,6 +137,7 @@ fn write_static(
 }
 
 /// Makes an instance of a class in the event under way, and tells of it. It fits.
+#[inline(always)]
 pub(crate) fn make_object(
     program: &Program,
     machine: &mut Machine,

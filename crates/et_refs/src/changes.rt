@@ -73,6 +73,7 @@ fn give_value(machine: &mut Machine, thread: ThreadId, value: Value)
 }
 
 /// Takes so many operands, puts a value in their place, and sets the pc.
+#[inline(always)]
 pub fn replace_top(machine: &mut Machine, thread: ThreadId, taken: u32, value: Value, next: u32)
     requires frame { HasFrame machine.old.guest thread }
     requires operands { taken ≤ length (top machine.old.guest thread).operands }

@@ -24,6 +24,7 @@ use et_state::{EventEnd, Lines, Machine};
 use std::alloc::Global;
 
 /// Whether so many objects, with so many slots in all, may be made.
+#[inline(always)]
 pub(crate) fn has_room(machine: &Machine, objects: u32, slots: u32) -> bool
     ensures { result ≡ room_for machine.now.heap objects slots }
 {
@@ -42,6 +43,7 @@ fn access_fits(program: &Program, machine: &Machine, wanted: &Wanted) -> bool
 }
 
 /// The event of an access to a class that is done, or that this thread began.
+#[inline(always)]
 pub(crate) fn ready_event(
     program: &Program,
     machine: &mut Machine,
@@ -126,6 +128,7 @@ fn quiet_event(
 
 /// The event of an access: where its class is done, begun by this thread or quiet, that is done, and else what the
 /// initialization of the class asks for. After `NoMemory` the event may be half done.
+#[inline(always)]
 pub(crate) fn access_event(
     alloc: Global,
     program: &Program,

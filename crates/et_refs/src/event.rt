@@ -1,11 +1,13 @@
 //! The event call of the instructions on fields, arrays and classes.
 ghost use Rattle.std.specs.Prelude.{◌≡◌, ◌↔◌, ℕ, ◌+◌, ◌-◌, ◌≤◌, Some, unwrap_or, IfOk, IsSome, length};
 ghost use Rattle.et_event.specs.declared.families.Family.TheVariants as families;
+ghost use Rattle.et_event.specs.declared.rows.HeapRow.TheVariants as heap_rows;
 ghost use Rattle.et_event.specs.declared.rows.Row.TheVariants as row_kinds;
 ghost use Rattle.et_event.specs.Answered.{DefersOrAnswers};
 ghost use Rattle.et_event.specs.Beginning.{BeginsEvent};
 ghost use Rattle.et_event.specs.Event.{does, event};
 ghost use Rattle.et_event.specs.Families.{family_of, family_of_row};
+ghost use Rattle.et_event.specs.Heap.{get_static};
 ghost use Rattle.et_event.specs.Moments.{moment};
 ghost use Rattle.et_event.specs.Out.{out_method, out_turn};
 ghost use Rattle.et_state.specs.declared.ends.EventEnd.TheVariants as ends;
@@ -20,7 +22,8 @@ use crate::changes::carry_out;
 use crate::class_events::access_event;
 use crate::events::multi_array_event;
 use crate::refusals::refuse;
-use crate::rows::{Plan, plan_of};
+use crate::rows::{Plan, is_static_read, plan_of};
+use crate::static_fields::{is_out_class, read_field};
 use et_base::{MethodId, NoMemory, Steps, ThreadId};
 use et_event::{HeapRow, Row};
 use et_parts::{Place, ill_typed, place_of};
@@ -55,6 +58,37 @@ fn left(machine: &Machine, thread: ThreadId) -> EventEnd
     }
 }
 
+/// The event of a `getstatic` at the place where the thread stands, which is left to another call where System.out is read.
+/// After `NoMemory` the event may be half done.
+#[inline(always)]
+fn static_read_event(
+    alloc: Global,
+    program: &Program,
+    machine: &mut Machine,
+    thread: ThreadId,
+    place: &Place<'_>,
+    out: &mut Lines,
+) -> Result<EventEnd, NoMemory>
+    requires begins { BeginsEvent program.now machine.old thread }
+    requires turn { turn_of (thread_at machine.old.guest thread) ≡ turns.Instruction }
+    requires frame { HasFrame machine.old.guest thread }
+    requires place { IsPlace program.now (top machine.old.guest thread) place.now }
+    requires row { place.now.row ≡ row_kinds.Heap heap_rows.GetStatic }
+    ensures { IfOk result (λ end.
+        DefersOrAnswers (out_method program.now (kept_of machine.old) thread)
+        (get_static (moment program.now machine.old thread) (site_at place.now))
+        end machine.old machine.new out.old out.new) }
+{
+    let read = match read_field(program, machine, thread, place) {
+        Ok(read) => read,
+        Err(refusal) => return refuse(program, machine, thread, refusal, out),
+    };
+    if is_out_class(program, machine, read.class) {
+        return Ok(left(machine, thread));
+    }
+    access_event(alloc, program, machine, thread, place, &read.wanted(), out)
+}
+
 /// The event of the instruction at a place, which is one on fields, arrays and classes, for a caller that has decoded it. It
 /// answers what the table of events says of its row there, as [`refs_event`] does, and `Native` where that does, and visits as
 /// many objects at most. After `NoMemory` the event may be half done, and machine and records may only be dropped.
@@ -85,6 +119,9 @@ pub fn heap_row_event<L: Ledger>(
         - length machine.old.heap) }
 {
     let row = heap_row(place);
+    if is_static_read(row) {
+        return static_read_event(alloc, program, machine, thread, place, out);
+    }
     match plan_of(program, machine, thread, place, row, visits) {
         Ok(Plan::Change(change)) => {
             carry_out(program, machine, thread, place, change, out, visits)
@@ -93,7 +130,6 @@ pub fn heap_row_event<L: Ledger>(
             access_event(alloc, program, machine, thread, place, &wanted, out)
         }
         Ok(Plan::Arrays) => multi_array_event(alloc, program, machine, thread, place, out, visits),
-        Ok(Plan::Out) => Ok(left(machine, thread)),
         Err(refusal) => refuse(program, machine, thread, refusal, out),
     }
 }

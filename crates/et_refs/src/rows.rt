@@ -1,11 +1,8 @@
 //! What the instructions on fields, arrays and classes come to, by their rows.
-ghost use Rattle.std.specs.Prelude.{◌≡◌, ◌+◌, ◌<◌, ◌≤◌, ◌^◌, true, false, is_some, length, IfOk};
+ghost use Rattle.std.specs.Prelude.{◌≡◌, ◌+◌, ◌<◌, ◌≤◌, ◌^◌, false, length, IfOk};
 ghost use Rattle.et_event.specs.declared.rows.HeapRow.{HeapRow as OfHeap};
-ghost use Rattle.et_event.specs.declared.rows.HeapRow.TheVariants as heap_rows;
-ghost use Rattle.et_event.specs.declared.rows.Row.TheVariants as row_kinds;
-ghost use Rattle.et_event.specs.Heap.{get_static, heap_event};
+ghost use Rattle.et_event.specs.Heap.{heap_event};
 ghost use Rattle.et_event.specs.Moments.{Moment, moment};
-ghost use Rattle.et_event.specs.Out.{out_at};
 ghost use Rattle.et_event.specs.Programs.{AreElementsWithin, HasSlots};
 ghost use Rattle.et_event.specs.Sites.{Site, natural_of};
 ghost use Rattle.et_event.specs.Sound.{IsSoundFor};
@@ -15,7 +12,7 @@ ghost use Rattle.et_program.specs.Referring.{pool_of_class};
 ghost use Rattle.et_refs.specs.Accesses.{MayWant, wanted_outcome};
 ghost use Rattle.et_refs.specs.Changes.{MayExchange, MayStore, MayMake, exchange_outcome, store_outcome, new_array_outcome};
 ghost use Rattle.et_refs.specs.Refusals.{outcome_of};
-ghost use Rattle.et_refs.specs.Rows.{MayDo, is_left, plan_outcome};
+ghost use Rattle.et_refs.specs.Rows.{MayDo, is_get_static, plan_outcome};
 ghost use Rattle.et_state.specs.State.{MachineState, kept_of};
 ghost use Rattle.et_state.specs.Threads.{FrameState};
 ghost use Rattle.et_state.specs.Words.{HasFrame, top};
@@ -28,9 +25,7 @@ use crate::elements::{read_element, read_length, write_element};
 use crate::fields::{read_field, write_field};
 use crate::instances::new_object;
 use crate::refusals::Refusal;
-use crate::static_fields::{
-    is_out_class, read_field as read_static_field, write_field as write_static_field,
-};
+use crate::static_fields::write_field as write_static_field;
 use et_base::{Steps, ThreadId};
 use et_event::HeapRow;
 use et_parts::Place;
@@ -47,8 +42,6 @@ pub enum Plan {
     Access(Wanted),
     /// Arrays of some dimensions are made, where their checks allow it (`multianewarray`).
     Arrays,
-    /// System.out is read, which is left to another call.
-    Out,
 }
 
 /// A value that is put in the place of operands, as a plan.
@@ -57,7 +50,6 @@ fn put(answer: Result<Exchange, Refusal>) -> Result<Plan, Refusal>
         outcome_of e answer (exchange_outcome e at) ≡ outcome_of e result (plan_outcome e at) }
     ensures may { (p : Linked) (m : MachineState) (f : FrameState) (r : OfHeap) →
         IfOk answer (λ x. MayExchange m f x) → IfOk result (λ x. MayDo p m f r x) }
-    ensures left { is_left result ≡ false }
 {
     match answer {
         Ok(x) => Ok(Plan::Change(Change::Put(x))),
@@ -71,7 +63,6 @@ fn write(answer: Result<Store, Refusal>) -> Result<Plan, Refusal>
         outcome_of e answer (store_outcome e at) ≡ outcome_of e result (plan_outcome e at) }
     ensures may { (p : Linked) (m : MachineState) (f : FrameState) (r : OfHeap) →
         IfOk answer (λ x. MayStore m f x) → IfOk result (λ x. MayDo p m f r x) }
-    ensures left { is_left result ≡ false }
 {
     match answer {
         Ok(x) => Ok(Plan::Change(Change::Write(x))),
@@ -85,7 +76,6 @@ fn make(answer: Result<NewArray, Refusal>) -> Result<Plan, Refusal>
         outcome_of e answer (new_array_outcome e at) ≡ outcome_of e result (plan_outcome e at) }
     ensures may { (p : Linked) (m : MachineState) (f : FrameState) (r : OfHeap) →
         IfOk answer (λ x. MayMake f) → IfOk result (λ x. MayDo p m f r x) }
-    ensures left { is_left result ≡ false }
 {
     match answer {
         Ok(x) => Ok(Plan::Change(Change::Make(x))),
@@ -99,7 +89,6 @@ fn access(answer: Result<Wanted, Refusal>) -> Result<Plan, Refusal>
         outcome_of e answer (wanted_outcome e at) ≡ outcome_of e result (plan_outcome e at) }
     ensures may { (p : Linked) (m : MachineState) (f : FrameState) (r : OfHeap) →
         IfOk answer (λ x. MayWant p f x) → IfOk result (λ x. MayDo p m f r x) }
-    ensures left { is_left result ≡ false }
 {
     match answer {
         Ok(x) => Ok(Plan::Access(x)),
@@ -107,39 +96,29 @@ fn access(answer: Result<Wanted, Refusal>) -> Result<Plan, Refusal>
     }
 }
 
-/// What `getstatic` comes to.
-fn read_static(
-    program: &Program,
-    machine: &Machine,
-    thread: ThreadId,
-    place: &Place<'_>,
-) -> Result<Plan, Refusal>
-    requires frame { HasFrame machine.now.guest thread }
-    requires classes { length machine.now.guest.classes ≡ length program.now.classes }
-    requires class { place.now.class < length program.now.classes }
-    requires index { natural_of place.now.instr.first < 2 ^ 16 }
-    requires pool { (site_at place.now).pool ≡ pool_of_class program.now place.now.class }
-    requires slots { HasSlots program.now }
-    ensures is { get_static (moment program.now machine.now thread) (site_at place.now)
-        ≡ outcome_of (moment program.now machine.now thread) result
-        (plan_outcome (moment program.now machine.now thread) (site_at place.now)) }
-    ensures may { IfOk result
-        (λ x. MayDo program.now machine.now (top machine.now.guest thread) heap_rows.GetStatic x) }
-    ensures left { is_left result ≡ is_some (out_at (moment program.now machine.now thread)
-        (site_at place.now) (row_kinds.Heap heap_rows.GetStatic)) }
+/// Whether the row is that of `getstatic`.
+pub(crate) fn is_static_read(row: HeapRow) -> bool
+    ensures { result ≡ is_get_static row }
 {
-    let read = match read_static_field(program, machine, thread, place) {
-        Ok(read) => read,
-        Err(refusal) => return Err(refusal),
-    };
-    if is_out_class(program, machine, read.class) {
-        return Ok(Plan::Out);
+    match row {
+        HeapRow::GetStatic => true,
+        HeapRow::PutStatic
+        | HeapRow::GetField
+        | HeapRow::PutField
+        | HeapRow::LoadElement(_)
+        | HeapRow::StoreElement(_)
+        | HeapRow::New
+        | HeapRow::NewArray
+        | HeapRow::NewReferenceArray
+        | HeapRow::NewMultiArray
+        | HeapRow::ArrayLength
+        | HeapRow::CheckCast
+        | HeapRow::InstanceOf => false,
     }
-    Ok(Plan::Access(read.wanted()))
 }
 
-/// What the instruction of a row at the place where the thread stands comes to, or what refuses (JVMS 6.5). It visits objects
-/// four times at most, and none where System.out is read.
+/// What the instruction of a row at the place where the thread stands comes to, or what refuses (JVMS 6.5). A `getstatic` comes
+/// to no plan. It visits objects four times at most.
 pub fn plan_of<L: Ledger>(
     program: &Program,
     machine: &Machine,
@@ -155,18 +134,16 @@ pub fn plan_of<L: Ledger>(
     requires pool { (site_at place.now).pool ≡ pool_of_class program.now place.now.class }
     requires elements { AreElementsWithin program.now }
     requires slots { HasSlots program.now }
+    requires other { is_get_static row ≡ false }
     ensures is { heap_event (moment program.now machine.now thread) (site_at place.now) row
         ≡ outcome_of (moment program.now machine.now thread) result
         (plan_outcome (moment program.now machine.now thread) (site_at place.now)) }
     ensures may { IfOk result
         (λ x. MayDo program.now machine.now (top machine.now.guest thread) row x) }
-    ensures left { is_left result ≡ is_some (out_at (moment program.now machine.now thread)
-        (site_at place.now) (row_kinds.Heap row)) }
     ensures visits { visits.new ≤ visits.old + 4 }
-    ensures unvisited { is_left result ≡ true → visits.new ≡ visits.old }
 {
     match row {
-        HeapRow::GetStatic => read_static(program, machine, thread, place),
+        HeapRow::GetStatic => unreachable!(),
         HeapRow::PutStatic => access(write_static_field(program, machine, thread, place)),
         HeapRow::New => access(new_object(program, machine, thread, place)),
         HeapRow::GetField => put(read_field(program, machine, thread, place, visits)),

@@ -128,6 +128,7 @@ impl StaticRead {
 }
 
 /// The static field that `getstatic` reads.
+#[inline(always)]
 pub(crate) fn read_field(
     program: &Program,
     machine: &Machine,

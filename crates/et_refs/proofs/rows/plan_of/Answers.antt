@@ -1,5 +1,12 @@
+use Rattle.std.proofs.Common.{◌≡◌, true, false, sym, ◌∙◌, ap}
+use Rattle.et_refs.specs.Rows.{is_get_static}
 use Rattle.et_state.specs.Words.{top}
 use Rattle.et_refs.proofs.rows.plan_of.Goals as goal
+
+pub unreachable-requires : goal.unreachable-requires
+unreachable-requires g c =
+    let at_true : true ≡ false = ap is_get_static (sym c.in-GetStatic.is) ∙ c.requires.other in
+    absurd (cc)
 
 pub returns-in-PutStatic-clause-may : goal.returns-in-PutStatic-clause-may
 returns-in-PutStatic-clause-may g c = c.access.ensures.may c.args.program.now c.args.machine.now (top c.args.machine.now.guest c.args.thread) c.args.row c.write_field.ensures.may
