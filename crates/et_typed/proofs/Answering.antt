@@ -38,11 +38,11 @@ use Rattle.et_sound.proofs.Calling.{returned_as}
 use Rattle.et_state.specs.Outcome.{Outcome}
 use Rattle.et_state.specs.State.{Kept}
 use Rattle.et_state.specs.Threads.{ThreadState, most_threads, new_thread, no_thread, thread_with, with_top_of}
-use Rattle.et_verify.specs.declared.types.EntryType.{EntryType}
-use Rattle.et_verify.specs.declared.types.EntryType.TheVariants as entry
+use Rattle.et_flow.specs.declared.types.EntryType.{EntryType}
+use Rattle.et_flow.specs.declared.types.EntryType.TheVariants as entry
 use Rattle.et_verify.specs.Effects.{result_kind, returned_kind}
 use Rattle.et_verify.specs.Steps.{with_given}
-use Rattle.et_verify.specs.Types.{TypesOf, operand_entries, type_of}
+use Rattle.et_flow.specs.Types.{TypesOf, operand_entries, type_of}
 use Rattle.et_typed.specs.Typed.{HasTypedSlots, IsTypedThread, Typings}
 use Rattle.et_typed.specs.Values.{AreOperandsOf}
 use Rattle.et_typed.proofs.CallRows.{Calls, DoesBuiltIn, built_in_refuses, left_operands}

@@ -9,9 +9,9 @@ use Rattle.et_base.specs.declared.value.Value.TheVariants as value
 use Rattle.et_class.specs.PoolOperands.Operand.{Operand}
 use Rattle.et_class.specs.PoolOperands.Operand.TheVariants as operand
 use Rattle.et_event.specs.Calls.{are_of}
-use Rattle.et_verify.specs.declared.types.EntryType.{EntryType}
-use Rattle.et_verify.specs.declared.types.EntryType.TheVariants as entry
-use Rattle.et_verify.specs.Types.{type_of, operand_entries, local_entries}
+use Rattle.et_flow.specs.declared.types.EntryType.{EntryType}
+use Rattle.et_flow.specs.declared.types.EntryType.TheVariants as entry
+use Rattle.et_flow.specs.Types.{type_of, operand_entries, local_entries}
 use Rattle.et_verify.specs.Steps.{below_taken}
 use Rattle.et_typed.specs.Values.{AreOperandsOf}
 use Rattle.et_verify.proofs.Taken.{Takes, takes}

@@ -45,11 +45,12 @@ use Rattle.et_state.specs.Outcome.{Outcome}
 use Rattle.et_state.specs.State.{Kept}
 use Rattle.et_state.specs.Threads.{FrameState, ThreadState, entered_by, locals_with, no_thread, popped, rest_of, with_top_of}
 use Rattle.et_state.specs.Words.{thread_at}
-use Rattle.et_verify.specs.declared.types.EntryType.{EntryType}
+use Rattle.et_flow.specs.declared.types.EntryType.{EntryType}
 use Rattle.et_verify.specs.Effects.{Effect, all_kinds, arguments_with, call_effect, returned_kind, result_kind, type_effect}
 use Rattle.et_verify.specs.Steps.{below_taken, moved_where, with_given}
-use Rattle.et_verify.specs.Types.{TypesOf, local_entries, operand_entries, type_of}
-use Rattle.et_verify.specs.Typings.{IsTyping, argument_entries, first_types, with_free}
+use Rattle.et_flow.specs.Types.{TypesOf, local_entries, operand_entries, type_of}
+use Rattle.et_flow.specs.Stores.{with_free}
+use Rattle.et_verify.specs.Typings.{IsTyping, argument_entries, first_types}
 use Rattle.et_typed.specs.Refused.{FailsResolved, FailsRow, selected}
 use Rattle.et_typed.specs.Typed.{AreTypedFrames, AreTypings, Holds, HoldsBelow, IsTypedFrame, IsTypedThread, Typings, UnderCall, Whole, part_below, part_of}
 use Rattle.et_typed.specs.Values.{AreLocalsOf, AreOperandsOf}

@@ -38,11 +38,11 @@ use Rattle.et_state.specs.Outcome.{Outcome}
 use Rattle.et_state.specs.State.{Kept}
 use Rattle.et_state.specs.Threads.{operand_of}
 use Rattle.et_state.specs.Words.{static_at}
-use Rattle.et_verify.specs.declared.types.EntryType.{EntryType}
-use Rattle.et_verify.specs.declared.types.EntryType.TheVariants as entry
+use Rattle.et_flow.specs.declared.types.EntryType.{EntryType}
+use Rattle.et_flow.specs.declared.types.EntryType.TheVariants as entry
 use Rattle.et_verify.specs.Effects.{giving, result_kind}
 use Rattle.et_verify.specs.Steps.{below_taken}
-use Rattle.et_verify.specs.Types.{TypesOf, operand_entries, type_of}
+use Rattle.et_flow.specs.Types.{TypesOf, operand_entries, type_of}
 use Rattle.et_typed.specs.Refused.{FailsHolder, FailsRow, StandsBelow}
 use Rattle.et_typed.specs.Typed.{Typings}
 use Rattle.et_typed.specs.Values.{AreOperandsOf}

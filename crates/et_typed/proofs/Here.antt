@@ -18,13 +18,13 @@ use Rattle.et_state.specs.State.{Kept}
 use Rattle.et_state.specs.Threads.{FrameState, ThreadState, rest_of, with_top_of}
 use Rattle.et_state.specs.Words.{thread_at}
 use Rattle.et_state.specs.declared.stage.Stage.{Stage}
-use Rattle.et_verify.specs.declared.types.EntryType.{EntryType}
-use Rattle.et_verify.specs.declared.types.EntryType.TheVariants as entry
-use Rattle.et_verify.specs.Types.{AreBelow, AreTypesBelow, IsBelow, TypesOf, type_of}
-use Rattle.et_verify.specs.Flows.{AreAbove, IsThere, Typing}
+use Rattle.et_flow.specs.declared.types.EntryType.{EntryType}
+use Rattle.et_flow.specs.declared.types.EntryType.TheVariants as entry
+use Rattle.et_flow.specs.Types.{AreBelow, AreTypesBelow, IsBelow, TypesOf, type_of}
+use Rattle.et_flow.specs.Flows.{AreAbove, IsThere, Typing}
 use Rattle.et_verify.specs.Leads.{goes_past, next_places}
 use Rattle.et_verify.specs.Steps.{locals_after, operands_after, types_after}
-use Rattle.et_verify.proofs.Below.{below_trans}
+use Rattle.et_flow.proofs.Below.{below_trans}
 use Rattle.et_verify.proofs.Monotone.{AreSomeBelow, after_below}
 use Rattle.et_verify.proofs.Taken.{FitsAs}
 use Rattle.et_typed.specs.Refused.{FailsRow}

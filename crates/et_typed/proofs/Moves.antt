@@ -12,10 +12,10 @@ use Rattle.et_event.specs.Checks.{entries_of}
 use Rattle.et_event.specs.Kinds.{or_zero}
 use Rattle.et_event.specs.Sites.{Member}
 use Rattle.et_event.specs.Sound.{is_of_kind}
-use Rattle.et_verify.specs.declared.types.EntryType.{EntryType}
+use Rattle.et_flow.specs.declared.types.EntryType.{EntryType}
 use Rattle.et_verify.specs.Effects.{Effect, described_by, giving, result_kind, taking}
 use Rattle.et_verify.specs.Steps.{below_taken, moved_where}
-use Rattle.et_verify.specs.Types.{operand_entries, type_of}
+use Rattle.et_flow.specs.Types.{operand_entries, type_of}
 use Rattle.et_typed.proofs.Plain.{MovesAs, moves_as}
 
 pub none_some : {A : Type 0} (x : A) → None ≡ Some x → ⊥

@@ -28,10 +28,10 @@ use Rattle.et_state.specs.State.{Kept}
 use Rattle.et_state.specs.Words.{class_state_at, static_at, with_static}
 use Rattle.et_state.specs.declared.stage.Turn.{Turn}
 use Rattle.et_state.specs.declared.stage.Turn.TheVariants.{Instruction}
-use Rattle.et_verify.specs.declared.types.EntryType.{EntryType}
-use Rattle.et_verify.specs.declared.types.EntryType.TheVariants as entry
+use Rattle.et_flow.specs.declared.types.EntryType.{EntryType}
+use Rattle.et_flow.specs.declared.types.EntryType.TheVariants as entry
 use Rattle.et_verify.specs.Effects.{result_kind}
-use Rattle.et_verify.specs.Types.{TypesOf, operand_entries, type_of}
+use Rattle.et_flow.specs.Types.{TypesOf, operand_entries, type_of}
 use Rattle.et_typed.specs.Typed.{Typings}
 use Rattle.et_typed.specs.Values.{AreOperandsOf}
 use Rattle.et_typed.proofs.Here.{Here, leaves}

@@ -15,7 +15,7 @@ use Rattle.et_state.specs.State.{Kept}
 use Rattle.et_state.specs.Threads.{FrameState, ThreadState, as_entered, first_frame, has_frame, no_thread, rest_of, with_pending}
 use Rattle.et_heap.specs.Objects.{ObjectState, object_at, slot_of, with_object_at, with_slot}
 use Rattle.et_state.specs.Words.{static_at, thread_at, with_static}
-use Rattle.et_verify.specs.Flows.{Typing}
+use Rattle.et_flow.specs.Flows.{Typing}
 use Rattle.et_typed.specs.Refused.{IsRefused}
 use Rattle.et_typed.specs.Typed.{AreTypedFrames, HoldsLocals, HoldsPart, IsTypedFrame, IsTypedThread, LocalsAlone, Part, Typings, UnderCall, Whole, part_below}
 

@@ -7,12 +7,12 @@ use Rattle.std.proofs.lemmas.List.{length-set, get_or_past}
 use Rattle.et_base.specs.declared.value.Value.{Value}
 use Rattle.et_base.specs.declared.value.Value.TheVariants as value
 use Rattle.et_event.specs.Plain.{long_stored, other_half_unset, freed, one_stored}
-use Rattle.et_verify.specs.declared.types.EntryType.{EntryType}
-use Rattle.et_verify.specs.declared.types.EntryType.TheVariants as entry
-use Rattle.et_verify.specs.Types.{IsBelow, type_of}
-use Rattle.et_verify.specs.Steps.{is_long, is_high, without_lower, without_upper, one_set, long_set}
+use Rattle.et_flow.specs.declared.types.EntryType.{EntryType}
+use Rattle.et_flow.specs.declared.types.EntryType.TheVariants as entry
+use Rattle.et_flow.specs.Types.{IsBelow, type_of}
+use Rattle.et_flow.specs.Stores.{is_long, is_high, without_lower, without_upper, one_set, long_set}
 use Rattle.et_typed.specs.Values.{ArePaired, type_at, AreLocalsOf}
-use Rattle.et_verify.proofs.Stores.{gone_if, kept_at, kept_below, not_eqb, kept_there, length-kept}
+use Rattle.et_flow.proofs.Stores.{gone_if, kept_at, kept_below, not_eqb, kept_there, length-kept}
 
 -- ONE ENTRY
 

@@ -24,11 +24,12 @@ use Rattle.et_event.specs.declared.rows.FrameRow.TheVariants as row
 use Rattle.et_event.specs.declared.rows.Row.TheVariants as rows
 use Rattle.et_event.specs.Plain.{put, put_some, loaded_long, loaded, combined, negated, values_moved, converted, compared, condition_tested, branched, switched, frame_after}
 use Rattle.et_event.specs.Sites.{Site, target, local_index}
-use Rattle.et_verify.specs.declared.types.EntryType.{EntryType}
-use Rattle.et_verify.specs.declared.types.EntryType.TheVariants as entry
-use Rattle.et_verify.specs.Types.{TypesOf, type_of, operand_entries}
+use Rattle.et_flow.specs.declared.types.EntryType.{EntryType}
+use Rattle.et_flow.specs.declared.types.EntryType.TheVariants as entry
+use Rattle.et_flow.specs.Types.{TypesOf, type_of, operand_entries}
 use Rattle.et_verify.specs.Effects.{Effect, frame_effect}
-use Rattle.et_verify.specs.Steps.{is_long, is_high, holds, below_taken, with_given, moved_by, operands_after, where_holds, locals_by, locals_after}
+use Rattle.et_flow.specs.Stores.{is_long, is_high, holds}
+use Rattle.et_verify.specs.Steps.{below_taken, with_given, moved_by, operands_after, where_holds, locals_by, locals_after}
 use Rattle.et_verify.specs.Leads.{goes_past}
 use Rattle.et_typed.specs.Values.{AreOperandsOf, AreLocalsOf}
 use Rattle.et_verify.proofs.Taken.{FitsAs}

@@ -30,12 +30,13 @@ use Rattle.et_event.specs.declared.rows.Rearrangement.{Rearrangement}
 use Rattle.et_event.specs.declared.rows.Row.TheVariants as rows
 use Rattle.et_heap.specs.Objects.{referent_value}
 use Rattle.et_state.specs.Threads.{FrameState}
-use Rattle.et_verify.specs.declared.types.EntryType.{EntryType}
-use Rattle.et_verify.specs.declared.types.EntryType.TheVariants as entry
+use Rattle.et_flow.specs.declared.types.EntryType.{EntryType}
+use Rattle.et_flow.specs.declared.types.EntryType.TheVariants as entry
 use Rattle.et_verify.specs.Effects.{giving, kind_of_constant, taking}
 use Rattle.et_verify.specs.Leads.{goes_past, next_places}
-use Rattle.et_verify.specs.Steps.{holds, moved_where, where_holds}
-use Rattle.et_verify.specs.Types.{TypesOf, operand_entries, type_of}
+use Rattle.et_flow.specs.Stores.{holds}
+use Rattle.et_verify.specs.Steps.{moved_where, where_holds}
+use Rattle.et_flow.specs.Types.{TypesOf, operand_entries, type_of}
 use Rattle.et_verify.proofs.Monotone.{int_is}
 use Rattle.et_typed.specs.Typed.{Typings, Whole}
 use Rattle.et_typed.specs.Values.{AreLocalsOf, AreOperandsOf}

@@ -32,13 +32,13 @@ use Rattle.et_state.specs.State.{Kept}
 use Rattle.et_state.specs.Threads.{FrameState, ThreadState, rest_of}
 use Rattle.et_state.specs.declared.stage.Stage.{Stage}
 use Rattle.et_state.specs.declared.stage.Stage.TheVariants.{Before, Clinit, Plain}
-use Rattle.et_verify.specs.declared.types.EntryType.{EntryType}
+use Rattle.et_flow.specs.declared.types.EntryType.{EntryType}
 use Rattle.et_verify.specs.Effects.{Effect, kinds_returned, result_kind, return_effect, returned_kind, taking}
 use Rattle.et_verify.specs.Leads.{next_places, site_in}
 use Rattle.et_verify.specs.Steps.{types_after, below_taken, locals_after, moved_where, operands_after, with_given}
-use Rattle.et_verify.specs.Types.{TypesOf, operand_entries, type_of}
+use Rattle.et_flow.specs.Types.{TypesOf, operand_entries, type_of}
 use Rattle.et_verify.specs.Typings.{AreThere, IsAccepted, IsTyping}
-use Rattle.et_verify.specs.Flows.{IsThere}
+use Rattle.et_flow.specs.Flows.{IsThere}
 use Rattle.et_code.specs.Decoding.{instruction_at}
 use Rattle.et_program.specs.Referring.{pool_of_class}
 use Rattle.et_verify.proofs.Taken.{FitsAs, fits_as}

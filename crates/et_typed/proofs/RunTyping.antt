@@ -28,13 +28,14 @@ use Rattle.et_event.specs.declared.rows.Row.TheVariants as rows
 use Rattle.et_pool.specs.Entries.{Item, slots_of}
 use Rattle.et_program.specs.Entries.{Linked, is_static, method_at}
 use Rattle.et_program.specs.MembersOf.{boot_body}
-use Rattle.et_verify.specs.declared.types.EntryType.{EntryType}
-use Rattle.et_verify.specs.declared.types.EntryType.TheVariants as entry
-use Rattle.et_verify.specs.Flows.{IsThere, Typing}
+use Rattle.et_flow.specs.declared.types.EntryType.{EntryType}
+use Rattle.et_flow.specs.declared.types.EntryType.TheVariants as entry
+use Rattle.et_flow.specs.Flows.{IsThere, Typing}
 use Rattle.et_verify.specs.Leads.{next_places, site_in}
 use Rattle.et_verify.specs.Steps.{types_after}
-use Rattle.et_verify.specs.Types.{AreTypesBelow, TypesOf}
-use Rattle.et_verify.specs.Typings.{AreThere, FitFrame, IsAccepted, IsTyping, argument_entries, first_types, with_free}
+use Rattle.et_flow.specs.Types.{AreTypesBelow, TypesOf}
+use Rattle.et_flow.specs.Stores.{with_free}
+use Rattle.et_verify.specs.Typings.{AreThere, FitFrame, IsAccepted, IsTyping, argument_entries, first_types}
 use Rattle.et_typed.proofs.Entering.{void_is, void_typed}
 use Rattle.et_typed.proofs.Moves.{none_some, some_same}
 

@@ -23,7 +23,7 @@ use Rattle.et_state.specs.Threads.{FrameState, turn_of}
 use Rattle.et_state.specs.declared.stage.Turn.TheVariants.{Instruction}
 use Rattle.et_verify.specs.Leads.{next_places, site_in}
 use Rattle.et_verify.specs.Steps.{locals_after, operands_after, types_after}
-use Rattle.et_verify.specs.Types.{TypesOf}
+use Rattle.et_flow.specs.Types.{TypesOf}
 use Rattle.et_verify.specs.Typings.{AreThere, IsAccepted, IsTyping}
 use Rattle.et_verify.proofs.Taken.{fits_as}
 use Rattle.et_typed.specs.Typed.{Holds, IsTypedFrame, Typings, Whole}

@@ -12,11 +12,12 @@ use Rattle.et_class.specs.Operands.{operand_kind}
 use Rattle.et_class.specs.Descriptors.{MethodType, width_of}
 use Rattle.et_event.specs.Calls.{entry_count}
 use Rattle.et_state.specs.Threads.{locals_with}
-use Rattle.et_verify.specs.declared.types.EntryType.{EntryType}
-use Rattle.et_verify.specs.declared.types.EntryType.TheVariants as entry
+use Rattle.et_flow.specs.declared.types.EntryType.{EntryType}
+use Rattle.et_flow.specs.declared.types.EntryType.TheVariants as entry
 use Rattle.et_verify.specs.Effects.{all_kinds, arguments_with}
-use Rattle.et_verify.specs.Types.{local_entries, operand_entries, type_of}
-use Rattle.et_verify.specs.Typings.{argument_entries, parameter_entries, with_free}
+use Rattle.et_flow.specs.Types.{local_entries, operand_entries, type_of}
+use Rattle.et_flow.specs.Stores.{with_free}
+use Rattle.et_verify.specs.Typings.{argument_entries, parameter_entries}
 use Rattle.et_typed.specs.Values.{AreLocalsOf, ArePaired, type_at}
 use Rattle.et_typed.proofs.Moves.{none_some, some_same, width_is}
 

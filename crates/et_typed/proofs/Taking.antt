@@ -8,9 +8,9 @@ use Rattle.et_class.specs.PoolOperands.Operand.{Operand}
 use Rattle.et_class.specs.PoolOperands.Operand.TheVariants as operand
 use Rattle.et_event.specs.Checks.{Reference, with_int, with_long, with_reference, with_value, entries_of}
 use Rattle.et_heap.specs.Objects.{referent_value}
-use Rattle.et_verify.specs.declared.types.EntryType.{EntryType}
-use Rattle.et_verify.specs.declared.types.EntryType.TheVariants as entry
-use Rattle.et_verify.specs.Types.{type_of, operand_entries}
+use Rattle.et_flow.specs.declared.types.EntryType.{EntryType}
+use Rattle.et_flow.specs.declared.types.EntryType.TheVariants as entry
+use Rattle.et_flow.specs.Types.{type_of, operand_entries}
 use Rattle.et_verify.specs.Steps.{below_taken}
 use Rattle.et_verify.proofs.Taken.{Takes, takes}
 use Rattle.et_typed.specs.Values.{AreOperandsOf}

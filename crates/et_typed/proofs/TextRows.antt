@@ -34,11 +34,11 @@ use Rattle.et_state.specs.Outcome as outcome
 use Rattle.et_state.specs.Spoken.{text_of}
 use Rattle.et_state.specs.State.{Kept}
 use Rattle.et_state.specs.Texts.{longest_text, most_units, text_units}
-use Rattle.et_verify.specs.declared.types.EntryType.{EntryType}
-use Rattle.et_verify.specs.declared.types.EntryType.TheVariants as entry
+use Rattle.et_flow.specs.declared.types.EntryType.{EntryType}
+use Rattle.et_flow.specs.declared.types.EntryType.TheVariants as entry
 use Rattle.et_verify.specs.Effects.{arguments_with}
 use Rattle.et_verify.specs.Steps.{with_given}
-use Rattle.et_verify.specs.Types.{TypesOf, local_entries, type_of}
+use Rattle.et_flow.specs.Types.{TypesOf, local_entries, type_of}
 use Rattle.et_typed.specs.Typed.{Typings}
 use Rattle.et_typed.specs.Values.{AreOperandsOf}
 use Rattle.et_typed.proofs.CallRows.{Calls, Resolved, left_operands, passes, selected_called, text_refuses}

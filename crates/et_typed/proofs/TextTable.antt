@@ -16,11 +16,11 @@ use Rattle.et_program.specs.BootTexts.TextMethod.TheVariants.{Append, Begin, Beg
 use Rattle.et_program.specs.BuiltIns.{text_method_in, text_method_of}
 use Rattle.et_program.specs.Entries.{Linked, method_at, no_class}
 use Rattle.et_program.specs.declared.info.MethodInfo.{MethodInfo}
-use Rattle.et_verify.specs.declared.types.EntryType.{EntryType}
-use Rattle.et_verify.specs.declared.types.EntryType.TheVariants as entry
+use Rattle.et_flow.specs.declared.types.EntryType.{EntryType}
+use Rattle.et_flow.specs.declared.types.EntryType.TheVariants as entry
 use Rattle.et_verify.specs.Effects.{result_kind, returned_kind}
 use Rattle.et_verify.specs.Steps.{with_given}
-use Rattle.et_verify.specs.Types.{operand_entries}
+use Rattle.et_flow.specs.Types.{operand_entries}
 use Rattle.et_typed.proofs.Answering.{answers_as, described, nothing_given, reference_given}
 use Rattle.et_typed.proofs.Moves.{none_some, some_same}
 

@@ -14,10 +14,12 @@ use Rattle.et_event.specs.declared.rows.Rearrangement.{Rearrangement}
 use Rattle.et_event.specs.Plain as machine
 use Rattle.et_event.specs.Plain.{long_stored, is_value_pair, is_one_value, are_groups, groups_of, operand_places, rearranged, put, one_stored, with_locals, stored, increased}
 use Rattle.et_event.specs.Checks.{Reference}
-use Rattle.et_verify.specs.declared.types.EntryType.{EntryType}
-use Rattle.et_verify.specs.declared.types.EntryType.TheVariants as entry
-use Rattle.et_verify.specs.Types.{TypesOf, IsBelow, type_of}
-use Rattle.et_verify.specs.Steps.{long_set, is_single, is_one, is_pair, have_groups, rearranged_types, below_taken, one_set, where_within, set_to}
+use Rattle.et_flow.specs.declared.types.EntryType.{EntryType}
+use Rattle.et_flow.specs.declared.types.EntryType.TheVariants as entry
+use Rattle.et_flow.specs.Types.{TypesOf, IsBelow, type_of}
+use Rattle.et_flow.specs.Stores.{long_set, one_set, where_within, set_to}
+use Rattle.et_flow.specs.Types.{is_single}
+use Rattle.et_verify.specs.Steps.{is_one, is_pair, have_groups, rearranged_types, below_taken}
 use Rattle.et_typed.specs.Values.{AreOperandsOf, AreLocalsOf, type_at}
 use Rattle.et_typed.proofs.Taking.{typed_int, long_taken, int_taken, reference_taken}
 use Rattle.et_typed.proofs.Plain.{Steps, put_steps}

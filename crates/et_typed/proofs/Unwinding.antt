@@ -30,9 +30,10 @@ use Rattle.et_state.specs.declared.class_state.ClassState.TheVariants.{Failed}
 use Rattle.et_state.specs.declared.records.Record.TheVariants.{Unwind}
 use Rattle.et_state.specs.declared.stage.Stage.{Stage}
 use Rattle.et_state.specs.declared.stage.Stage.TheVariants.{Before, Clinit, Plain}
-use Rattle.et_verify.specs.Flows.{AreAbove, IsThere}
-use Rattle.et_verify.specs.Leads.{caught as caught_types, handlers_at, is_of_program, may_handle}
-use Rattle.et_verify.specs.Types.{TypesOf}
+use Rattle.et_flow.specs.Flows.{AreAbove, IsThere}
+use Rattle.et_flow.specs.Types.{caught as caught_types}
+use Rattle.et_verify.specs.Leads.{handlers_at, is_of_program, may_handle}
+use Rattle.et_flow.specs.Types.{TypesOf}
 use Rattle.et_verify.specs.Typings.{IsAccepted, IsTyping}
 use Rattle.et_typed.specs.Typed.{AreTypedFrames, AreTypings, Holds, HoldsLocals, IsTypedFrame, IsTypedThread, LocalsAlone, Typings, Whole, part_below, part_of}
 use Rattle.et_typed.proofs.Here.{there_holds}

@@ -25,7 +25,7 @@ use Rattle.et_program.specs.Loaded.{LoadedClass, loaded_class}
 use Rattle.et_program.specs.MembersOf.{HasPools, boot_body, boot_methods, file_method, methods_of, numbered}
 use Rattle.et_program.specs.ProgramOf.{IsProgramOf, is_of_file, program_with}
 use Rattle.et_program.specs.declared.info.MethodInfo.{MethodInfo}
-use Rattle.et_verify.specs.Flows.{Typing}
+use Rattle.et_flow.specs.Flows.{Typing}
 use Rattle.et_verify.specs.Typings.{IsTyping, IsVerified}
 use Rattle.et_typed.specs.Typed.{AreTypings, Typings}
 use Rattle.et_typed.proofs.LinkedFields.{initializers_named, linked_operands}

@@ -34,7 +34,7 @@ use Rattle.et_event.specs.TextRows.{is_fit_text}
 use Rattle.et_event.specs.Throw.{is_throwable}
 use Rattle.et_sound.specs.Places.{IsAtRow}
 use Rattle.et_typed.specs.Values.{types_of}
-use Rattle.et_verify.specs.Types.{operand_entries}
+use Rattle.et_flow.specs.Types.{operand_entries}
 use Rattle.et_verify.specs.Steps.{types_after}
 
 -- so far below the topmost operand stands an object

@@ -24,13 +24,13 @@ use Rattle.et_event.specs.Moments.{Moment}
 use Rattle.et_event.specs.Sites.{decoded_at, site_of}
 use Rattle.et_event.specs.Sound.{is_of_kind}
 use Rattle.et_event.specs.Table.{row_of}
-use Rattle.et_verify.specs.declared.types.EntryType.{EntryType}
-use Rattle.et_verify.specs.Types.{TypesOf}
+use Rattle.et_flow.specs.declared.types.EntryType.{EntryType}
+use Rattle.et_flow.specs.Types.{TypesOf}
 use Rattle.et_typed.specs.Values.{AreOperandsOf, AreLocalsOf}
 use Rattle.et_event.specs.Calls.{is_static_call}
 use Rattle.et_verify.specs.Effects.{Effect, call_effect}
 use Rattle.et_verify.specs.Steps.{below_taken}
-use Rattle.et_verify.specs.Flows.{Typing}
+use Rattle.et_flow.specs.Flows.{Typing}
 use Rattle.et_typed.specs.Refused.{IsRefused}
 
 -- a typing for each method

@@ -14,11 +14,12 @@ use Rattle.et_code.proofs.Starting.{starts_are_all}
 use Rattle.et_program.specs.Entries.{Linked, method_at, is_static}
 use Rattle.et_event.specs.Programs.{is_initializing}
 use Rattle.et_event.specs.Sound.{returned_of}
-use Rattle.et_verify.specs.declared.types.EntryType.{EntryType}
-use Rattle.et_verify.specs.declared.types.EntryType.TheVariants as entry
-use Rattle.et_verify.specs.Types.{TypesOf}
-use Rattle.et_verify.specs.Flows.{AreAbove, IsTyping as IsFlowTyping, HasTyping as HasFlowTyping}
-use Rattle.et_verify.specs.Typings.{argument_entries, with_free, first_types, FitFrame, IsTyping, HasTyping, leads_in}
+use Rattle.et_flow.specs.declared.types.EntryType.{EntryType}
+use Rattle.et_flow.specs.declared.types.EntryType.TheVariants as entry
+use Rattle.et_flow.specs.Types.{TypesOf}
+use Rattle.et_flow.specs.Flows.{AreAbove, IsTyping as IsFlowTyping, HasTyping as HasFlowTyping}
+use Rattle.et_flow.specs.Stores.{with_free}
+use Rattle.et_verify.specs.Typings.{argument_entries, first_types, FitFrame, IsTyping, HasTyping, leads_in}
 use Rattle.et_verify.proofs.Exact.{flow_typing}
 use Rattle.et_verify.proofs.Restricted.{restricted, method_typing}
 

@@ -14,9 +14,9 @@ use Rattle.et_event.specs.declared.rows.Row.{Row}
 use Rattle.et_event.specs.declared.rows.Row.TheVariants as rows
 use Rattle.et_event.specs.Plain.{groups_of, operand_places}
 use Rattle.et_event.specs.Sites.{Site}
-use Rattle.et_verify.specs.declared.types.EntryType.{EntryType}
-use Rattle.et_verify.specs.declared.types.EntryType.TheVariants as entry
-use Rattle.et_verify.specs.Types.{TypesOf, operand_entries}
+use Rattle.et_flow.specs.declared.types.EntryType.{EntryType}
+use Rattle.et_flow.specs.declared.types.EntryType.TheVariants as entry
+use Rattle.et_flow.specs.Types.{TypesOf, operand_entries}
 use Rattle.et_verify.specs.Effects.{Effect, effect, frame_effect}
 use Rattle.et_verify.specs.Steps.{below_taken, with_given, is_one, is_pair, have_groups, rearranged_types, moved_by, operands_after, locals_after, types_after}
 use Rattle.et_verify.specs.Typings.{FitFrame}

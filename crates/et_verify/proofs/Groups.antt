@@ -1,8 +1,9 @@
 -- Groups of operands: one value, or a long or two values.
 use Rattle.std.proofs.Common.{◌≡◌, false, List, [], ◌∷◌, ◌&&◌, refl}
-use Rattle.et_verify.specs.declared.types.EntryType.{EntryType}
-use Rattle.et_verify.specs.declared.types.EntryType.TheVariants as entry
-use Rattle.et_verify.specs.Steps.{is_single, is_pair}
+use Rattle.et_flow.specs.declared.types.EntryType.{EntryType}
+use Rattle.et_flow.specs.declared.types.EntryType.TheVariants as entry
+use Rattle.et_flow.specs.Types.{is_single}
+use Rattle.et_verify.specs.Steps.{is_pair}
 
 pub pair_alone : (t u : EntryType) → (t ≡ entry.LongHigh → u ≡ entry.Long → ⊥) → is_pair (t ∷ u ∷ []) ≡ (is_single t && is_single u)
 pair_alone entry.Free u h = refl

@@ -14,8 +14,8 @@ use Rattle.et_program.specs.Entries.{Linked}
 use Rattle.et_program.specs.Referring.{Member, pool_of_class, member_described}
 use Rattle.et_program.specs.Shapes.{shape_referred}
 use Rattle.et_event.specs.Sites.{Site, site_member, pool_index}
-use Rattle.et_verify.specs.declared.types.EntryType.{EntryType}
-use Rattle.et_verify.specs.declared.types.EntryType.TheVariants as entry
+use Rattle.et_flow.specs.declared.types.EntryType.{EntryType}
+use Rattle.et_flow.specs.declared.types.EntryType.TheVariants as entry
 use Rattle.et_verify.specs.Effects.{Effect, all_kinds, arguments_with, returned_kind, given_by, type_effect, call_effect, result_kind}
 use Rattle.et_verify.specs.Steps.{below_taken, with_given, moved_where}
 use Rattle.et_verify.specs.Calling.{arguments_taken, receiver_taken, called}

@@ -1,11 +1,4 @@
-pub mod Below
-pub mod Joining
-pub mod Places
-pub mod Rounds
-pub mod Follows
 pub mod Taken
-pub mod Stores
-pub mod Held
 pub mod Monotone
 pub mod Leading
 pub mod Exact
@@ -20,3 +13,5 @@ pub mod Methods
 pub mod Verified
 pub mod Decided
 pub mod Straight
+pub mod Entries
+pub mod Marked

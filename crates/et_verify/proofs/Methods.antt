@@ -14,10 +14,11 @@ use Rattle.et_event.specs.Sites.{Site, pool_of_class}
 use Rattle.et_event.specs.Sound.{returned_of}
 use Rattle.et_parts.specs.Places.{site_at}
 use Rattle.et_parts.specs.declared.places.Place.{Place}
-use Rattle.et_verify.specs.Types.{TypesOf}
-use Rattle.et_verify.specs.Flows.{LeadOf}
+use Rattle.et_flow.specs.Types.{TypesOf}
+use Rattle.et_flow.specs.Flows.{LeadOf}
 use Rattle.et_verify.specs.Steps.{types_after}
-use Rattle.et_verify.specs.Leads.{site_in, may_handle, next_places, handlers_at, caught}
+use Rattle.et_flow.specs.Types.{caught}
+use Rattle.et_verify.specs.Leads.{site_in, covers, may_catch, next_places, handlers_at}
 use Rattle.et_verify.specs.Typings.{are_starts, has_room, led, leads_by_row, leads_by, leads_in}
 use Rattle.et_verify.specs.Methods.{IsPlaceIn}
 
@@ -95,13 +96,25 @@ all_true : (a b c : Bool) → a ≡ true → (b && c) ≡ true → (a && b && c)
 all_true true b c e f = f
 all_true false b c e f = absurd (cc e)
 
+-- HANDLERS, among the rows that may catch anything
+
+one_row : (f g : TableRow → Bool) (r : TableRow) (xs ys : List TableRow) (a b : Bool) → f r ≡ a → g r ≡ b → filter f xs ≡ ys → filter f (if b then r ∷ xs else xs) ≡ (if a && b then r ∷ ys else ys)
+one_row f g r xs ys true true t q e = ap (λ (x : Bool). if x then r ∷ filter f xs else filter f xs) t ∙ ap (λ (zs : List TableRow). r ∷ zs) e
+one_row f g r xs ys true false t q e = e
+one_row f g r xs ys false true t q e = ap (λ (x : Bool). if x then r ∷ filter f xs else filter f xs) t ∙ e
+one_row f g r xs ys false false t q e = e
+
+filters_both : (f g : TableRow → Bool) (rows : List TableRow) → filter f (filter g rows) ≡ filter (λ r. f r && g r) rows
+filters_both f g [] = refl
+filters_both f g (r ∷ rows) = one_row f g r (filter g rows) (filter (λ x. f x && g x) rows) (f r) (g r) refl refl (filters_both f g rows)
+
+pub handlers_here : (p : Linked) (m : ℕ) (body : Body) (pc : ℕ) (handlers : List ℕ) (rows : List TableRow) → handlers ≡ map (λ (r : TableRow). r.handler) (filter (covers pc) rows) → rows ≡ filter (may_catch p (pool_of_class p (method_at p m).class)) body.table → handlers ≡ handlers_at p m body pc
+handlers_here p m body pc handlers rows e r =
+    e ∙ (ap (λ (xs : List TableRow). map (λ (x : TableRow). x.handler) (filter (covers pc) xs)) r
+    ∙ ap (map (λ (x : TableRow). x.handler)) (filters_both (covers pc) (may_catch p (pool_of_class p (method_at p m).class)) body.table))
+
 -- WHERE IT LEADS from a place, by what is computed there
 module _ (p : Linked) (m : ℕ) (body : Body) (pc : ℕ) (ts : TypesOf) (place : Place) (start : is_start body.code pc ≡ true) (h : IsPlaceIn p m body pc place) where
-  pub handlers_here : (handlers : List ℕ) (table : List TableRow) → handlers ≡ map (λ (r : TableRow). r.handler) (filter (may_handle p (site_at place).pool pc) table) → table ≡ body.table → handlers ≡ handlers_at p m body pc
-  handlers_here handlers table e t =
-      e ∙ (ap (λ (rows : List TableRow). map (λ (r : TableRow). r.handler) (filter (may_handle p (site_at place).pool pc) rows)) t
-      ∙ ap (λ (pool : List (Option Item)). map (λ (r : TableRow). r.handler) (filter (may_handle p pool pc) body.table)) (pool_here p m body pc ts place start h))
-
   module _ (starts : List Bool) (flags : (k : ℕ) → flag starts k ≡ is_start body.code k) (nexts handlers : List ℕ) (after : TypesOf)
       (n : nexts ≡ next_places pc (site_at place) place.row)
       (k : handlers ≡ handlers_at p m body pc)

@@ -13,8 +13,8 @@ use Rattle.et_event.specs.declared.rows.FrameRow.TheVariants as row
 use Rattle.et_event.specs.declared.rows.Row.{Row}
 use Rattle.et_event.specs.declared.rows.Row.TheVariants as rows
 use Rattle.et_event.specs.Sites.{Site}
-use Rattle.et_verify.specs.declared.types.EntryType.{EntryType}
-use Rattle.et_verify.specs.Types.{TypesOf}
+use Rattle.et_flow.specs.declared.types.EntryType.{EntryType}
+use Rattle.et_flow.specs.Types.{TypesOf}
 use Rattle.et_verify.specs.Effects.{frame_effect, return_effect, kinds_returned, taking}
 use Rattle.et_verify.specs.Steps.{below_taken, with_given, moved_by, moved_where, operands_after, locals_after, fitted, types_after}
 use Rattle.et_verify.specs.Calling.{returned_taken}

@@ -17,10 +17,11 @@ use Rattle.et_event.specs.declared.rows.Row.{Row}
 use Rattle.et_event.specs.Sites.{pool_of_class, target}
 use Rattle.et_event.specs.Sound.{returned_of}
 use Rattle.et_event.specs.Table.{row_of}
-use Rattle.et_verify.specs.Types.{TypesOf}
-use Rattle.et_verify.specs.Flows.{LeadOf, IsStraight}
+use Rattle.et_flow.specs.Types.{TypesOf}
+use Rattle.et_flow.specs.Flows.{LeadOf, IsStraight}
 use Rattle.et_verify.specs.Steps.{types_after}
-use Rattle.et_verify.specs.Leads.{site_in, goes_past, next_places, may_handle, handlers_at, caught}
+use Rattle.et_flow.specs.Types.{caught}
+use Rattle.et_verify.specs.Leads.{site_in, goes_past, next_places, may_handle, handlers_at}
 use Rattle.et_verify.specs.Targets.{HasTargets}
 use Rattle.et_verify.specs.Typings.{are_starts, has_room, led, leads_by_row, leads_by, leads_in}
 use Rattle.et_verify.proofs.Within.{place_inside, all_hold}

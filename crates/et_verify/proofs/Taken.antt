@@ -4,9 +4,9 @@ use Rattle.std.specs.Prelude.{if◌then◌else◌}
 use Rattle.std.proofs.lemmas.Bool.{leb-true}
 use Rattle.et_class.specs.PoolOperands.Operand.{Operand}
 use Rattle.et_class.specs.PoolOperands.Operand.TheVariants as operand
-use Rattle.et_verify.specs.declared.types.EntryType.{EntryType}
-use Rattle.et_verify.specs.declared.types.EntryType.TheVariants as entry
-use Rattle.et_verify.specs.Types.{TypesOf, operand_entries}
+use Rattle.et_flow.specs.declared.types.EntryType.{EntryType}
+use Rattle.et_flow.specs.declared.types.EntryType.TheVariants as entry
+use Rattle.et_flow.specs.Types.{TypesOf, operand_entries}
 use Rattle.et_verify.specs.Steps.{below_taken, fitted}
 
 -- WHAT IS TAKEN, of types

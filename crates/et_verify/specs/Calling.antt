@@ -4,7 +4,7 @@ use Rattle.et_class.specs.PoolOperands.Operand.{Operand}
 use Rattle.et_class.specs.PoolOperands.Operand.TheVariants as operand
 use Rattle.et_pool.specs.declared.operand.Returned.{Returned}
 use Rattle.et_pool.specs.Operands.{Shape, is_returnable}
-use Rattle.et_verify.specs.declared.types.EntryType.{EntryType}
+use Rattle.et_flow.specs.declared.types.EntryType.{EntryType}
 use Rattle.et_verify.specs.Effects.{all_kinds, given_by, kinds_returned}
 use Rattle.et_verify.specs.Steps.{below_taken, with_given}
 

@@ -1,5 +1,6 @@
 -- THE CODE OF A METHOD, as the search for its typing goes over it.
-use Rattle.std.specs.Prelude.{◌≡◌, ℕ, ◌<◌, ◌^◌, Bool, false, List, length, Some, Ok}
+use Rattle.std.specs.Prelude.{◌≡◌, ℕ, ◌<◌, ◌^◌, Bool, false, List, length, filter, Some, Ok}
+use Rattle.et_code.specs.declared.body.TableRow.{TableRow}
 use Rattle.et_code.specs.Bodies.{Body}
 use Rattle.et_code.specs.Decoding.{instruction_at, Fits}
 use Rattle.et_code.specs.Rules.{flag}
@@ -8,12 +9,12 @@ use Rattle.et_program.specs.Entries.{Linked, method_at}
 use Rattle.et_program.specs.declared.info.MethodInfo.{MethodInfo}
 use Rattle.et_pool.specs.declared.operand.Returned.{Returned}
 use Rattle.et_pool.specs.Operands.{return_of}
-use Rattle.et_event.specs.Sites.{natural_of}
+use Rattle.et_event.specs.Sites.{natural_of, pool_of_class}
 use Rattle.et_event.specs.Sound.{returned_of}
 use Rattle.et_event.specs.Table.{row_of}
 use Rattle.et_parts.specs.Places.{site_at, is_frame}
 use Rattle.et_parts.specs.declared.places.Place.{Place}
-use Rattle.et_verify.specs.Leads.{site_in}
+use Rattle.et_verify.specs.Leads.{may_catch, site_in}
 use Rattle.et_verify.specs.Targets.{HasTargets}
 
 -- an instruction that has a row stands at pc of the code of a method, and this is its place
@@ -33,12 +34,14 @@ pub record MethodOf : Type 0 where
   pub body : Body
   pub targets : List Bool
 
--- what is kept of it: flags tell the starts of instructions, and the targets
-pub record IsMethod (p : Linked) (m : ℕ) (info : MethodInfo) (body : Body) (returned : Returned) (starts targets : List Bool) : Type 0 where
+-- what is kept of it: the rows of the exception table that may catch anything, and flags
+-- that tell the starts of instructions, and the targets
+pub record IsMethod (p : Linked) (m : ℕ) (info : MethodInfo) (body : Body) (returned : Returned) (handling : List TableRow) (starts targets : List Bool) : Type 0 where
   pub info_is : info ≡ method_at p m
   pub class : (method_at p m).class < length p.classes
   pub code : (method_at p m).code ≡ Some body
   pub returns : return_of (returned_of (method_at p m)) ≡ returned
+  pub rows : handling ≡ filter (may_catch p (pool_of_class p (method_at p m).class)) body.table
   pub flags : (place : ℕ) → flag starts place ≡ is_start body.code place
   pub few : length body.code < 2 ^ 16
   pub marked : HasTargets starts body.code body.table targets

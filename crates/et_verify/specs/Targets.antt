@@ -1,10 +1,15 @@
 -- THE TARGETS OF CODE: the first place, those of branches and switches, and the handlers, by a flag for each place.
-use Rattle.std.specs.Prelude.{◌≡◌, ℕ, ◌<◌, Bool, true, List, length, map, Ok, Contains}
+use Rattle.std.specs.Prelude.{◌≡◌, ℕ, ◌<◌, Bool, true, List, length, map, Ok, Contains, Option, option_map}
+use Rattle.std.specs.Result.{result_ok}
 use Rattle.et_code.specs.declared.body.TableRow.{TableRow}
 use Rattle.et_code.specs.declared.instr.Instr.{Instr}
 use Rattle.et_code.specs.Decoding.{instruction_at}
 use Rattle.et_code.specs.Rules.{flag, offsets}
 use Rattle.et_event.specs.Sites.{target}
+
+-- the place behind the instruction at one
+abbrev pub place_behind : List ℕ → ℕ → Option ℕ
+place_behind code pc = option_map (λ x. x.1) (result_ok (instruction_at code pc))
 
 -- no flag is taken away
 abbrev pub KeepsFlags : List Bool → List Bool → Type 0

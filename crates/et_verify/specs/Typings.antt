@@ -1,5 +1,5 @@
 -- TYPINGS of methods, and the programs that are verified.
-use Rattle.std.specs.Prelude.{◌≡◌, ℕ, ◌-◌, ◌≤◌, ◌&&◌, ◌||◌, nat_lt, Bool, true, false, if◌then◌else◌, List, [], ◌∷◌, ◌++◌, length, map, replicate, All, Option, Some, None, Result, Ok, Err, Contains}
+use Rattle.std.specs.Prelude.{◌≡◌, ℕ, ◌≤◌, ◌&&◌, ◌||◌, nat_lt, Bool, true, false, if◌then◌else◌, List, [], ◌∷◌, ◌++◌, length, map, All, Option, Some, None, Result, Ok, Err, Contains}
 use Rattle.std.specs.List.{flat_map, list_all}
 use Rattle.et_class.specs.Descriptors.{MethodType, method_type}
 use Rattle.et_class.specs.Operands.{operand_kind}
@@ -14,12 +14,14 @@ use Rattle.et_event.specs.declared.rows.Row.{Row}
 use Rattle.et_event.specs.Programs.{is_initializing}
 use Rattle.et_event.specs.Sound.{returned_of}
 use Rattle.et_event.specs.Table.{row_of}
-use Rattle.et_verify.specs.declared.types.EntryType.{EntryType}
-use Rattle.et_verify.specs.declared.types.EntryType.TheVariants.{Free, Reference}
-use Rattle.et_verify.specs.Types.{TypesOf, local_entries}
-use Rattle.et_verify.specs.Flows.{LeadOf, Typing, IsThere}
+use Rattle.et_flow.specs.declared.types.EntryType.{EntryType}
+use Rattle.et_flow.specs.declared.types.EntryType.TheVariants.{Free, Reference}
+use Rattle.et_flow.specs.Types.{TypesOf, local_entries}
+use Rattle.et_flow.specs.Flows.{LeadOf, Typing, IsThere}
+use Rattle.et_flow.specs.Stores.{with_free}
 use Rattle.et_verify.specs.Steps.{types_after}
-use Rattle.et_verify.specs.Leads.{site_in, next_places, handlers_at, caught}
+use Rattle.et_flow.specs.Types.{caught}
+use Rattle.et_verify.specs.Leads.{site_in, next_places, handlers_at}
 
 abbrev pub AreThere : Typing → List ℕ → TypesOf → Type 0
 AreThere typing places ts = (q : ℕ) → Contains places q → IsThere typing q ts
@@ -37,10 +39,6 @@ parameter_entries (Some kind) = local_entries kind
 
 abbrev pub argument_entries : Bool → List (Option Operand) → List EntryType
 argument_entries static kinds = receiver_entries static ++ flat_map parameter_entries kinds
-
--- so many local variables, of which the first are these
-abbrev pub with_free : ℕ → List EntryType → List EntryType
-with_free count entries = entries ++ replicate (count - length entries) Free
 
 abbrev pub first_types : Linked → ℕ → Body → MethodType → TypesOf
 first_types p m body type =

@@ -9,9 +9,9 @@ ghost use Rattle.et_verify.specs.Steps.{moved_where};
 
 use crate::effects::kind_given;
 use crate::operands::{give_some, take};
-use crate::types::Types;
 use et_base::NoMemory;
 use et_event::{CallKind, Operand};
+use et_flow::Types;
 use et_parts::{Place, index_of};
 use et_pool::CallShape;
 use et_program::Program;

@@ -1,7 +1,7 @@
 //! What each plain instruction takes and gives, by the rows of the table of events (JVMS 6.5).
 ghost use Rattle.std.specs.Prelude.{◌≡◌, [], ◌∷◌, Some, None};
 ghost use Rattle.et_event.specs.PoolOperands.Operand.TheVariants as kinds;
-ghost use Rattle.et_verify.specs.Effects.{frame_effect as effect_of, kind_of_number as number_kind, converting, kinds_tested as tested, result_kind, given_by};
+ghost use Rattle.et_verify.specs.Effects.{frame_effect as effect_of, kind_of_number as number_kind, kinds_tested as tested, result_kind, given_by};
 ghost use Rattle.et_event.specs.Kinds.{kind_of_elements as elements_kind};
 
 use et_event::{Condition, Conversion, Elements, FrameRow, Number, Operand};
@@ -183,20 +183,6 @@ fn giving(taken: &'static [Operand], kind: Operand) -> Effect
     }
 }
 
-/// What a conversion takes and gives.
-fn conversion_effect(conversion: Conversion) -> Effect
-    ensures taken { result.taken.now ≡ (converting conversion).taken }
-    ensures given { result.given ≡ (converting conversion).given }
-{
-    match conversion {
-        Conversion::IntToLong => giving(&INT, Operand::Long),
-        Conversion::LongToInt => giving(&LONG, Operand::Int),
-        Conversion::IntToByte | Conversion::IntToChar | Conversion::IntToShort => {
-            giving(&INT, Operand::Int)
-        }
-    }
-}
-
 /// What an instruction takes and gives that changes nothing but the topmost frame.
 pub(crate) fn frame_effect(row: FrameRow) -> Effect
     ensures taken { result.taken.now ≡ (effect_of row).taken }
@@ -212,7 +198,10 @@ pub(crate) fn frame_effect(row: FrameRow) -> Effect
         FrameRow::Arithmetic(number, _) => giving(two_of(number), kind_of_number(number)),
         FrameRow::Negate(number) => giving(one_of(kind_of_number(number)), kind_of_number(number)),
         FrameRow::Shift(number, _) => giving(shifted(number), kind_of_number(number)),
-        FrameRow::Convert(conversion) => conversion_effect(conversion),
+        FrameRow::Convert(Conversion::IntToLong) => giving(&INT, Operand::Long),
+        FrameRow::Convert(Conversion::LongToInt) => giving(&LONG, Operand::Int),
+        FrameRow::Convert(Conversion::IntToByte | Conversion::IntToChar | Conversion::IntToShort) =>
+            giving(&INT, Operand::Int),
         FrameRow::CompareLongs => giving(&TWO_LONGS, Operand::Int),
         FrameRow::Branch(condition) => taking(kinds_tested(condition)),
         FrameRow::Switch => taking(&INT),

@@ -4,7 +4,7 @@ ghost use Rattle.et_event.specs.PoolOperands.Operand.TheVariants as kinds;
 ghost use Rattle.et_event.specs.Sites.{natural_of, constant_at};
 ghost use Rattle.et_event.specs.declared.rows.HeapRow.TheVariants as heap;
 ghost use Rattle.et_parts.specs.Places.{site_at};
-ghost use Rattle.et_verify.specs.Effects.{constant_effect, field_read, field_type as type_of_field, field_written, heap_effect, kind_of_constant, kind_written, naming_class as where_class};
+ghost use Rattle.et_verify.specs.Effects.{constant_effect, field_read, field_type as type_of_field, field_written, heap_effect, kind_of_constant, naming_class as where_class};
 ghost use Rattle.et_verify.specs.Steps.{below_taken, moved_by, moved_where};
 
 use crate::effects::{
@@ -12,9 +12,9 @@ use crate::effects::{
     on_reference, one_of,
 };
 use crate::operands::{exchange, give, take};
-use crate::types::Types;
 use et_base::NoMemory;
 use et_event::{HeapRow, Operand};
+use et_flow::Types;
 use et_parts::{Place, class_operand, index_of, member_at};
 use et_pool::descriptor::is_field_descriptor;
 use et_pool::{Pool, kind_of};
@@ -49,15 +49,6 @@ fn read_field(types: &mut Types, place: &Place<'_>, taken: &[Operand]) -> Result
     Ok(done)
 }
 
-/// The kind of what is written to the field that an instruction names; `None` where it names none, or one of which there are
-/// no operands.
-fn written_kind(place: &Place<'_>) -> Option<Operand>
-    requires { natural_of place.now.instr.first < 2 ^ 16 }
-    ensures { result ≡ kind_written (site_at place.now) }
-{
-    kind_of(field_type(place)?)
-}
-
 /// Takes what is written to a field, and under it the object, if the field is no static one. `false` where no field is named,
 /// or the operands aren't there.
 fn write_field(types: &mut Types, place: &Place<'_>, is_static: bool) -> Result<bool, NoMemory>
@@ -69,7 +60,10 @@ fn write_field(types: &mut Types, place: &Place<'_>, is_static: bool) -> Result<
         (field_written (site_at place.now) is_static) types.old.operands ≡ None) }
     ensures locals { IfOk result (λ b. types.new.locals ≡ types.old.locals) }
 {
-    let Some(kind) = written_kind(place) else {
+    let Some(descriptor) = field_type(place) else {
+        return Ok(false);
+    };
+    let Some(kind) = kind_of(descriptor) else {
         return Ok(false);
     };
     let taken = if is_static {

@@ -11,16 +11,17 @@ ghost use Rattle.et_event.specs.Sites.{target as target_at};
 ghost use Rattle.et_parts.specs.Places.{site_at};
 ghost use Rattle.et_parts.specs.Pools.{pool_slots};
 ghost use Rattle.et_verify.specs.Typings.{has_room as room_for};
-ghost use Rattle.et_verify.specs.Flows.{some_place, handlers_of};
-ghost use Rattle.et_verify.specs.Leads.{caught as caught_types, goes_past as past, next_places as places_next, is_of_program, may_handle as handles};
+ghost use Rattle.et_flow.specs.Flows.{some_place};
+ghost use Rattle.et_flow.specs.Types.{caught as caught_types};
+ghost use Rattle.et_verify.specs.Simple.{turns};
+ghost use Rattle.et_verify.specs.Leads.{goes_past as past, next_places as places_next, is_of_program, covers as covering, may_catch as catches};
 
-use crate::search::Caught;
-use crate::types::Types;
 use byteorder::{BigEndian, ByteOrder};
 use et_base::NoMemory;
 use et_code::opcode::{GOTO, GOTO_W, IFEQ, IFNULL, LOOKUPSWITCH, TABLESWITCH};
 use et_code::{Instr, TableRow};
 use et_event::{CallRow, Condition, FrameRow, Row};
+use et_flow::{Lead, Types};
 use et_parts::Place;
 use et_pool::Pool;
 use et_program::Program;
@@ -101,14 +102,16 @@ fn is_branch(opcode: u8) -> bool
     (IFEQ <= opcode && opcode <= GOTO) || (IFNULL <= opcode && opcode <= GOTO_W)
 }
 
+/// Whether an opcode is that of a branch or a switch.
+fn may_turn(opcode: u8) -> bool
+    ensures { result ≡ turns opcode }
+{
+    is_branch(opcode) || opcode == TABLESWITCH || opcode == LOOKUPSWITCH
+}
+
 /// Adds the targets of a branch or switch, the default of a switch first.
 #[tactic(auto, using(std::proofs::lemmas::List::append_assoc))]
-pub(crate) fn push_targets(
-    targets: &mut Vec<u32>,
-    pc: u32,
-    code: &[u8],
-    instr: &Instr,
-) -> Result<(), NoMemory>
+fn push_turns(targets: &mut Vec<u32>, pc: u32, code: &[u8], instr: &Instr) -> Result<(), NoMemory>
     requires pc { pc < 2 ^ 16 }
     requires table { instr.now.opcode ≡ TABLESWITCH → TableFits code.now instr.now.table }
     requires lookup { instr.now.opcode ≡ LOOKUPSWITCH → LookupFits code.now instr.now.table }
@@ -132,42 +135,55 @@ pub(crate) fn push_targets(
     }
 }
 
-/// Where the code goes on from an instruction.
-#[derive(Drop)]
-pub(crate) struct Nexts {
-    /// The place right behind, where that is no target.
-    pub on: Option<u32>,
-    /// The other places.
-    pub others: Vec<u32>,
+/// Adds the targets of an instruction: none, or those of a branch or switch.
+#[inline]
+#[tactic(auto, using(crate::proofs::Entries::no_targets))]
+pub(crate) fn push_targets(
+    targets: &mut Vec<u32>,
+    pc: u32,
+    code: &[u8],
+    instr: &Instr,
+) -> Result<(), NoMemory>
+    requires pc { pc < 2 ^ 16 }
+    requires table { instr.now.opcode ≡ TABLESWITCH → TableFits code.now instr.now.table }
+    requires lookup { instr.now.opcode ≡ LOOKUPSWITCH → LookupFits code.now instr.now.table }
+    ensures { OnOk result (targets.new.items
+        ≡ targets.old.items ++ map (target_at pc) (offsets code.now instr.now)) }
+{
+    if !may_turn(instr.opcode) {
+        return Ok(());
+    }
+    push_turns(targets, pc, code, instr)
 }
 
 /// The places at which the code goes on from the instruction at a place: behind it, and at the targets of a branch or switch.
 pub(crate) fn next_places(
-    alloc: Global,
     targets: &[bool],
     pc: u32,
     place: &Place<'_>,
-) -> Result<Nexts, NoMemory>
+    lead: &mut Lead,
+) -> Result<(), NoMemory>
     requires pc { pc < 2 ^ 16 }
     requires fits { Fits place.now.code.now pc place.now.instr place.now.next }
-    ensures places { IfOk result (λ r.
-        some_place r.on ++ r.others.items ≡ places_next pc (site_at place.now) place.now.row) }
-    ensures on { IfOk result (λ r. IfSome r.on (λ q. flag targets.now q ≡ false)) }
-    ensures behind { IfOk result (λ r. (q : ℕ) → Contains r.others.items q →
+    ensures places { OnOk result (some_place lead.new.on ++ lead.new.nexts.items
+        ≡ places_next pc (site_at place.now) place.now.row) }
+    ensures on { OnOk result (IfSome lead.new.on (λ q. flag targets.now q ≡ false)) }
+    ensures behind { OnOk result ((q : ℕ) → Contains lead.new.nexts.items q →
         Contains (map (target_at pc) (offsets place.now.code.now place.now.instr)) q
         ⊎ (flag targets.now q ≡ true)) }
+    ensures handlers { OnOk result (lead.new.handlers.items ≡ lead.old.handlers.items) }
+    ensures caught { OnOk result (lead.new.caught ≡ lead.old.caught) }
 {
-    let mut on = None;
-    let mut places = Vec::new(alloc);
+    lead.on = None;
+    lead.nexts.clear();
     if goes_past(place.row) {
         if is_flagged(targets, place.next) {
-            places.push(place.next)?;
+            lead.nexts.push(place.next)?;
         } else {
-            on = Some(place.next);
+            lead.on = Some(place.next);
         }
     }
-    push_targets(&mut places, pc, place.code, &place.instr)?;
-    Ok(Nexts { on, others: places })
+    push_targets(&mut lead.nexts, pc, place.code, &place.instr)
 }
 
 /// Whether the Class entry at an index of a pool names a class of the program.
@@ -184,40 +200,55 @@ fn names_class(program: &Program, pool: Option<&Pool>, index: u16) -> bool
     }
 }
 
-/// Whether a row of an exception table may handle what is thrown at a place.
-fn may_handle(program: &Program, pool: Option<&Pool>, pc: u32, row: &TableRow) -> bool
-    ensures { result ≡ handles program.now (pool_slots (option_copied pool.entry)) pc row.now }
+/// Whether a row of an exception table may catch anything: all, or a class of the program.
+fn may_catch(program: &Program, pool: Option<&Pool>, row: &TableRow) -> bool
+    ensures { result ≡ catches program.now (pool_slots (option_copied pool.entry)) row.now }
 {
-    if pc < row.start as u32 || row.end as u32 <= pc {
-        return false;
-    }
     row.catch == 0 || names_class(program, pool, row.catch)
 }
 
-/// The handlers that may be entered at a place where types are these, with those that they are entered with.
-pub(crate) fn caught_at(
+/// The rows of an exception table that may catch anything.
+pub(crate) fn catching_rows(
     alloc: Global,
     program: &Program,
     pool: Option<&Pool>,
-    pc: u32,
     table: &[TableRow],
-    types: &Types,
-) -> Result<Option<Caught>, NoMemory>
-    ensures handlers { IfOk result (λ r. handlers_of r ≡ map (λ (x : RowOf). x.handler)
-        (filter (handles program.now (pool_slots (option_copied pool.entry)) pc) table.now)) }
-    ensures types { IfOk result (λ r. IfSome r (λ c. caught_types types.now ≡ c.types)) }
+) -> Result<Vec<TableRow>, NoMemory>
+    ensures { IfOk result (λ rows. rows.items
+        ≡ filter (catches program.now (pool_slots (option_copied pool.entry))) table.now) }
 {
-    let mut handlers = Vec::new(alloc);
+    let mut rows = Vec::new(alloc);
     for row in table {
-        if may_handle(program, pool, pc, row) {
-            handlers.push(row.handler as u32)?;
+        if may_catch(program, pool, row) {
+            rows.push(*row)?;
         }
     }
-    if handlers.is_empty() {
-        return Ok(None);
+    Ok(rows)
+}
+
+/// Finds the handlers that may be entered at a place where types are these, with those that they are entered with.
+#[inline]
+pub(crate) fn find_handlers(
+    rows: &[TableRow],
+    pc: u32,
+    types: &Types,
+    lead: &mut Lead,
+) -> Result<(), NoMemory>
+    ensures handlers { OnOk result (lead.new.handlers.items
+        ≡ map (λ (r : RowOf). r.handler) (filter (covering pc) rows.now)) }
+    ensures caught { OnOk result ((q : ℕ) → Contains lead.new.handlers.items q →
+        caught_types types.now ≡ lead.new.caught) }
+{
+    lead.handlers.clear();
+    for row in rows {
+        if row.start as u32 <= pc && pc < row.end as u32 {
+            lead.handlers.push(row.handler as u32)?;
+        }
     }
-    let types = types.caught(alloc)?;
-    Ok(Some(Caught { types, handlers }))
+    if !lead.handlers.is_empty() {
+        lead.caught.copy_caught(types)?;
+    }
+    Ok(())
 }
 
 /// Whether a place is flagged.
@@ -240,24 +271,21 @@ fn are_flagged(flags: &[bool], places: &[u32]) -> bool
 }
 
 /// Whether instructions start at all places at which the code goes on.
-pub(crate) fn may_go(starts: &[bool], nexts: &Nexts) -> bool
-    ensures { result ≡ list_all (flag starts.now) (some_place nexts.now.on ++ nexts.now.others.items) }
+#[inline]
+pub(crate) fn may_go(starts: &[bool], lead: &Lead) -> bool
+    ensures { result ≡ list_all (flag starts.now) (some_place lead.now.on ++ lead.now.nexts.items) }
 {
-    match nexts.on {
-        None => are_flagged(starts, &nexts.others),
-        Some(place) => is_flagged(starts, place) && are_flagged(starts, &nexts.others),
+    match lead.on {
+        None => are_flagged(starts, &lead.nexts),
+        Some(place) => is_flagged(starts, place) && are_flagged(starts, &lead.nexts),
     }
 }
 
 /// Whether instructions start at all handlers, and there is room for the exception.
-pub(crate) fn may_enter(starts: &[bool], caught: &Option<Caught>, room: usize) -> bool
-    ensures { result ≡ (list_all (flag starts.now) (handlers_of caught.now)
-        && room_for room (handlers_of caught.now)) }
+#[inline]
+pub(crate) fn may_enter(starts: &[bool], lead: &Lead, room: usize) -> bool
+    ensures { result ≡ (list_all (flag starts.now) lead.now.handlers.items
+        && room_for room lead.now.handlers.items) }
 {
-    match caught {
-        None => true,
-        Some(caught) => {
-            are_flagged(starts, &caught.handlers) && (caught.handlers.is_empty() || room > 0)
-        }
-    }
+    are_flagged(starts, &lead.handlers) && (lead.handlers.is_empty() || room > 0)
 }

@@ -9,19 +9,20 @@ ghost use Rattle.et_program.specs.Entries.{Linked, is_static as static_at, metho
 ghost use Rattle.et_event.specs.Programs.{is_initializing};
 ghost use Rattle.et_pool.specs.Operands.{shape_in};
 ghost use Rattle.et_verify.specs.Methods.{IsPlaceIn};
-ghost use Rattle.et_verify.specs.Types.{TypesOf};
-ghost use Rattle.et_verify.specs.Typings.{parameter_entries, argument_entries, with_free, leads_by, HasTyping};
+ghost use Rattle.et_flow.specs.Types.{TypesOf};
+ghost use Rattle.et_flow.specs.Stores.{with_free};
+ghost use Rattle.et_verify.specs.Typings.{parameter_entries, argument_entries, leads_by, HasTyping};
 
-use crate::leads::{caught_at, is_flagged, may_enter, may_go, next_places};
+use crate::leads::{catching_rows, find_handlers, is_flagged, may_enter, may_go, next_places};
 use crate::rows::step;
-use crate::search::{Flow, Lead, find_typing};
-use crate::targets::target_flags;
-use crate::types::{EntryType, Types};
+use crate::simple::instruction_at;
+use crate::targets::marks_of;
 use et_base::numbers::{u8_at, u16_at};
 use et_base::{MethodId, NoMemory};
 use et_class::flags::{STATIC, has};
-use et_code::{RawCode, decode, start_flags};
+use et_code::{RawCode, TableRow};
 use et_event::{Operand, row_of};
+use et_flow::{EntryType, Flow, Lead, Types, find_typing};
 use et_parts::{Place, code_of};
 use et_pool::{CallShape, Returned};
 use et_program::{MethodInfo, Program};
@@ -61,7 +62,7 @@ fn place_at<'a>(
 {
     byte_is_small(code, pc as usize + 1);
     short_is_small(code, pc as usize + 1);
-    let (instr, next) = decode(code, pc as usize).ok()?;
+    let (instr, next) = instruction_at(code, pc as usize)?;
     let row = row_of(instr.opcode)?;
     Some(Place {
         row,
@@ -81,6 +82,7 @@ struct MethodFlow<'a> {
     info: &'a MethodInfo,
     code: &'a RawCode,
     returned: Returned,
+    handling: &'a [TableRow],
     starts: &'a [bool],
     targets: &'a [bool],
 }
@@ -93,45 +95,40 @@ impl<'a> Model for MethodFlow<'a> {
 
     ghost view = { λ f. record { program = f.program.now; method = f.method; body = body_of f.code.now; targets = f.targets.now } };
 
-    ghost invariant = { λ f. IsMethod f.program.now f.method f.info.now (body_of f.code.now) f.returned f.starts.now f.targets.now };
+    ghost invariant = { λ f. IsMethod f.program.now f.method f.info.now (body_of f.code.now) f.returned f.handling.now f.starts.now f.targets.now };
 }
 
 impl<'a> Flow for MethodFlow<'a> {
     ghost use Rattle.std.specs.Prelude.{◌≡◌, IfOk, not};
     ghost use Rattle.et_code.specs.Rules.{flag};
-    ghost use Rattle.et_verify.specs.Flows.{IsLed};
+    ghost use Rattle.et_flow.specs.Flows.{IsLed};
     ghost use Rattle.et_verify.specs.Typings.{leads_in};
 
     ghost leads = { λ place f types. leads_in f.program f.method f.body place types };
 
     ghost straight = { λ place f. not (flag f.targets place) };
 
-    fn lead(&self, alloc: Global, place: u32, types: &mut Types) -> Result<Option<Lead>, NoMemory> {
+    fn lead(&self, place: u32, types: &mut Types, lead: &mut Lead) -> Result<bool, NoMemory> {
         if !is_flagged(self.starts, place) {
-            return Ok(None);
+            return Ok(false);
         }
         let code = self.code.code.as_slice();
         let Some(at) = place_at(self.program, self.method, self.info, code, place) else {
-            return Ok(None);
+            return Ok(false);
         };
-        let table = self.code.table.as_slice();
-        let caught = caught_at(alloc, self.program, at.pool, place, table, types)?;
+        find_handlers(self.handling, place, types, lead)?;
         let room = self.code.max_stack as usize;
         if !step(types, self.program, &at, self.returned, room)? {
-            return Ok(None);
+            return Ok(false);
         }
-        let nexts = next_places(alloc, self.targets, place, &at)?;
-        if !may_go(self.starts, &nexts) {
-            return Ok(None);
+        next_places(self.targets, place, &at, lead)?;
+        if !may_go(self.starts, lead) {
+            return Ok(false);
         }
-        if !may_enter(self.starts, &caught, room) {
-            return Ok(None);
+        if !may_enter(self.starts, lead, room) {
+            return Ok(false);
         }
-        Ok(Some(Lead {
-            on: nexts.on,
-            nexts: nexts.others,
-            caught,
-        }))
+        Ok(true)
     }
 }
 
@@ -220,16 +217,17 @@ fn code_has_typing(
     let Some(entry) = first_types(alloc, has_no_receiver(info), shape.kinds(), count)? else {
         return Ok(false);
     };
-    let starts = start_flags(alloc, &code.code)?;
-    let targets = target_flags(alloc, &starts, &code.code, &code.table)?;
+    let marks = marks_of(alloc, &code.code, &code.table)?;
+    let handling = catching_rows(alloc, program, program.pool(info.class), &code.table)?;
     let flow = MethodFlow {
         program,
         method,
         info,
         code,
         returned: shape.returned(),
-        starts: &starts,
-        targets: &targets,
+        handling: &handling,
+        starts: &marks.starts,
+        targets: &marks.targets,
     };
     let found = find_typing(alloc, &flow, code.code.len(), &entry)?;
     Ok(found)

@@ -1,13 +1,13 @@
 //! Operands of types that are taken and given (JVMS 2.6.2).
 ghost use Rattle.std.specs.Prelude.{◌≡◌, [], ◌∷◌, ◌++◌, true, false, Some, None, OnOk, IfOk, List, option_map};
-ghost use Rattle.et_verify.specs.Types.{operand_entries};
+ghost use Rattle.et_flow.specs.Types.{operand_entries};
 ghost use Rattle.et_verify.specs.Steps.{below_taken, with_given};
-ghost use Rattle.et_verify.specs.declared.types.EntryType.{EntryType as Entry};
+ghost use Rattle.et_flow.specs.declared.types.EntryType.{EntryType as Entry};
 
 use crate::effects::Effect;
-use crate::types::{EntryType, Types};
 use et_base::NoMemory;
 use et_event::Operand;
+use et_flow::{EntryType, Types};
 
 /// Takes an operand of a kind. `false` where the topmost one is of no such kind; some entries may be gone then.
 pub fn take(types: &mut Types, kind: Operand) -> bool
@@ -41,6 +41,7 @@ pub fn take_all(types: &mut Types, kinds: &[Operand]) -> bool
 }
 
 /// Gives an operand of a kind.
+#[inline]
 pub fn give(types: &mut Types, kind: Operand) -> Result<(), NoMemory>
     ensures operands { OnOk result
         (types.new.operands ≡ operand_entries kind ++ types.old.operands) }

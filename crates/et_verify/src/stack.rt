@@ -3,9 +3,9 @@ ghost use Rattle.std.specs.Prelude.{◌≡◌, [], ◌∷◌, true, false, Some,
 ghost use Rattle.et_event.specs.declared.rows.Rearrangement.TheVariants as stack;
 ghost use Rattle.et_verify.specs.Steps.{is_one, is_pair as pair_first, rearranged_types};
 
-use crate::types::{EntryType, Types};
 use et_base::NoMemory;
 use et_event::Rearrangement;
+use et_flow::{EntryType, Types};
 
 /// Whether two entries are a long, or two values.
 #[tactic(auto, using(crate::proofs::Groups::pair_alone))]

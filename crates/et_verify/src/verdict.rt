@@ -37,7 +37,7 @@ impl From<NoMemory> for VerifyFault {
 /// The time is linear in the code, but for code in which local variables lose their types on a way back: what stands between
 /// a target of branches and the next ones is looked at again as often as a local variable at the target does. The room is, at
 /// each target of the largest method, a byte for each operand and four for each local variable that was written on the way
-/// there, and some 50 for each byte of the code.
+/// there, some 60 more, and ten for each byte of the code.
 pub fn verify(alloc: Global, program: &Program) -> Result<u32, VerifyFault>
     ensures verdict { Verifies program.now result }
     ensures within { (m : ℕ) → result ≡ Err (VerifyFault.Rejected m) →

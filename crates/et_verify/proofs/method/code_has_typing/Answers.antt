@@ -1,5 +1,13 @@
-use Rattle.std.proofs.Common.{◌≡◌, ℕ, ◌<◌, ◌||◌, Bool, List, [], length, map, Option, sym, ap, subst, ◌∙◌, arith}
-use Rattle.std.specs.Prelude.{IfSome, IfNone, not}
+use Rattle.std.proofs.Common.{◌≡◌, ℕ, ◌<◌, ◌||◌, Bool, List, [], length, map, Option, sym, ap, subst, ◌∙◌, arith, rules}
+use Rattle.std.specs.Prelude.{IfSome, IfNone, not, filter}
+use Rattle.std.specs.Option.{option_copied}
+use Rattle.et_class.specs.Entries.{Item}
+use Rattle.et_program.specs.Entries.{method_at}
+use Rattle.et_program.specs.declared.info.MethodInfo.{MethodInfo}
+use Rattle.et_event.specs.Sites.{pool_of_class}
+use Rattle.et_parts.specs.Pools.{pool_slots}
+use Rattle.et_parts.proofs.Placing.{pool_found}
+use Rattle.et_verify.specs.Leads.{may_catch}
 use Rattle.et_class.specs.Operands.{operand_kind}
 use Rattle.et_class.specs.PoolOperands.Operand.{Operand}
 use Rattle.et_code.specs.declared.body.TableRow.{TableRow}
@@ -9,9 +17,10 @@ use Rattle.et_code.specs.Starts.{is_start}
 use Rattle.et_program.specs.Entries.{is_static}
 use Rattle.et_event.specs.Programs.{is_initializing}
 use Rattle.et_pool.specs.Operands.{Shape}
-use Rattle.et_verify.specs.Types.{TypesOf}
-use Rattle.et_verify.specs.Flows.{IsLeadWithin, IsStraight}
-use Rattle.et_verify.specs.Typings.{argument_entries, with_free, first_types, leads_in}
+use Rattle.et_flow.specs.Types.{TypesOf}
+use Rattle.et_flow.specs.Flows.{IsLeadWithin, IsStraight}
+use Rattle.et_flow.specs.Stores.{with_free}
+use Rattle.et_verify.specs.Typings.{argument_entries, first_types, leads_in}
 use Rattle.et_verify.specs.Targets.{HasTargets}
 use Rattle.et_verify.proofs.Straight.{is_straight}
 use Rattle.et_verify.proofs.Within.{leads_within}
@@ -44,16 +53,39 @@ find_typing-requires-clause-monotone c = leads_monotone c.args.program.now c.arg
 pub find_typing-requires-clause-straight : goal.find_typing-requires-clause-straight
 find_typing-requires-clause-straight c =
     let body : Body = body_of c.args.code.now in
-    let starts : List Bool = c.in_ok-starts.starts.items in
-    let targets : List Bool = c.in_ok-targets.targets.items in
-    let flags : (k : ℕ) → flag starts k ≡ is_start body.code k = (λ (k : ℕ). c.in_ok-starts.ensures k ∙ ap (λ (bytes : List ℕ). is_start bytes k) c.deref.ensures.value) in
-    let some : HasTargets c.deref-2.result.now c.deref-3.result.now c.deref-4.result.now targets = c.in_ok-targets.ensures in
+    let starts : List Bool = c.in_ok-marks.marks.starts.items in
+    let targets : List Bool = c.in_ok-marks.marks.targets.items in
+    let flags : (k : ℕ) → flag starts k ≡ is_start body.code k = (λ (k : ℕ). c.in_ok-marks.ensures.starts k ∙ ap (λ (bytes : List ℕ). is_start bytes k) c.deref.ensures.value) in
     let marked : HasTargets starts body.code body.table targets =
-    subst (λ (fs : List Bool). HasTargets fs body.code body.table targets) c.deref-2.ensures.value
-    (subst (λ (bytes : List ℕ). HasTargets c.deref-2.result.now bytes body.table targets) c.deref-3.ensures.value
-    (subst (λ (rows : List TableRow). HasTargets c.deref-2.result.now c.deref-3.result.now rows targets) c.deref-4.ensures.value some)) in
+    subst (λ (bytes : List ℕ). HasTargets starts bytes body.table targets) c.deref.ensures.value
+    (subst (λ (rows : List TableRow). HasTargets starts c.deref.result.now rows targets) c.deref-2.ensures.value c.in_ok-marks.ensures.targets) in
     let all : IsStraight (leads_in c.args.program.now c.args.method body) (λ q. not (flag targets q)) = is_straight c.args.program.now c.args.method body starts targets flags marked c.requires.some in
     subst (λ (fs : List Bool). IsStraight (leads_in c.args.program.now c.args.method body) (λ q. not (flag fs q))) (sym c.deref-6.ensures.value) all
+
+pub invariant_of-flow : goal.invariant_of-flow
+invariant_of-flow c =
+    let p = c.args.program.now in
+    let m : ℕ = c.args.method in
+    let body : Body = body_of c.args.code.now in
+    let starts : List Bool = c.in_ok-marks.marks.starts.items in
+    let targets : List Bool = c.in_ok-marks.marks.targets.items in
+    let h : HasType p m c.args.shape.now = has_type p m c.args.shape.now c.requires.shape in
+    let info : c.method-info.result.now ≡ method_at p m = c.method-info.ensures.value in
+    let class : c.method-info.result.now.class ≡ (method_at p m).class = ap (λ (i : MethodInfo). i.class) info in
+    let pool : pool_slots (option_copied c.pool.result) ≡ pool_of_class p (method_at p m).class = pool_found p c.method-info.result.now.class (method_at p m).class (option_copied c.pool.result) c.pool.ensures class in
+    let marked : HasTargets starts body.code body.table targets =
+    subst (λ (bytes : List ℕ). HasTargets starts bytes body.table targets) c.deref.ensures.value
+    (subst (λ (rows : List TableRow). HasTargets starts c.deref.result.now rows targets) c.deref-2.ensures.value c.in_ok-marks.ensures.targets) in
+    record {
+      info_is = info;
+      class = search rules;
+      code = c.requires.code;
+      returns = search rules;
+      rows = c.deref-4.ensures.value ∙ (c.in_ok-handling.ensures ∙ (ap (filter (may_catch p (pool_slots (option_copied c.pool.result)))) c.deref-3.ensures.value ∙ ap (λ (items : List (Option Item)). filter (may_catch p items) body.table) pool));
+      flags = λ k. ap (λ (fs : List Bool). flag fs k) c.deref-5.ensures.value ∙ (c.in_ok-marks.ensures.starts k ∙ ap (λ (bytes : List ℕ). is_start bytes k) c.deref.ensures.value);
+      few = c.requires.few;
+      marked = subst (λ (fs : List Bool). HasTargets c.deref-5.result.now body.code body.table fs) (sym c.deref-6.ensures.value) (subst (λ (ss : List Bool). HasTargets ss body.code body.table targets) (sym c.deref-5.ensures.value) marked);
+    }
 
 -- the types with which the search begins
 entry_is : (c : goal.After-drop-entry-inside-3) → (h : HasType c.args.program.now c.args.method c.args.shape.now) → c.in-Some.entry ≡ first_types c.args.program.now c.args.method (body_of c.args.code.now) h.type
