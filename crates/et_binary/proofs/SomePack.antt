@@ -1,9 +1,11 @@
 -- Each list of bytes has an answer.
-use Rattle.std.proofs.Common.{◌≡◌, ◌≢◌, ℕ, zero, suc, ◌+◌, ◌<◌, ◌≤◌, Bool, true, false, ◌&&◌, eqb, List, [], ◌∷◌, ◌++◌, length, drop, Option, Some, None, refl, sym, ap, subst, ◌∙◌, append_assoc, arith, inl, inr, length-append}
+use Rattle.std.proofs.Common.{◌≡◌, ◌≢◌, ℕ, zero, suc, ◌+◌, ◌<◌, ◌≤◌, min, Bool, true, false, eqb, List, [], ◌∷◌, ◌++◌, length, take, drop, Option, Some, None, refl, sym, ap, subst, ◌∙◌, append_assoc, arith, inl, inr, length-append}
 use Rattle.std.specs.Prelude.{reverse, ◌⊎◌}
 use Rattle.std.specs.List.{flat_map}
 use Rattle.std.proofs.lemmas.Bool.Decides.{nat_tests}
-use Rattle.std.proofs.lemmas.List.{append-nil, reverse-append, reverse-reverse}
+use Rattle.std.proofs.lemmas.List.{append-nil, length-drop, length-take-le, reverse-append, reverse-reverse, take-append-drop, take_all}
+use Rattle.std.proofs.lemmas.Slice.Eq.{bytes_eq-Decides}
+use Rattle.std.proofs.Math.Nat.{min-eq_left, min-eq_right, min-le_left, min-le_right}
 use Rattle.std.proofs.lemmas.Grind.{flat_map-append}
 use Rattle.std.proofs.lemmas.Bool.{cases_lt}
 use Rattle.et_base.specs.Numbers.{AreBytes}
@@ -27,67 +29,61 @@ eq_no a b e = grind (arith, nat_tests)
 eq_yes : (a b : ℕ) → eqb a b ≡ true → a ≡ b
 eq_yes a b e = grind (arith, nat_tests)
 
-wrong_first : (a : ℕ) (rest : List ℕ) → a ≢ 254 → ShowsPackFault (a ∷ rest) 1 1
-wrong_first a rest n = ShowsOpening [] 254 a (69 ∷ 84 ∷ 50 ∷ []) rest refl refl n
+-- the first byte that is another than the one at its place
+record Differs (wanted found : List ℕ) : Type 0 where
+  pub front : List ℕ
+  pub byte : ℕ
+  pub wrong : ℕ
+  pub wanting : List ℕ
+  pub behind : List ℕ
+  pub wanted_is : wanted ≡ front ++ byte ∷ wanting
+  pub found_is : found ≡ front ++ wrong ∷ behind
+  pub other : wrong ≢ byte
 
-wrong_second : (a b : ℕ) (rest : List ℕ) → a ≡ 254 → b ≢ 69 → ShowsPackFault (a ∷ b ∷ rest) 1 1
-wrong_second a b rest e n = ShowsOpening (254 ∷ []) 69 b (84 ∷ 50 ∷ []) rest refl (ap (λ (x : ℕ). x ∷ b ∷ rest) e) n
+later : (w : ℕ) (ws fs : List ℕ) → Differs ws fs → Differs (w ∷ ws) (w ∷ fs)
+later w ws fs d = record { front = w ∷ d.front; byte = d.byte; wrong = d.wrong; wanting = d.wanting; behind = d.behind; wanted_is = ap (λ (t : List ℕ). w ∷ t) d.wanted_is; found_is = ap (λ (t : List ℕ). w ∷ t) d.found_is; other = d.other }
 
-wrong_third : (a b c : ℕ) (rest : List ℕ) → a ≡ 254 → b ≡ 69 → c ≢ 84 → ShowsPackFault (a ∷ b ∷ c ∷ rest) 1 1
-wrong_third a b c rest e f n = ShowsOpening (254 ∷ 69 ∷ []) 84 c (50 ∷ []) rest refl (ap (λ (x : ℕ). x ∷ b ∷ c ∷ rest) e ∙ ap (λ (x : ℕ). 254 ∷ x ∷ c ∷ rest) f) n
+-- .. at the front or behind it
+differs_by : (w f : ℕ) (ws fs : List ℕ) (same : Bool) → eqb f w ≡ same → (ws ≢ fs → Differs ws fs) → w ∷ ws ≢ f ∷ fs → Differs (w ∷ ws) (f ∷ fs)
+differs_by w f ws fs false e behind n = record { front = []; byte = w; wrong = f; wanting = ws; behind = fs; wanted_is = refl; found_is = refl; other = eq_no f w e }
+differs_by w f ws fs true e behind n =
+    let same : f ≡ w = eq_yes f w e in
+    subst (λ (x : ℕ). Differs (w ∷ ws) (x ∷ fs)) (sym same) (later w ws fs (behind (λ h. n (ap (λ (x : ℕ). x ∷ ws) (sym same) ∙ ap (λ (t : List ℕ). f ∷ t) h))))
 
-wrong_fourth : (a b c d : ℕ) (rest : List ℕ) → a ≡ 254 → b ≡ 69 → c ≡ 84 → d ≢ 50 → ShowsPackFault (a ∷ b ∷ c ∷ d ∷ rest) 1 1
-wrong_fourth a b c d rest e f g n = ShowsOpening (254 ∷ 69 ∷ 84 ∷ []) 50 d [] rest refl (ap (λ (x : ℕ). x ∷ b ∷ c ∷ d ∷ rest) e ∙ (ap (λ (x : ℕ). 254 ∷ x ∷ c ∷ d ∷ rest) f ∙ ap (λ (x : ℕ). 254 ∷ 69 ∷ x ∷ d ∷ rest) g)) n
+differs : (ws fs : List ℕ) → length fs ≡ length ws → ws ≢ fs → Differs ws fs
+differs [] [] l n = absurd (n refl)
+differs [] (f ∷ fs) l n = absurd (omega (arith, l))
+differs (w ∷ ws) [] l n = absurd (omega (arith, l))
+differs (w ∷ ws) (f ∷ fs) l n = differs_by w f ws fs (eqb f w) refl (differs ws fs (omega (arith, l))) n
 
-one_false : (p q : Bool) → (p && q) ≡ false → (p ≡ false) ⊎ ((p ≡ true) × (q ≡ false))
-one_false true q e = inr (refl, e)
-one_false false q e = inl refl
+-- as many bytes of the opening as there are
+abbrev count_of : List ℕ → ℕ
+count_of bytes = min (length bytes) 4
 
-both : (p q : Bool) → (p && q) ≡ true → (p ≡ true) × (q ≡ true)
-both true q e = (refl, e)
-both false q e = absurd cc
-
-second_by : (a b : ℕ) (rest : List ℕ) → (eqb a 254 && eqb b 69) ≡ false → ShowsPackFault (a ∷ b ∷ rest) 1 1
-second_by a b rest e = elim (one_false (eqb a 254) (eqb b 69) e) [ inl n ↦ wrong_first a (b ∷ rest) (eq_no a 254 n) | inr n ↦ wrong_second a b rest (eq_yes a 254 n.0) (eq_no b 69 n.1) ]
-
-third_by : (a b c : ℕ) (rest : List ℕ) → (eqb a 254 && eqb b 69 && eqb c 84) ≡ false → ShowsPackFault (a ∷ b ∷ c ∷ rest) 1 1
-third_by a b c rest e = elim (one_false (eqb a 254 && eqb b 69) (eqb c 84) e) [
-  | inl n ↦ second_by a b (c ∷ rest) n
-  | inr n ↦ (let p = both (eqb a 254) (eqb b 69) n.0 in wrong_third a b c rest (eq_yes a 254 p.0) (eq_yes b 69 p.1) (eq_no c 84 n.1))
-]
+as_many : (bytes : List ℕ) → length (take (count_of bytes) opening) ≡ length (take (count_of bytes) bytes)
+as_many bytes = length-take-le (count_of bytes) opening (min-le_right (length bytes) 4) ∙ sym (length-take-le (count_of bytes) bytes (min-le_left (length bytes) 4))
 
 pub wrong_opening : (bytes : List ℕ) → may_open bytes ≡ false → ShowsPackFault bytes 1 1
-wrong_opening [] e = absurd cc
-wrong_opening (a ∷ []) e = wrong_first a [] (eq_no a 254 e)
-wrong_opening (a ∷ b ∷ []) e = second_by a b [] e
-wrong_opening (a ∷ b ∷ c ∷ []) e = third_by a b c [] e
-wrong_opening (a ∷ b ∷ c ∷ d ∷ rest) e = elim (one_false (eqb a 254 && eqb b 69 && eqb c 84) (eqb d 50) e) [
-  | inl n ↦ third_by a b c (d ∷ rest) n
-  | inr n ↦ (let q = both (eqb a 254 && eqb b 69) (eqb c 84) n.0 in let p = both (eqb a 254) (eqb b 69) q.0 in wrong_fourth a b c d rest (eq_yes a 254 p.0) (eq_yes b 69 p.1) (eq_yes c 84 q.1) (eq_no d 50 n.1))
-]
+wrong_opening bytes e =
+    let n : ℕ = count_of bytes in
+    let d = differs (take n opening) (take n bytes) (sym (as_many bytes)) (λ h. absurd (let clash : false ≡ true = sym e ∙ (bytes_eq-Decides (take n bytes) (take n opening)).1 (sym h) in cc)) in
+    ShowsOpening d.front d.byte d.wrong (d.wanting ++ drop n opening) (d.behind ++ drop n bytes)
+    (sym (take-append-drop n opening) ∙ (ap (λ (t : List ℕ). t ++ drop n opening) d.wanted_is ∙ append_assoc d.front (d.byte ∷ d.wanting) (drop n opening)))
+    (sym (take-append-drop n bytes) ∙ (ap (λ (t : List ℕ). t ++ drop n bytes) d.found_is ∙ append_assoc d.front (d.wrong ∷ d.behind) (drop n bytes)))
+    d.other
+
+same_bytes : (bytes : List ℕ) (n : ℕ) → n ≡ count_of bytes → may_open bytes ≡ true → take n bytes ≡ take n opening
+same_bytes bytes n is e = subst (λ (k : ℕ). take k bytes ≡ take k opening) (sym is) ((bytes_eq-Decides (take (count_of bytes) bytes) (take (count_of bytes) opening)).0 e)
 
 pub part_opening : (bytes : List ℕ) → may_open bytes ≡ true → length bytes < 4 → (more : List ℕ) × (opening ≡ bytes ++ more) × (0 < length more)
-part_opening [] e lt = (opening, refl, omega arith)
-part_opening (a ∷ []) e lt = (69 ∷ 84 ∷ 50 ∷ [], ap (λ (x : ℕ). x ∷ 69 ∷ 84 ∷ 50 ∷ []) (sym (eq_yes a 254 e)), omega arith)
-part_opening (a ∷ b ∷ []) e lt =
-    let p = both (eqb a 254) (eqb b 69) e in
-    (84 ∷ 50 ∷ [], ap (λ (x : ℕ). x ∷ 69 ∷ 84 ∷ 50 ∷ []) (sym (eq_yes a 254 p.0)) ∙ ap (λ (x : ℕ). a ∷ x ∷ 84 ∷ 50 ∷ []) (sym (eq_yes b 69 p.1)), omega arith)
-part_opening (a ∷ b ∷ c ∷ []) e lt =
-    let q = both (eqb a 254 && eqb b 69) (eqb c 84) e in
-    let p = both (eqb a 254) (eqb b 69) q.0 in
-    (50 ∷ [], ap (λ (x : ℕ). x ∷ 69 ∷ 84 ∷ 50 ∷ []) (sym (eq_yes a 254 p.0)) ∙ (ap (λ (x : ℕ). a ∷ x ∷ 84 ∷ 50 ∷ []) (sym (eq_yes b 69 p.1)) ∙ ap (λ (x : ℕ). a ∷ b ∷ x ∷ 50 ∷ []) (sym (eq_yes c 84 q.1))), omega arith)
-part_opening (a ∷ b ∷ c ∷ d ∷ rest) e lt = absurd (omega arith)
+part_opening bytes e lt =
+    let n : ℕ = length bytes in
+    let few : n ≤ 4 = omega (arith, lt) in
+    let all : take n bytes ≡ bytes = take_all n bytes (omega arith) in
+    (drop n opening, sym (take-append-drop n opening) ∙ ap (λ (t : List ℕ). t ++ drop n opening) (sym (same_bytes bytes n (sym (min-eq_left few)) e) ∙ all), omega (arith, length-drop n opening, lt))
 
 pub whole_opening : (bytes : List ℕ) → may_open bytes ≡ true → 4 ≤ length bytes → bytes ≡ opening ++ drop 4 bytes
-whole_opening [] e le = absurd (omega arith)
-whole_opening (a ∷ []) e le = absurd (omega arith)
-whole_opening (a ∷ b ∷ []) e le = absurd (omega arith)
-whole_opening (a ∷ b ∷ c ∷ []) e le = absurd (omega arith)
-whole_opening (a ∷ b ∷ c ∷ d ∷ rest) e le =
-    let r = both (eqb a 254 && eqb b 69 && eqb c 84) (eqb d 50) e in
-    let q = both (eqb a 254 && eqb b 69) (eqb c 84) r.0 in
-    let p = both (eqb a 254) (eqb b 69) q.0 in
-    ap (λ (x : ℕ). x ∷ b ∷ c ∷ d ∷ rest) (eq_yes a 254 p.0) ∙ (ap (λ (x : ℕ). 254 ∷ x ∷ c ∷ d ∷ rest) (eq_yes b 69 p.1) ∙ (ap (λ (x : ℕ). 254 ∷ 69 ∷ x ∷ d ∷ rest) (eq_yes c 84 q.1) ∙ ap (λ (x : ℕ). 254 ∷ 69 ∷ 84 ∷ x ∷ rest) (eq_yes d 50 r.1)))
+whole_opening bytes e le = sym (take-append-drop 4 bytes) ∙ ap (λ (t : List ℕ). t ++ drop 4 bytes) (same_bytes bytes 4 (sym (min-eq_right le)) e)
 
 -- RECORDS
 

@@ -1,9 +1,10 @@
 -- A record read from left to right. The contracts of private functions alone speak of it: that it is what `IsPacked` says is proved of `read_record`.
-use Rattle.std.specs.Prelude.{ℕ, ◌^◌, Bool, true, ◌&&◌, ◌||◌, ◌==◌, nat_lt, nat_le, if◌then◌else◌, List, [], ◌∷◌, length, take, drop, Option, Some, None}
+use Rattle.std.specs.Prelude.{ℕ, min, ◌^◌, Bool, true, ◌&&◌, ◌||◌, ◌==◌, nat_lt, nat_le, if◌then◌else◌, List, [], ◌∷◌, length, take, drop, bytes_eq, Option, Some, None}
 use Rattle.std.specs.Int.{Width, w8, w32, w64, byte_len, from_be_bytes}
 use Rattle.et_base.specs.declared.line.TraceLine.{TraceLine}
 use Rattle.et_base.specs.declared.line.TraceLine.TheVariants.{Header, Class, Method, Alloc, Update, Enter, Exit, Unwind, Flush, Death, Finish}
 use Rattle.et_text.specs.Reading.{◌>>=◌}
+use Rattle.et_binary.specs.Packing.{opening}
 
 -- a number of this width at the front, and the bytes behind it; none where there are fewer
 unfoldable pub number_front : Width → List ℕ → Option (ℕ × List ℕ)
@@ -142,8 +143,4 @@ is_in_range line = is_access_in_range line
 
 -- no one of the first four bytes is wrong
 abbrev pub may_open : List ℕ → Bool
-may_open (a ∷ b ∷ c ∷ d ∷ rest) = a == 254 && b == 69 && c == 84 && d == 50
-may_open (a ∷ b ∷ c ∷ []) = a == 254 && b == 69 && c == 84
-may_open (a ∷ b ∷ []) = a == 254 && b == 69
-may_open (a ∷ []) = a == 254
-may_open [] = true
+may_open bytes = let count = min (length bytes) (length opening) in bytes_eq (take count bytes) (take count opening)

@@ -13,7 +13,8 @@ mod whole;
 mod writing;
 
 pub use formats::{header_version, write_line_in};
+pub use ranges::OPENING;
 pub use reader::BinaryReader;
-pub use records::{OPENING, read_record};
+pub use records::read_record;
 pub use whole::follow_pack;
 pub use writing::write_record;

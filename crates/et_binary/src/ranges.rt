@@ -1,8 +1,11 @@
-//! What the numbers of a record may be.
+//! With what bytes a binary trace begins, and what the numbers of a record may be.
 ghost use Rattle.std.specs.Prelude.{◌≡◌};
 ghost use Rattle.et_binary.specs.Fronts.{is_record_letter, is_turn, is_call_in_range, is_access_in_range, is_in_range, may_open};
 
 use et_base::TraceLine;
+
+/// What stands before the first record.
+pub const OPENING: [u8; 4] = [0xFE, b'E', b'T', b'2'];
 
 /// The greatest event.
 const MOST: u64 = 1 << 40;
@@ -24,13 +27,8 @@ pub fn is_record_letter(b: u8) -> bool
 pub fn may_open(bytes: &[u8]) -> bool
     ensures { result ≡ may_open bytes.now }
 {
-    match bytes {
-        [] => true,
-        [a] => *a == 0xFE,
-        [a, b] => *a == 0xFE && *b == b'E',
-        [a, b, c] => *a == 0xFE && *b == b'E' && *c == b'T',
-        [a, b, c, d, ..] => *a == 0xFE && *b == b'E' && *c == b'T' && *d == b'2',
-    }
+    let count = bytes.len().min(OPENING.len());
+    bytes[..count] == OPENING[..count]
 }
 
 fn is_turn(event: u64, thread: u8) -> bool

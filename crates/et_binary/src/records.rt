@@ -5,13 +5,10 @@ ghost use Rattle.et_binary.specs.Packs.{IsMalformed, IsUnfinished};
 ghost use Rattle.et_binary.specs.Unpacking.{IsFront, TakesRecord, LeavesRecord, RefusesFront, TakesAll, MayGoOn, ShowsIn, unpacked_bytes};
 
 use crate::fronts::record_front;
-use crate::ranges::{is_in_range, is_record_letter, may_open};
+use crate::ranges::{OPENING, is_in_range, is_record_letter, may_open};
 use et_base::TraceLine;
 use et_text::{AFTER, FORM, LineError, Rules, TraceFault};
 use std::alloc::Global;
-
-/// How many bytes stand before the first record.
-pub const OPENING: usize = 4;
 
 /// The line of the first record, and the bytes behind the record. `None` says that no record is whole, and `Form` that the
 /// letter is none of the table, or that the record is whole and one of its numbers is out of its range or a name is empty. It
@@ -117,9 +114,9 @@ pub fn take_all<'a>(
             line: 1,
         });
     }
-    if bytes.len() < OPENING {
+    if bytes.len() < OPENING.len() {
         return Ok((false, bytes));
     }
-    let left = take_records(alloc, rules, &bytes[OPENING..])?;
+    let left = take_records(alloc, rules, &bytes[OPENING.len()..])?;
     Ok((true, left))
 }

@@ -4,8 +4,8 @@ ghost use Rattle.et_base.specs.declared.line.TraceLine.{TraceLine};
 ghost use Rattle.et_text.specs.Followed.{IsFollowed};
 ghost use Rattle.et_binary.specs.FollowedPacks.{FollowsFront, LeavesFront, RefusesFrontNext, IsPackFollowed, IsFaultOfPack};
 
-use crate::ranges::may_open;
-use crate::records::{OPENING, read_record};
+use crate::ranges::{OPENING, may_open};
+use crate::records::read_record;
 use et_text::{AFTER, FORM, Follower, Following, LineError, TraceFault, UNENDED};
 use std::alloc::Global;
 
@@ -61,14 +61,14 @@ pub fn follow_pack<F: Follower>(alloc: Global, bytes: &[u8], follower: F) -> Res
             line: 1,
         });
     }
-    if bytes.len() < OPENING {
+    if bytes.len() < OPENING.len() {
         return Err(TraceFault::At {
             kind: UNENDED,
             line: 1,
         });
     }
     let mut lines = Following::begin(alloc, follower);
-    let mut rest = &bytes[OPENING..];
+    let mut rest = &bytes[OPENING.len()..];
     'records: while let Some(behind) = take_front(alloc, &mut lines, rest)? {
         rest = behind;
     }

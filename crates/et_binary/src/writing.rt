@@ -9,6 +9,7 @@ ghost use Rattle.et_text.specs.Ranges.{IsShort, HasShortNames};
 ghost use Rattle.et_binary.specs.Packing.{Fixed, Prefixed, packed_field, packing, written_record};
 ghost use Rattle.et_binary.specs.Written.{written_field};
 
+use crate::ranges::OPENING;
 use byteorder::{BigEndian, ByteOrder};
 use et_base::{Name, NoMemory, TraceLine};
 
@@ -21,9 +22,6 @@ enum Field {
 }
 
 use Field::{Byte, Long, Word};
-
-/// What stands before the first record.
-const OPENING: [u8; 4] = [0xFE, b'E', b'T', b'2'];
 
 fn put_word(buffer: &mut Vec<u8>, n: u32) -> Result<(), NoMemory>
     ensures ok { OnOk result (buffer.new.items ≡ buffer.old.items ++ to_be_bytes w32 n) }

@@ -34,6 +34,7 @@ pub fn operands_are_few(machine: &Machine, thread: ThreadId)
 
 /// The entry of the arguments that stands so far behind the first of them; `Unset` behind the last.
 #[tactic(auto, using(crate::proofs::Standing::argument_there, crate::proofs::Standing::argument_past, et_parts::proofs::Groups::unset_is_in))]
+#[inline(always)]
 pub fn argument_at(machine: &Machine, thread: ThreadId, count: u32, j: u32) -> Value
     requires frame { HasFrame machine.now.guest thread }
     requires operands { count ≤ length (top machine.now.guest thread).operands }
@@ -64,19 +65,8 @@ pub fn receiver(machine: &Machine, thread: ThreadId, count: u32) -> Option<Objec
     }
 }
 
-/// How many entries the value of a kind takes that begins with this entry and the next; `None` where it is of another kind.
-fn entries_in(kind: Option<Operand>, first: Value, next: Value) -> Option<u32>
-    ensures { result ≡ entries_among kind first next }
-{
-    match (kind, first, next) {
-        (Some(Operand::Int), Value::Int(_), _) => Some(1),
-        (Some(Operand::Long), Value::Long(_), Value::LongHigh) => Some(2),
-        (Some(Operand::Reference), Value::Null | Value::Ref(_), _) => Some(1),
-        _ => None,
-    }
-}
-
 /// How many entries the argument of a kind takes that begins so far behind the first.
+#[inline(always)]
 fn entries_at(
     machine: &Machine,
     thread: ThreadId,
@@ -91,9 +81,17 @@ fn entries_at(
         (slice_index_or (arguments_in (top machine.now.guest thread) count) at Unset)
         (slice_index_or (arguments_in (top machine.now.guest thread) count) (at + 1) Unset) }
 {
-    let first = argument_at(machine, thread, count, at);
-    let next = argument_at(machine, thread, count, at + 1);
-    entries_in(kind, first, next)
+    match (kind, argument_at(machine, thread, count, at)) {
+        (Some(Operand::Int), Value::Int(_)) => Some(1),
+        (Some(Operand::Reference), Value::Null | Value::Ref(_)) => Some(1),
+        (Some(Operand::Long), Value::Long(_)) => {
+            match argument_at(machine, thread, count, at + 1) {
+                Value::LongHigh => Some(2),
+                _ => None,
+            }
+        }
+        _ => None,
+    }
 }
 
 /// Whether the arguments from one on are values of these kinds, and no others.

@@ -1,6 +1,7 @@
 -- The event in which a method with code is entered, after quiet classes became done.
 use Rattle.std.proofs.Common.{◌≡◌, ℕ, zero, suc, ◌+◌, ◌<◌, ◌≤◌, ◌^◌, Bool, true, false, List, [], ◌∷◌, ◌++◌, length, get_or, take, All, Option, Some, None, refl, sym, ◌∙◌, ap, subst, arith, Contains, option_to_list, append_assoc}
 use Rattle.std.specs.Prelude.{unwrap_or, IfSome}
+use Rattle.std.proofs.lemmas.List.Elements.{Contains-append_right}
 use Rattle.std.proofs.lemmas.Bool.{lt-ltb, le-ltb}
 use Rattle.std.proofs.lemmas.List.{length-set}
 use Rattle.et_base.specs.declared.value.Value.{Value}
@@ -11,15 +12,16 @@ use Rattle.et_heap.specs.declared.monitor.Monitor.{Monitor}
 use Rattle.et_heap.specs.Objects.{IsHeld, ObjectState, Objects, at, found, free_monitor, is_there, object_at, with_monitor}
 use Rattle.et_heap.specs.Refs.{refs_of}
 use Rattle.et_state.specs.ThreadRoots.{frame_roots}
-use Rattle.et_state.specs.Threads.{FrameState, ThreadState, no_thread, entered_by, most_frames, popped}
+use Rattle.et_state.specs.NewFrames.{frame_with}
+use Rattle.et_state.specs.declared.new_frame.NewHead.{NewHead}
+use Rattle.et_state.specs.Threads.{FrameState, ThreadState, no_thread, entered_by, locals_with, most_frames, popped, with_top_of}
 use Rattle.et_state.specs.State.{Kept, MachineState, kept_of}
-use Rattle.et_state.specs.Words.{HasFrame, thread_at, top, with_top, steps_top}
+use Rattle.et_state.specs.Words.{HasFrame, thread_at, top, steps_thread, steps_top}
 use Rattle.et_state.specs.Interned.{interned_objects}
-use Rattle.et_state.specs.Moves.{IsOnWay, Led, WasThere}
-use Rattle.et_state.proofs.Calls.{on_enter_frame, on_set_entered}
-use Rattle.et_state.proofs.Places.{frame_pops, guest_top, string_root, top_root}
+use Rattle.et_state.specs.Moves.{IsOnWay, Led}
+use Rattle.et_state.proofs.Calls.{on_enter_frame, on_enter_over, on_set_entered}
+use Rattle.et_state.proofs.Places.{string_root}
 use Rattle.et_state.proofs.Steps.{root_there}
-use Rattle.et_state.proofs.UnderWay.{law_guest}
 use Rattle.et_program.specs.Entries.{Linked, method_at, is_static}
 use Rattle.et_program.specs.declared.info.MethodInfo.{MethodInfo}
 use Rattle.et_state.specs.declared.records.Record.{Record}
@@ -30,7 +32,7 @@ use Rattle.et_state.specs.Outcome.{Outcome}
 use Rattle.et_event.specs.declared.errors.GuestError.TheVariants.{StackOverflowError}
 use Rattle.et_event.specs.Answered.{EventAnswers}
 use Rattle.et_event.specs.Checks.{frame_fits, throws_unless, waits_unless}
-use Rattle.et_event.specs.Frames.{frame_entered, method_frame, receiver_of}
+use Rattle.et_event.specs.Frames.{frame_entered, lock_slot, method_frame, receiver_of}
 use Rattle.et_event.specs.Moments.{Moment, moment, Doing, begins, told, with_thread_state, fits_heap, throws, waits, ends_event as ending}
 use Rattle.et_event.specs.Monitors.{Lock, OfObject, OfClass, entered_some, is_open_to, lock_for, may_enter_some, monitor_of}
 use Rattle.et_event.specs.Sound.{IsSoundFor}
@@ -43,13 +45,14 @@ use Rattle.et_event.specs.InitializationOrder.{IsInOrder}
 use Rattle.et_initialize.proofs.Beginning.{strings_led}
 use Rattle.et_initialize.proofs.Preparing.{grown_prepared}
 use Rattle.et_initialize.proofs.Stepping.{after, base, base_threads, has_frame_on, made_after, monitors_after, threads_after, top_on}
+use Rattle.et_builtins.specs.Arguments.{arguments_in}
 use Rattle.et_calls.specs.declared.new_frames.Entered.{Entered}
 use Rattle.et_calls.specs.declared.new_frames.Passed.{Passed}
 use Rattle.et_calls.specs.declared.new_frames.Passed.TheVariants.{Operands, Object}
 use Rattle.et_calls.specs.Entering.{ArePassedTo, IsEntered, arguments_passed, entering_event, fitting_event, passed_by, passing, prepared_for, pushed_by, pushed_event}
 use Rattle.et_calls.specs.Fresh.{IsFresh}
 use Rattle.et_calls.proofs.Fresh.{fresh_on}
-use Rattle.et_calls.proofs.Passed.{operand_rooted, passed_held, passed_on, passed_thread, receiver_held, refs_taken, slot_in, taken_started}
+use Rattle.et_calls.proofs.Passed.{over_same, passed_held, passed_on, passed_thread, receiver_held, slot_in, taken_started}
 use Rattle.et_calls.proofs.Thrown.{entry_root}
 
 -- THE CLASSES BECAME DONE: objects and monitors are as they were
@@ -89,6 +92,9 @@ few_base p t ks m (Some (OfClass c)) has few = subst (λ (x : Monitor). x.count 
 pub base_passed : (p : Linked) (t : ℕ) (ks : List ℕ) (passed : Passed) (m n : MachineState) → n ≡ base p m t ks → ArePassedTo m.guest t passed → ArePassedTo n.guest t passed
 base_passed p t ks passed m n e there = passed_on m.guest n.guest t passed (base_threads p t ks m n e) there
 
+pub base_arguments : (p : Linked) (t : ℕ) (ks : List ℕ) (passed : Passed) (m n : MachineState) → n ≡ base p m t ks → arguments_passed (top n.guest t) passed ≡ arguments_passed (top m.guest t) passed
+base_arguments p t ks passed m n e = ap (λ (f : FrameState). arguments_passed f passed) (top_on m.guest n.guest t (base_threads p t ks m n e))
+
 pub base_few : (p : Linked) (t : ℕ) (ks : List ℕ) (m n : MachineState) → n ≡ base p m t ks → length (thread_at m.guest t).frames < most_frames → length (thread_at n.guest t).frames < most_frames
 base_few p t ks m n e lt = subst (λ (ts : List ThreadState). length (get_or ts t no_thread).frames < most_frames) (sym (base_threads p t ks m n e)) lt
 
@@ -111,8 +117,7 @@ entered_lock p t x m r lock sound is received held e = (
 
 -- THE ARGUMENTS ARE TAKEN
 
-record Took (m : MachineState) (d d₁ : Doing) (n : MachineState) : Type 0 where
-  way : IsOnWay (kept_of m) n
+record Took (d d₁ : Doing) (n : MachineState) : Type 0 where
   kept : kept_of n ≡ d₁.state
   records : d₁.records ≡ d.records
   heap : n.heap ≡ d.state.heap
@@ -120,44 +125,16 @@ record Took (m : MachineState) (d d₁ : Doing) (n : MachineState) : Type 0 wher
   strings : n.guest.interned ≡ d.state.guest.interned
   clock : d₁.state.guest.clock ≡ d.state.guest.clock
 
-took : (p : Linked) (t : ℕ) (ks : List ℕ) (passed : Passed) (m : MachineState) → IsInOrder p → All (λ k. k < length p.classes) ks → IsSoundFor p (kept_of m) → ArePassedTo m.guest t passed
-    → Took m (after p m t ks) (passing (moment p m t) passed (after p m t ks)) (passed_by (base p m t ks) t passed)
-took p t ks (Operands count) m order all sound there =
-    let s = kept_of m in
-    let n : MachineState = base p m t ks in
-    let made = made_after p t ks m order all sound in
-    let threads = threads_after p t ks m in
-    let on : HasFrame n.guest t = has_frame_on m.guest n.guest t threads there.0 in
-    let same : top n.guest t ≡ top m.guest t = top_on m.guest n.guest t threads in
-    let g : FrameState = top n.guest t in
-    record {
-      way = law_guest s (kept_of n) [] (with_top n.guest t (popped count g)) (refs_of (take count g.operands)) made.way
-          (guest_top (IsHeld n.heap) (WasThere s (kept_of n)) n.guest t (popped count g) (refs_of (take count g.operands)) on
-          (frame_pops (IsHeld n.heap) (WasThere s (kept_of n)) g count
-          (λ o c. root_there s (kept_of n) o (top_root m.guest t o there.0 (subst (λ (x : FrameState). Contains (frame_roots x) o) same (operand_rooted g o (refs_taken g.operands count o c)))))));
-      kept = ap (λ (h : FrameState). kept_of (steps_top n t (popped count h) [])) same;
-      records = refl;
-      heap = refl;
-      monitors = refl;
-      strings = refl;
-      clock = refl;
-    }
-took p t ks (Object argument) m order all sound there =
-    let s = kept_of m in
-    let n : MachineState = base p m t ks in
-    let made = made_after p t ks m order all sound in
-    let threads = threads_after p t ks m in
-    let on : IsFresh n.guest t = fresh_on m.guest n.guest t threads there.0 in
-    record {
-      way = on_set_entered s n t made.way on.unended
-          (λ o c. root_there s (kept_of n) o (entry_root m.guest t o there.0 (subst (λ (ts : List ThreadState). Contains (option_to_list (get_or ts t no_thread).entry) o) threads c)));
-      kept = refl;
-      records = refl;
-      heap = refl;
-      monitors = refl;
-      strings = refl;
-      clock = refl;
-    }
+took : (p : Linked) (t : ℕ) (ks : List ℕ) (passed : Passed) (m : MachineState) → Took (after p m t ks) (passing (moment p m t) passed (after p m t ks)) (passed_by (base p m t ks) t passed)
+took p t ks (Operands count) m = record {
+  kept = ap (λ (h : FrameState). kept_of (steps_top (base p m t ks) t (popped count h) [])) (top_on m.guest (base p m t ks).guest t (threads_after p t ks m));
+  records = refl;
+  heap = refl;
+  monitors = refl;
+  strings = refl;
+  clock = refl;
+}
+took p t ks (Object argument) m = record { kept = refl; records = refl; heap = refl; monitors = refl; strings = refl; clock = refl }
 
 -- WHAT THE NEW FRAME HOLDS
 frame_held : (p : Linked) (t method : ℕ) (ks : List ℕ) (body : Body) (passed : Passed) (m : MachineState) → IsSoundFor p (kept_of m) → ArePassedTo m.guest t passed
@@ -166,6 +143,35 @@ frame_held p t method ks body passed m sound there =
     let vs : List Value = arguments_passed (top m.guest t) passed in
     let held = λ (o : ℕ) (c : Contains (refs_of vs) o). held_after p t ks m o (passed_held t passed m sound.held there o c) in
     frame_holds p method body vs (λ o. IsHeld (after p m t ks).state.heap o) held (λ o c. held o (slot_in (has_flag (method_at p method).flags SYNCHRONIZED) (is_static p method) vs o c))
+
+-- THE FRAME IS PUT ON TOP
+
+put_on_way : (p : Linked) (t method : ℕ) (ks : List ℕ) (body : Body) (passed : Passed) (m : MachineState) → IsInOrder p → All (λ k. k < length p.classes) ks → IsSoundFor p (kept_of m) → ArePassedTo m.guest t passed
+    → IsOnWay (kept_of m) (pushed_by (base p m t ks) t passed (method_frame p method body (arguments_passed (top m.guest t) passed)))
+put_on_way p t method ks body (Operands count) m order all sound there =
+    let s = kept_of m in
+    let n : MachineState = base p m t ks in
+    let threads = threads_after p t ks m in
+    let on : HasFrame n.guest t = has_frame_on m.guest n.guest t threads there.0 in
+    let vs : List Value = arguments_in (top m.guest t) count in
+    let h : NewHead = record { method = method; lock = lock_slot p method vs; max_stack = body.max_stack; max_locals = body.max_locals } in
+    let x : ThreadState = with_top_of (thread_at n.guest t) (popped count (top n.guest t)) in
+    let locals : List ℕ = refs_of (locals_with body.max_locals vs) in
+    let way : IsOnWay s (steps_thread n t (entered_by (frame_with h (arguments_in (top n.guest t) count)) x) []) =
+    on_enter_over s n t h count (made_after p t ks m order all sound).way on (λ o c. frame_held p t method ks body (Operands count) m sound there o (Contains-append_right locals (option_to_list h.lock) o c)) in
+    subst (λ (z : MachineState). IsOnWay s z) (over_same n t x (frame_with h vs) on.thread)
+    (subst (λ (f : FrameState). IsOnWay s (steps_thread n t (entered_by (frame_with h (arguments_in f count)) x) [])) (top_on m.guest n.guest t threads) way)
+put_on_way p t method ks body (Object argument) m order all sound there =
+    let s = kept_of m in
+    let n : MachineState = base p m t ks in
+    let threads = threads_after p t ks m in
+    let on : IsFresh n.guest t = fresh_on m.guest n.guest t threads there.0 in
+    let way : IsOnWay s (passed_by n t (Object argument)) =
+    on_set_entered s n t (made_after p t ks m order all sound).way on.unended
+    (λ o c. root_there s (kept_of n) o (entry_root m.guest t o there.0 (subst (λ (ts : List ThreadState). Contains (option_to_list (get_or ts t no_thread).entry) o) threads c))) in
+    on_enter_frame s (passed_by n t (Object argument)) t (method_frame p method body (arguments_passed (top m.guest t) (Object argument))) way
+    (taken_started n t (Object argument) (passed_on m.guest n.guest t (Object argument) threads there))
+    (λ o c. frame_held p t method ks body (Object argument) m sound there o c)
 
 -- A MONITOR IS ENTERED
 
@@ -191,13 +197,12 @@ entered_by_lock e method body vs d lock =
     told (Enter (entered_some e lock d).state.guest.clock e.thread method (unwrap_or (receiver_of e.program method vs) 0))
     (with_thread_state e (entered_by (method_frame e.program method body vs) (thread_at (entered_some e lock d).state.guest e.thread)) (entered_some e lock d))
 
-room_taken : (p : Linked) (t : ℕ) (ks : List ℕ) (passed : Passed) (lock : Option Lock) (m : MachineState) (b : Bool) → IsInOrder p → All (λ k. k < length p.classes) ks → IsSoundFor p (kept_of m) → ArePassedTo m.guest t passed → HasSome m lock
-    → fits_heap (after p m t ks).state.heap ≡ b → fits_heap (entered_some (moment p m t) lock (passing (moment p m t) passed (after p m t ks))).state.heap ≡ b
-room_taken p t ks passed lock m b order all sound there has room =
+room_taken : (p : Linked) (t : ℕ) (ks : List ℕ) (passed : Passed) (lock : Option Lock) (m : MachineState) (b : Bool) → HasSome m lock → fits_heap (after p m t ks).state.heap ≡ b → fits_heap (entered_some (moment p m t) lock (passing (moment p m t) passed (after p m t ks))).state.heap ≡ b
+room_taken p t ks passed lock m b has room =
     let e = moment p m t in
     let n : MachineState = base p m t ks in
     let n₁ : MachineState = passed_by n t passed in
-    let it = took p t ks passed m order all sound there in
+    let it = took p t ks passed m in
     fits_locked e lock (passing e passed (after p m t ks)) n₁ it.kept (there_later n n₁ lock it.heap it.monitors (has_base p t ks m lock has))
     ∙ (ap (λ (k : Kept). fits_heap k.heap) (sym it.kept) ∙ (ap (λ (h : Objects). fits_heap h) it.heap ∙ room))
 
@@ -219,11 +224,9 @@ method_entered p t method ks body passed lock m m₂ m₃ out out₂ out₃ orde
     let grown = made.grown in
     let d₁ : Doing = passing e passed d in
     let n₁ : MachineState = passed_by n t passed in
-    let it = took p t ks passed m order all sound there in
+    let it = took p t ks passed m in
     let n₂ : MachineState = pushed_by n t passed f in
-    let way₂ : IsOnWay s n₂ =
-    on_enter_frame s n₁ t f it.way (taken_started n t passed (passed_on m.guest n.guest t passed (threads_after p t ks m) there))
-    (λ o c. subst (λ (h : Objects). IsHeld h o) (sym it.heap) (frame_held p t method ks body passed m sound there o c)) in
+    let way₂ : IsOnWay s n₂ = put_on_way p t method ks body passed m order all sound there in
     let has₂ : HasSome n₂ lock = there_later n n₂ lock it.heap it.monitors (has_base p t ks m lock has) in
     let z : MachineState = entering_some t lock n₂ in
     let is : m₃ ≡ z = e₃ ∙ ap (λ (y : MachineState). entering_some t lock (pushed_by y t passed f)) e₂ in
@@ -238,7 +241,7 @@ method_entered p t method ks body passed lock m m₂ m₃ out out₂ out₃ orde
     ∙ (ap (λ (k : Kept). (entered_some e lock (with_thread_state e (entered_by f (thread_at k.guest t)) (record { state = k; records = d₁.records }))).state) it.kept
     ∙ ap (λ (w : Doing). w.state) (commutes e lock f d₁)) in
     let all_done : Doing = told (Enter x.state.guest.clock t method number) y in
-    let fit : fits_heap all_done.state.heap ≡ true = room_taken p t ks passed lock m true order all sound there has room in
+    let fit : fits_heap all_done.state.heap ≡ true = room_taken p t ks passed lock m true has room in
     let last : ℕ → List Record = λ k. Enter k t method number ∷ [] in
     let records : out₃ ≡ out ++ all_done.records =
     r₃ ∙ (ap (λ (k : ℕ). out₂ ++ last k) (ap (λ (w : MachineState). w.guest.clock) e₂)
@@ -251,27 +254,26 @@ method_entered p t method ks body passed lock m m₂ m₃ out out₂ out₃ orde
     subst (λ (l : Option Lock). EventAnswers (ending (entered_by_lock e method body vs d₁ l)) ends.Done m m₃ out out₃) held answers
 
 -- .. where it doesn't fit
-pub method_unfit : (p : Linked) (t method : ℕ) (ks : List ℕ) (body : Body) (passed : Passed) (lock : Option Lock) (m : MachineState) (out : List Record) → IsInOrder p → All (λ k. k < length p.classes) ks → IsSoundFor p (kept_of m)
-    → ArePassedTo m.guest t passed → fits_heap (after p m t ks).state.heap ≡ false
+pub method_unfit : (p : Linked) (t method : ℕ) (ks : List ℕ) (body : Body) (passed : Passed) (lock : Option Lock) (m : MachineState) (out : List Record) → fits_heap (after p m t ks).state.heap ≡ false
     → lock ≡ lock_for (method_at p method) (receiver_of p method (arguments_passed (top m.guest t) passed)) → HasSome m lock
     → EventAnswers (ending (frame_entered (moment p m t) method body (arguments_passed (top m.guest t) passed) (passing (moment p m t) passed (after p m t ks)))) ends.ObjectLimit m m out out
-method_unfit p t method ks body passed lock m out order all sound there room held has =
+method_unfit p t method ks body passed lock m out room held has =
     let e : Moment = moment p m t in
     let vs : List Value = arguments_passed (top m.guest t) passed in
     let d₁ : Doing = passing e passed (after p m t ks) in
-    let fit : fits_heap (entered_by_lock e method body vs d₁ lock).state.heap ≡ false = room_taken p t ks passed lock m false order all sound there has room in
+    let fit : fits_heap (entered_by_lock e method body vs d₁ lock).state.heap ≡ false = room_taken p t ks passed lock m false has room in
     subst (λ (l : Option Lock). EventAnswers (ending (entered_by_lock e method body vs d₁ l)) ends.ObjectLimit m m out out) held
     (subst (λ (o : Outcome Kept). EventAnswers o ends.ObjectLimit m m out out) (sym (ends_full (entered_by_lock e method body vs d₁ lock) fit)) (refl, refl))
 
-pub unfit : (p : Linked) (t : ℕ) (x : Entered) (m : MachineState) (out : List Record) → IsInOrder p → IsSoundFor p (kept_of m) → IsEntered p m t x → fits_heap (after p m t x.classes.now).state.heap ≡ false
+pub unfit : (p : Linked) (t : ℕ) (x : Entered) (m : MachineState) (out : List Record) → IsSoundFor p (kept_of m) → IsEntered p m t x → fits_heap (after p m t x.classes.now).state.heap ≡ false
     → EventAnswers (pushed_event (moment p m t) x) ends.ObjectLimit m m out out
-unfit p t x m out order sound is room =
+unfit p t x m out sound is room =
     let vs : List Value = arguments_passed (top m.guest t) x.passed in
     let r : Option ℕ = receiver_of p x.method vs in
     let held : IfSome r (λ o. IsHeld m.heap o) = receiver_held t x.passed m (is_static p x.method) sound.held is.passed in
     let lock : Option Lock = lock_for x.info.now r in
     let locked = entered_lock p t x m r lock sound is refl held refl in
-    method_unfit p t x.method x.classes.now x.code.now x.passed lock m out order is.classes sound is.passed room locked.0 locked.1
+    method_unfit p t x.method x.classes.now x.code.now x.passed lock m out room locked.0 locked.1
 
 -- HOW MANY FRAMES THERE ARE
 

@@ -15,3 +15,4 @@ mod FirstMethods
 mod Mains
 mod Running
 mod Initializing
+mod Behind

@@ -1,8 +1,7 @@
 -- The arguments of a method that is entered, where they stand.
-use Rattle.std.proofs.Common.{◌≡◌, ℕ, zero, suc, ◌<◌, ◌≤◌, Bool, true, false, List, [], ◌∷◌, ◌++◌, length, get_or, take, reverse, Option, Some, None, refl, sym, ◌∙◌, ap, subst, arith, Contains, get_or-set_same, inl, inr, option_to_list, append-nil}
+use Rattle.std.proofs.Common.{◌≡◌, ℕ, zero, suc, ◌<◌, ◌≤◌, Bool, true, false, List, [], ◌∷◌, ◌++◌, length, get_or, set, take, reverse, Option, Some, None, refl, sym, ◌∙◌, ap, subst, arith, Contains, get_or-set_same, inl, inr, option_to_list, append-nil}
 use Rattle.std.specs.Prelude.{if◌then◌else◌, IfSome}
-use Rattle.std.proofs.lemmas.List.{length-set, reverse-append}
-use Rattle.std.proofs.lemmas.Grind.{flat_map-append}
+use Rattle.std.proofs.lemmas.List.{length-set, set-set}
 use Rattle.std.proofs.lemmas.List.Elements.{Contains-append_left, Contains-append_right, Contains-append_cases}
 use Rattle.et_base.specs.declared.value.Value.{Value}
 use Rattle.et_base.specs.declared.value.Value.TheVariants.{Ref}
@@ -11,16 +10,19 @@ use Rattle.et_heap.specs.Objects.{IsHeld}
 use Rattle.et_heap.specs.Refs.{refs_of_value, refs_of}
 use Rattle.et_state.specs.ThreadRoots.{frame_roots}
 use Rattle.et_state.specs.Threads.{FrameState, ThreadState, no_thread, as_entered, ended_roots, entered_by, popped, rest_of, with_top_of}
+use Rattle.et_state.specs.NewFrames.{entered_over, frame_with}
+use Rattle.et_state.specs.declared.new_frame.NewHead.{NewHead}
 use Rattle.et_state.specs.State.{GuestState, MachineState, kept_of}
-use Rattle.et_state.specs.Words.{thread_at, top, steps_thread}
+use Rattle.et_state.specs.Words.{thread_at, with_thread, top, steps_thread}
 use Rattle.et_state.specs.Sound.{IsSound}
-use Rattle.et_state.proofs.Places.{ended_root, top_root}
+use Rattle.et_state.proofs.Places.{ended_root, refs_reversed, top_root}
 use Rattle.et_event.specs.Calls.{entry_arguments}
 use Rattle.et_event.specs.Frames.{first_reference}
 use Rattle.et_event.specs.Monitors.{Lock}
 use Rattle.et_parts.specs.Locks.{HasSome, IsSomeFewTimes}
 use Rattle.et_parts.proofs.There.{there_later, few_later}
 use Rattle.et_initialize.proofs.Stepping.{has_frame_on, top_on}
+use Rattle.et_builtins.specs.Arguments.{arguments_in}
 use Rattle.et_calls.specs.declared.new_frames.Passed.{Passed}
 use Rattle.et_calls.specs.declared.new_frames.Passed.TheVariants.{Operands, Object}
 use Rattle.et_calls.specs.Entering.{ArePassedTo, arguments_passed, passed_by, pushed_by}
@@ -39,18 +41,6 @@ refs_taken (x ∷ xs) (suc n) o c = elim (Contains-append_cases (refs_of_value x
 
 pub operand_rooted : (f : FrameState) (o : ℕ) → Contains (refs_of f.operands) o → Contains (frame_roots f) o
 operand_rooted f o c = Contains-append_right (refs_of f.locals) _ o (Contains-append_left (refs_of f.operands) _ o c)
-
-refs_append : (xs ys : List Value) → refs_of (xs ++ ys) ≡ refs_of xs ++ refs_of ys
-refs_append xs ys = flat_map-append refs_of_value xs ys
-
-refs_reversed : (xs : List Value) (o : ℕ) → Contains (refs_of (reverse xs)) o → Contains (refs_of xs) o
-refs_reversed [] o c = c
-refs_reversed (x ∷ xs) o c =
-    let c' : Contains (refs_of (reverse xs ++ x ∷ [])) o = subst (λ (vs : List Value). Contains (refs_of vs) o) (reverse-append (x ∷ []) xs) c in
-    elim (Contains-append_cases (refs_of (reverse xs)) (refs_of (x ∷ [])) o (subst (λ (os : List ℕ). Contains os o) (refs_append (reverse xs) (x ∷ [])) c')) [
-      | inl d ↦ Contains-append_right (refs_of_value x) (refs_of xs) o (refs_reversed xs o d)
-      | inr d ↦ Contains-append_left (refs_of_value x) (refs_of xs) o (subst (λ (os : List ℕ). Contains os o) (append-nil (refs_of_value x)) d)
-    ]
 
 object_in : (argument : Option ℕ) (o : ℕ) → Contains (refs_of (entry_arguments argument)) o → argument ≡ Some o
 object_in None o c = absurd (Contains-none o c)
@@ -133,10 +123,24 @@ taken_monitors m t (Operands count) = refl
 taken_monitors m t (Object argument) = refl
 
 -- .. and on which a frame was put
-pub pushed_lock : (m : MachineState) (t : ℕ) (passed : Passed) (f : FrameState) (m₂ m₃ : MachineState) (lock : Option Lock) → m₂ ≡ passed_by m t passed → m₃ ≡ steps_thread m₂ t (entered_by f (thread_at m₂.guest t)) []
-    → HasSome m lock → IsSomeFewTimes m lock → (m₃ ≡ pushed_by m t passed f) × HasSome m₃ lock × IsSomeFewTimes m₃ lock
-pushed_lock m t passed f m₂ m₃ lock e₂ e₃ has few =
-    let is : m₃ ≡ pushed_by m t passed f = e₃ ∙ ap (λ (z : MachineState). steps_thread z t (entered_by f (thread_at z.guest t)) []) e₂ in
-    let heap : m₃.heap ≡ m.heap = ap (λ (z : MachineState). z.heap) is ∙ taken_heap m t passed in
-    let monitors : m₃.guest.class_monitors ≡ m.guest.class_monitors = ap (λ (z : MachineState). z.guest.class_monitors) is ∙ taken_monitors m t passed in
-    (is, there_later m m₃ lock heap monitors has, few_later m m₃ lock heap monitors few)
+pub pushed_lock : (m m' : MachineState) (t : ℕ) (passed : Passed) (f : FrameState) (lock : Option Lock) → m' ≡ pushed_by m t passed f → HasSome m lock → IsSomeFewTimes m lock → HasSome m' lock × IsSomeFewTimes m' lock
+pushed_lock m m' t passed f lock is has few =
+    let heap : m'.heap ≡ m.heap = ap (λ (z : MachineState). z.heap) is ∙ taken_heap m t passed in
+    let monitors : m'.guest.class_monitors ≡ m.guest.class_monitors = ap (λ (z : MachineState). z.guest.class_monitors) is ∙ taken_monitors m t passed in
+    (there_later m m' lock heap monitors has, few_later m m' lock heap monitors few)
+
+-- .. at once, over what it takes
+pub over_same : (m : MachineState) (t : ℕ) (x : ThreadState) (f : FrameState) → t < length m.guest.threads → steps_thread m t (entered_by f x) [] ≡ steps_thread (steps_thread m t x []) t (entered_by f (thread_at (steps_thread m t x []).guest t)) []
+over_same m t x f lt =
+    let ts : List ThreadState = m.guest.threads in
+    let lost : List ℕ = m.lost ++ [] in
+    let read : get_or (set ts t x) t no_thread ≡ x = get_or-set_same ts t x no_thread lt in
+    ap (λ (l : List ℕ). record { heap = m.heap; guest = with_thread m.guest t (entered_by f x); lost = l }) (sym (append-nil lost))
+    ∙ (ap (λ (us : List ThreadState). record { heap = m.heap; guest = record m.guest { threads = us }; lost = lost ++ [] }) (sym (set-set ts t x (entered_by f x)))
+    ∙ ap (λ (y : ThreadState). steps_thread (steps_thread m t x []) t (entered_by f y) []) (sym read))
+
+pub over_pushed : (m m' : MachineState) (t : ℕ) (passed : Passed) (count : ℕ) (h : NewHead) → passed ≡ Operands count → ArePassedTo m.guest t passed → m' ≡ steps_thread m t (entered_over h count (thread_at m.guest t)) [] → m' ≡ pushed_by m t passed (frame_with h (arguments_passed (top m.guest t) passed))
+over_pushed m m' t passed count h e there is =
+    let x : ThreadState = with_top_of (thread_at m.guest t) (popped count (top m.guest t)) in
+    subst (λ (y : Passed). m' ≡ pushed_by m t y (frame_with h (arguments_passed (top m.guest t) y))) (sym e)
+    (is ∙ over_same m t x (frame_with h (arguments_in (top m.guest t) count)) (passed_thread m.guest t passed there))

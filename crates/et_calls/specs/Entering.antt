@@ -1,10 +1,9 @@
 -- A method is entered (JVMS 2.6, 2.11.8, 2.11.10): where its arguments stand, and what its event comes to.
-use Rattle.std.specs.Prelude.{◌≡◌, ℕ, ◌<◌, ◌≤◌, not, true, List, [], length, take, All, option_to_list}
+use Rattle.std.specs.Prelude.{◌≡◌, ℕ, ◌<◌, ◌≤◌, not, true, List, [], length, All, option_to_list}
 use Rattle.std.specs.List.{list_all}
 use Rattle.et_base.specs.declared.value.Value.{Value}
 use Rattle.et_class.specs.Names.{has}
 use Rattle.et_class.specs.declared.flags.TheConstants.{NATIVE}
-use Rattle.et_heap.specs.Refs.{refs_of}
 use Rattle.et_state.specs.Threads.{FrameState, as_entered, entered_by, popped}
 use Rattle.et_state.specs.State.{GuestState, Kept, MachineState}
 use Rattle.et_state.specs.Words.{HasFrame, thread_at, top, steps_top, steps_thread}
@@ -42,9 +41,9 @@ passing e (Object argument) d = entering_frame e d
 abbrev pub given_up : MachineState → ℕ → MachineState
 given_up m t = steps_thread m t (as_entered (thread_at m.guest t)) (option_to_list (thread_at m.guest t).entry)
 
--- .. in the machine
+-- .. in the machine: operands aren't lost, since they stand in the new frame then
 abbrev pub passed_by : MachineState → ℕ → Passed → MachineState
-passed_by m t (Operands count) = steps_top m t (popped count (top m.guest t)) (refs_of (take count (top m.guest t).operands))
+passed_by m t (Operands count) = steps_top m t (popped count (top m.guest t)) []
 passed_by m t (Object argument) = given_up m t
 
 -- .. and a frame is put on top

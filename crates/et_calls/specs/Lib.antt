@@ -4,3 +4,4 @@ pub mod Stages
 pub mod Ways
 pub mod Fresh
 pub mod Runs
+pub mod Sizes

@@ -1,64 +1,52 @@
 //! Methods with code are entered (JVMS 2.6, 2.11.8, 2.11.10), after quiet classes became done in the same event (JVMS 5.5).
 ghost use Rattle.std.specs.Prelude.{◌≡◌, ◌+◌, ◌<◌, ◌≤◌, ◌^◌, true, [], IfOk, OnOk, length};
-ghost use Rattle.et_state.specs.NewFrames.{frame_of};
+ghost use Rattle.et_state.specs.NewFrames.{frame_with};
 ghost use Rattle.et_state.specs.Threads.{most_frames};
 ghost use Rattle.et_state.specs.State.{kept_of};
-ghost use Rattle.et_state.specs.Words.{thread_at};
+ghost use Rattle.et_state.specs.Words.{thread_at, top};
 ghost use Rattle.et_event.specs.Answered.{EventAnswers};
 ghost use Rattle.et_event.specs.Moments.{fits_heap, moment};
 ghost use Rattle.et_event.specs.Sound.{IsSoundFor};
 ghost use Rattle.et_parts.specs.Locks.{HasSome, IsSomeFewTimes, entering_some, locks_of};
 ghost use Rattle.et_event.specs.InitializationOrder.{IsInOrder};
-ghost use Rattle.et_calls.specs.Entering.{ArePassedTo, IsEntered, entering_event, fitting_event, passed_by, prepared_for, pushed_by, pushed_event};
+ghost use Rattle.et_calls.specs.Entering.{ArePassedTo, IsEntered, arguments_passed, entering_event, fitting_event, prepared_for, pushed_by, pushed_event};
 
-use crate::new_frames::{Entered, Passed, new_frame, number_of, passed_arguments, receiver_of};
+use crate::new_frames::{
+    Entered, Passed, new_head, number_of, passed_count, put_frame, receiver_of,
+};
 use et_base::{NoMemory, Steps, ThreadId};
-use et_builtins::operands_are_few;
 use et_event::GuestError;
 use et_initialize::{MOST_FRAMES, begin_prepared, prepared_fit, throw_after};
-use et_parts::{Lock, enter_some, lock_for, may_enter_some, take, wait_event};
+use et_parts::{Lock, enter_some, lock_for, may_enter_some, wait_event};
 use et_program::Program;
-use et_state::{EventEnd, Lines, Machine, NewFrame, Record};
+use et_state::{EventEnd, Lines, Machine, NewHead, Record};
 use std::alloc::Global;
 use std::sync::ledger::Ledger;
-
-/// In the event under way, the arguments are taken from where they stand; a thread without a frame counts as entered then.
-fn take_passed(machine: &mut Machine, thread: ThreadId, passed: &Passed)
-    requires passed { ArePassedTo machine.old.guest thread passed.now }
-    requires lost { machine.old.lost ≡ [] }
-    ensures { machine.new ≡ passed_by machine.old thread passed.now }
-{
-    match passed {
-        Passed::Operands(count) => {
-            operands_are_few(machine, thread);
-            take(machine, thread, *count);
-        }
-        Passed::Object(_) => machine.set_entered(thread),
-    }
-}
 
 /// In the event under way, the arguments are taken, the frame is put on top, and its monitor is entered. It visits two objects
 /// at most.
 fn push_frame<L: Ledger>(
+    alloc: Global,
     machine: &mut Machine,
     thread: ThreadId,
+    head: &NewHead,
     passed: &Passed,
-    frame: NewFrame,
     lock: &Option<Lock>,
     visits: &mut Steps<L>,
 ) -> Result<(), NoMemory>
     requires passed { ArePassedTo machine.old.guest thread passed.now }
     requires lost { machine.old.lost ≡ [] }
     requires few { length (thread_at machine.old.guest thread).frames < most_frames }
-    requires arguments { length frame.arguments.items ≤ frame.max_locals }
+    requires arguments { length (arguments_passed (top machine.old.guest thread) passed.now)
+        ≤ head.now.max_locals }
     requires lock { HasSome machine.old (locks_of lock.now) }
     requires times { IsSomeFewTimes machine.old (locks_of lock.now) }
     ensures ok { OnOk result (machine.new ≡ entering_some thread
-        (locks_of lock.now) (pushed_by machine.old thread passed.now (frame_of frame))) }
+        (locks_of lock.now) (pushed_by machine.old thread passed.now
+        (frame_with head.now (arguments_passed (top machine.old.guest thread) passed.now)))) }
     ensures visits { visits.new ≤ visits.old + 2 }
 {
-    take_passed(machine, thread, passed);
-    machine.enter_frame(thread, frame)?;
+    put_frame(alloc, machine, thread, head, passed)?;
     enter_some(machine, thread, lock, visits);
     Ok(())
 }
@@ -87,8 +75,8 @@ fn push_event<L: Ledger>(
 {
     let passed = &entered.passed;
     let receiver = receiver_of(machine, thread, entered);
-    let arguments = passed_arguments(alloc, machine, thread, passed)?;
-    let frame = new_frame(entered, &receiver, arguments);
+    let count = passed_count(machine, thread, passed);
+    let head = new_head(entered, &receiver, count);
     begin_prepared(program, machine, thread, entered.classes, out)?;
     out.push(Record::Enter {
         event: machine.clock(),
@@ -97,8 +85,29 @@ fn push_event<L: Ledger>(
         receiver: number_of(&receiver),
     })?;
     let lock = lock_for(entered.info, receiver);
-    push_frame(machine, thread, passed, frame, &lock, visits)?;
+    push_frame(alloc, machine, thread, &head, passed, &lock, visits)?;
     Ok(EventEnd::Done)
+}
+
+/// Whether what the quiet ones among the classes make, as they become done, has room.
+#[inline(always)]
+fn classes_fit(
+    alloc: Global,
+    program: &Program,
+    machine: &Machine,
+    thread: ThreadId,
+    entered: &Entered<'_>,
+) -> Result<bool, NoMemory>
+    requires order { IsInOrder program.now }
+    requires sound { IsSoundFor program.now (kept_of machine.now) }
+    requires entered { IsEntered program.now machine.now thread entered.now }
+    ensures { IfOk result (λ fits. fits ≡ fits_heap
+        (prepared_for (moment program.now machine.now thread) entered.now).state.heap) }
+{
+    if entered.classes.is_empty() {
+        return Ok(true);
+    }
+    prepared_fit(alloc, program, machine, entered.classes, 0, 0)
 }
 
 /// The event of a method whose monitor the thread may enter: it is entered, or StackOverflowError is thrown where the thread has
@@ -124,7 +133,7 @@ fn fitting_frame_event<L: Ledger>(
         let error = GuestError::StackOverflowError;
         return throw_after(alloc, program, machine, thread, entered.classes, error, out);
     }
-    if !prepared_fit(alloc, program, machine, entered.classes, 0, 0)? {
+    if !classes_fit(alloc, program, machine, thread, entered)? {
         return Ok(EventEnd::ObjectLimit);
     }
     push_event(alloc, program, machine, thread, entered, out, visits)

@@ -5,9 +5,12 @@ ghost use Rattle.et_state.specs.Words.{HasFrame, top, steps_top};
 ghost use Rattle.et_program.specs.Entries.{method_at};
 ghost use Rattle.et_event.specs.Frames.{next_place_of as behind_of, behind_or};
 ghost use Rattle.et_event.specs.Sites.{present_body};
+ghost use Rattle.et_calls.specs.Sizes.{call_size as size_of_call};
 
+use et_base::numbers::u8_at;
 use et_base::{MethodId, ThreadId, Value};
 use et_code::decode;
+use et_code::opcode::{INVOKEINTERFACE, INVOKESPECIAL, INVOKESTATIC, INVOKEVIRTUAL};
 use et_parts::{code_of, give};
 use et_program::Program;
 use et_state::Machine;
@@ -23,16 +26,33 @@ fn code_at(program: &Program, method: MethodId) -> &[u8]
     code_of(program.method(method))
 }
 
-/// The pc behind the instruction at a pc; where there is none, that pc.
+/// How many bytes a call takes that has this opcode (JVMS 6.5); 0 for other opcodes.
+#[inline(always)]
+fn call_size(opcode: u8) -> usize
+    ensures { result ≡ size_of_call opcode }
+{
+    match opcode {
+        INVOKEVIRTUAL | INVOKESPECIAL | INVOKESTATIC => 3,
+        INVOKEINTERFACE => 5,
+        _ => 0,
+    }
+}
+
+/// The pc behind the instruction at a pc; where there is none, that pc. How long a call is, its opcode says.
 #[tactic(auto, using(et_parts::proofs::Constants::at_end))]
 fn behind_at(code: &[u8], pc: u32) -> u32
     requires { length code.now < 2 ^ 16 }
     ensures { result ≡ behind_or pc (instruction_at code.now pc) }
 {
-    if pc as usize >= code.len() {
+    let at = pc as usize;
+    let Some((opcode, _next)) = u8_at(code, at) else {
         return pc;
+    };
+    let size = call_size(opcode);
+    if size > 0 && at + size <= code.len() {
+        return pc + size as u32;
     }
-    match decode(code, pc as usize) {
+    match decode(code, at) {
         Ok((_instr, next)) => next as u32,
         Err(_) => pc,
     }
@@ -49,6 +69,7 @@ fn behind(program: &Program, machine: &Machine, thread: ThreadId) -> u32
 
 /// The frame gets what a call returns, and goes on behind it.
 #[tactic(auto, using(crate::proofs::Returning::resumed_once))]
+#[inline(always)]
 pub(crate) fn resume(program: &Program, machine: &mut Machine, thread: ThreadId, values: &[Value])
     requires frame { HasFrame machine.old.guest thread }
     requires room { length values.now + length (top machine.old.guest thread).operands

@@ -1,24 +1,26 @@
 //! What is entered, and its frame: the arguments, the receiver and the lock (JVMS 2.6, 2.6.1).
-ghost use Rattle.std.specs.Prelude.{◌≡◌, ◌<◌, ◌≤◌, ◌^◌, nat_le, if◌then◌else◌, None, IfOk, IfSome, length, unwrap_or};
+ghost use Rattle.std.specs.Prelude.{◌≡◌, ◌<◌, ◌≤◌, nat_le, if◌then◌else◌, List, [], None, IfOk, IfSome, OnOk, length, unwrap_or};
+ghost use Rattle.et_base.specs.declared.value.Value.{Value};
 ghost use Rattle.et_class.specs.Names.{has as has_flag};
 ghost use Rattle.et_class.specs.declared.flags.TheConstants.{SYNCHRONIZED as SYNCHRONIZED_FLAG};
 ghost use Rattle.et_heap.specs.Objects.{IsHeld};
-ghost use Rattle.et_state.specs.NewFrames.{frame_of};
+ghost use Rattle.et_state.specs.NewFrames.{frame_with};
+ghost use Rattle.et_state.specs.Threads.{most_frames};
 ghost use Rattle.et_state.specs.Sound.{IsSound};
 ghost use Rattle.et_state.specs.State.{kept_of};
-ghost use Rattle.et_state.specs.Words.{HasFrame, top};
+ghost use Rattle.et_state.specs.Words.{thread_at, top};
 ghost use Rattle.et_program.specs.Entries.{Linked, method_at};
 ghost use Rattle.et_event.specs.Calls.{entry_arguments as arguments_first};
 ghost use Rattle.et_event.specs.Frames.{first_reference, method_frame, receiver_of as receiver_in};
-ghost use Rattle.et_builtins.specs.Arguments.{arguments_in};
-ghost use Rattle.et_calls.specs.Entering.{ArePassedTo, arguments_passed};
+ghost use Rattle.et_calls.specs.Entering.{ArePassedTo, arguments_passed, pushed_by};
+ghost use Rattle.et_calls.specs.declared.new_frames.Passed.TheVariants as places;
 
 use et_base::{ClassId, MethodId, NoMemory, ObjectId, ThreadId, Value};
-use et_builtins::{argument_at, operands_are_few, receiver};
+use et_builtins::{operands_are_few, receiver};
 use et_class::flags::{STATIC, SYNCHRONIZED, has};
 use et_code::Code;
 use et_program::MethodInfo;
-use et_state::{Machine, NewFrame, Stage};
+use et_state::{Machine, NewFrame, NewHead, Stage};
 use smallvec::SmallVec;
 use std::alloc::Global;
 
@@ -79,24 +81,6 @@ pub(crate) fn receiver_of(
     first_object(machine, thread, &entered.passed)
 }
 
-/// The arguments of a call, in the order of the locals (JVMS 2.6.1).
-fn call_arguments(
-    alloc: Global,
-    machine: &Machine,
-    thread: ThreadId,
-    count: u32,
-) -> Result<SmallVec<Value, 8>, NoMemory>
-    requires frame { HasFrame machine.now.guest thread }
-    requires operands { count ≤ length (top machine.now.guest thread).operands }
-    ensures { IfOk result (λ v. v.items ≡ arguments_in (top machine.now.guest thread) count) }
-{
-    let mut arguments = SmallVec::new(alloc);
-    for j in 0..count {
-        arguments.push(argument_at(machine, thread, count, j))?;
-    }
-    Ok(arguments)
-}
-
 /// The arguments of the first method of a thread: an object, or none.
 fn entry_arguments(
     alloc: Global,
@@ -111,24 +95,19 @@ fn entry_arguments(
     Ok(arguments)
 }
 
-/// The arguments of a method, in the order of the locals (JVMS 2.6.1): fewer than 65,536 entries.
-pub(crate) fn passed_arguments(
-    alloc: Global,
-    machine: &Machine,
-    thread: ThreadId,
-    passed: &Passed,
-) -> Result<SmallVec<Value, 8>, NoMemory>
+/// How many entries the arguments of a method take: fewer than 65,536.
+pub(crate) fn passed_count(machine: &Machine, thread: ThreadId, passed: &Passed) -> u16
     requires { ArePassedTo machine.now.guest thread passed.now }
-    ensures items { IfOk result
-        (λ v. v.items ≡ arguments_passed (top machine.now.guest thread) passed.now) }
-    ensures few { IfOk result (λ v. length v.items < 2 ^ 16) }
+    ensures { result
+        ≡ length (arguments_passed (top machine.now.guest thread) passed.now) }
 {
     match passed {
         Passed::Operands(count) => {
             operands_are_few(machine, thread);
-            call_arguments(alloc, machine, thread, *count)
+            *count as u16
         }
-        Passed::Object(argument) => entry_arguments(alloc, argument),
+        Passed::Object(None) => 0,
+        Passed::Object(Some(_)) => 1,
     }
 }
 
@@ -166,27 +145,70 @@ pub(crate) fn number_of(receiver: &Option<ObjectId>) -> u32
     }
 }
 
-/// The frame of a method that is entered with these arguments (JVMS 2.6).
-pub(crate) fn new_frame(
-    entered: &Entered<'_>,
-    receiver: &Option<ObjectId>,
-    arguments: SmallVec<Value, 8>,
-) -> NewFrame
-    requires { length arguments.items < 2 ^ 16 }
-    ensures frame { (p : Linked) → entered.now.info.now ≡ method_at p entered.now.method →
-        receiver.now ≡ receiver_in p entered.now.method arguments.items → frame_of result
-        ≡ method_frame p entered.now.method entered.now.code.now arguments.items }
-    ensures arguments { length result.arguments.items ≤ result.max_locals }
+/// What the frame of a method begins with that is entered with so many entries of arguments (JVMS 2.6).
+pub(crate) fn new_head(entered: &Entered<'_>, receiver: &Option<ObjectId>, count: u16) -> NewHead
+    ensures frame { (p : Linked) (vs : List Value) →
+        entered.now.info.now ≡ method_at p entered.now.method →
+        receiver.now ≡ receiver_in p entered.now.method vs → length vs ≡ count → frame_with result vs
+        ≡ method_frame p entered.now.method entered.now.code.now vs }
+    ensures arguments { count ≤ result.max_locals }
 {
-    let lock = lock_slot(entered.info, receiver);
     let body = entered.code.raw();
-    let max_locals = locals_for(body.max_locals, arguments.len() as u16);
-    NewFrame {
-        method: Some(entered.method),
-        stage: Stage::Plain,
-        lock,
+    NewHead {
+        method: entered.method,
+        lock: lock_slot(entered.info, receiver),
         max_stack: body.max_stack,
-        max_locals,
-        arguments,
+        max_locals: locals_for(body.max_locals, count),
+    }
+}
+
+/// In the event under way, a thread without a frame counts as entered, and its first frame is put on top. After `NoMemory` it
+/// may count as entered without one.
+fn put_first_frame(
+    alloc: Global,
+    machine: &mut Machine,
+    thread: ThreadId,
+    head: &NewHead,
+    argument: &Option<ObjectId>,
+) -> Result<(), NoMemory>
+    requires passed { ArePassedTo machine.old.guest thread (places.Object argument.now) }
+    requires lost { machine.old.lost ≡ [] }
+    requires few { length (thread_at machine.old.guest thread).frames < most_frames }
+    requires arguments { length (arguments_first argument.now) ≤ head.now.max_locals }
+    ensures { OnOk result (machine.new ≡ pushed_by machine.old
+        thread (places.Object argument.now) (frame_with head.now (arguments_first argument.now))) }
+{
+    machine.set_entered(thread);
+    let frame = NewFrame {
+        method: Some(head.method),
+        stage: Stage::Plain,
+        lock: head.lock,
+        max_stack: head.max_stack,
+        max_locals: head.max_locals,
+        arguments: entry_arguments(alloc, argument)?,
+    };
+    machine.enter_frame(thread, frame)
+}
+
+/// In the event under way, the frame of a method is put on top: its arguments are taken from where they stand, and a thread
+/// without a frame counts as entered then.
+pub(crate) fn put_frame(
+    alloc: Global,
+    machine: &mut Machine,
+    thread: ThreadId,
+    head: &NewHead,
+    passed: &Passed,
+) -> Result<(), NoMemory>
+    requires passed { ArePassedTo machine.old.guest thread passed.now }
+    requires lost { machine.old.lost ≡ [] }
+    requires few { length (thread_at machine.old.guest thread).frames < most_frames }
+    requires arguments { length (arguments_passed (top machine.old.guest thread) passed.now)
+        ≤ head.now.max_locals }
+    ensures { OnOk result (machine.new ≡ pushed_by machine.old thread passed.now
+        (frame_with head.now (arguments_passed (top machine.old.guest thread) passed.now))) }
+{
+    match passed {
+        Passed::Operands(count) => machine.enter_over(thread, head, *count),
+        Passed::Object(argument) => put_first_frame(alloc, machine, thread, head, argument),
     }
 }

@@ -11,6 +11,7 @@ use crate::instr::{CodeFault, Instr};
 use et_base::numbers::{u8_at, u16_at, u32_at};
 
 /// The byte at a place of the code, and the place behind it.
+#[inline(always)]
 fn byte(code: &[u8], at: usize) -> Result<(u8, usize), CodeFault>
     ensures { result ≡ read w8 code.now at }
 {
@@ -18,6 +19,7 @@ fn byte(code: &[u8], at: usize) -> Result<(u8, usize), CodeFault>
 }
 
 /// The number in the two bytes at a place of the code, and the place behind it.
+#[inline(always)]
 fn short(code: &[u8], at: usize) -> Result<(u16, usize), CodeFault>
     ensures { result ≡ read w16 code.now at }
 {
@@ -32,6 +34,7 @@ fn word(code: &[u8], at: usize) -> Result<(u32, usize), CodeFault>
 }
 
 /// An instruction without operands.
+#[inline(always)]
 fn plain(opcode: u8) -> Instr
     ensures { result ≡ instr opcode false (pos 0) (pos 0) 0 }
 {
@@ -45,6 +48,7 @@ fn plain(opcode: u8) -> Instr
 }
 
 /// An instruction with one unsigned operand.
+#[inline(always)]
 fn one(opcode: u8, wide: bool, n: u16) -> Instr
     ensures { result ≡ instr opcode wide (pos n) (pos 0) 0 }
 {
@@ -57,6 +61,7 @@ fn one(opcode: u8, wide: bool, n: u16) -> Instr
     }
 }
 
+#[inline(always)]
 fn signed_byte(opcode: u8, n: u8) -> Instr
     ensures { result ≡ instr opcode false (cast_signed w8 n) (pos 0) 0 }
 {
@@ -69,6 +74,7 @@ fn signed_byte(opcode: u8, n: u8) -> Instr
     }
 }
 
+#[inline(always)]
 fn signed_short(opcode: u8, n: u16) -> Instr
     ensures { result ≡ instr opcode false (cast_signed w16 n) (pos 0) 0 }
 {
@@ -93,6 +99,7 @@ fn signed_word(opcode: u8, n: u32) -> Instr
     }
 }
 
+#[inline(always)]
 fn increment(opcode: u8, m: u8, n: u8) -> Instr
     ensures { result ≡ instr opcode false (pos m) (cast_signed w8 n) 0 }
 {
@@ -255,6 +262,7 @@ fn dimensions(code: &[u8], opcode: u8, at: usize) -> Result<(Instr, usize), Code
     Ok((two(opcode, m, n), at))
 }
 
+#[inline(always)]
 fn operands(
     code: &[u8],
     pc: usize,
@@ -305,6 +313,7 @@ fn operands(
 /// The instruction at `pc`, and the place behind it (JVMS 6.5). An opcode that is refused is refused
 /// before any operand byte is looked at.
 #[tactic(auto, unfolding(crate::specs::Decoding::instruction_at))]
+#[inline(always)]
 pub fn decode(code: &[u8], pc: usize) -> Result<(Instr, usize), CodeFault>
     requires { pc < length code.now }
     ensures decoded { result ≡ instruction_at code.now pc }

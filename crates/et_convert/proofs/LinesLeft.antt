@@ -7,7 +7,7 @@ use Rattle.std.proofs.lemmas.List.Elements.{All-nil, All-push, All-head, All-tai
 use Rattle.et_base.specs.declared.format.Format.{Format}
 use Rattle.et_base.specs.declared.format.Format.TheVariants as formats
 use Rattle.et_base.specs.declared.line.TraceLine.{TraceLine}
-use Rattle.et_io.specs.Sink.{with_more, TakesUpTo, TakesPrefix}
+use Rattle.et_io.specs.Sink.{Log, with_more, TakesUpTo, TakesPrefix}
 use Rattle.et_io.proofs.Gathered.{piece_put, piece_fails, stops_early, last_put, last_fails}
 use Rattle.et_text.specs.Ranges.{IsInRange, HasShortNames}
 use Rattle.et_text.specs.Rules.{AreFine, IsGood}
@@ -127,7 +127,7 @@ module _ (packs : (lines : List TraceLine) → IsGood 2 lines → flat_map writt
 -- WHAT WAS PUT
 
 -- the lines up to the rest were put or are gathered
-pub record ArePutTo (format : Format) (lines : List TraceLine) (rest : List ℕ) (old mid : Option (List ℕ)) (gathered : List ℕ) : Type 0 where
+pub record ArePutTo (format : Format) (lines : List TraceLine) (rest : List ℕ) (old mid : Log) (gathered : List ℕ) : Type 0 where
   pub number : ℕ
   pub left : AreLeft format (drop number lines) rest
   pub taken : TakesUpTo old mid (flat_map (converted_line (other_format format)) (take number lines)) gathered
@@ -143,12 +143,12 @@ at lines number line more e =
     let parts : get_or lines number line ∷ drop (number + 1) lines ≡ line ∷ more = sym (drop_more lines number line fits) ∙ e in
     record { fits = fits; is = cc; behind = cc }
 
-module _ (format : Format) (lines : List TraceLine) (rest : List ℕ) (old mid : Option (List ℕ)) (gathered : List ℕ) (h : ArePutTo format lines rest old mid gathered) where
+module _ (format : Format) (lines : List TraceLine) (rest : List ℕ) (old mid : Log) (gathered : List ℕ) (h : ArePutTo format lines rest old mid gathered) where
   abbrev written : TraceLine → List ℕ
   written line = converted_line (other_format format) line
 
   -- one line more
-  pub puts : (line : TraceLine) (behind : List ℕ) (new : Option (List ℕ)) (more left : List ℕ) → StandsFirst format (drop h.number lines) line behind → more ≡ gathered ++ written line → TakesUpTo mid new more left → ArePutTo format lines behind old new left
+  pub puts : (line : TraceLine) (behind : List ℕ) (new : Log) (more left : List ℕ) → StandsFirst format (drop h.number lines) line behind → more ≡ gathered ++ written line → TakesUpTo mid new more left → ArePutTo format lines behind old new left
   puts line behind new more left s e b =
       let i = at lines h.number line s.more s.first in
       record {
@@ -158,7 +158,7 @@ module _ (format : Format) (lines : List TraceLine) (rest : List ℕ) (old mid :
       }
 
   -- .. which is not put
-  pub fails : (line : TraceLine) (behind : List ℕ) (new : Option (List ℕ)) (more : List ℕ) → StandsFirst format (drop h.number lines) line behind → more ≡ gathered ++ written line → TakesPrefix mid new more → TakesPrefix old new (flat_map written lines)
+  pub fails : (line : TraceLine) (behind : List ℕ) (new : Log) (more : List ℕ) → StandsFirst format (drop h.number lines) line behind → more ≡ gathered ++ written line → TakesPrefix mid new more → TakesPrefix old new (flat_map written lines)
   fails line behind new more s e b =
       let i = at lines h.number line s.more s.first in
       piece_fails written lines h.number line old mid new gathered more i.fits h.taken (e ∙ ap (λ x. gathered ++ written x) (sym i.is)) b
@@ -171,8 +171,8 @@ module _ (format : Format) (lines : List TraceLine) (rest : List ℕ) (old mid :
   none_left e = omega (arith, ap length e, length-drop h.number lines)
 
   -- the end
-  pub ends : {T E : Type 0} (r : Result T E) (new : Option (List ℕ)) → drop h.number lines ≡ [] → OnOk r (new ≡ with_more mid gathered) → OnOk r (new ≡ with_more old (flat_map written lines))
+  pub ends : {T E : Type 0} (r : Result T E) (new : Log) → drop h.number lines ≡ [] → OnOk r (new ≡ with_more mid gathered) → OnOk r (new ≡ with_more old (flat_map written lines))
   ends r new e ok = last_put written lines h.number old mid new gathered r (none_left e) h.taken ok
 
-  pub ends_early : {T E : Type 0} (r : Result T E) (new : Option (List ℕ)) → drop h.number lines ≡ [] → OnErr r (TakesPrefix mid new gathered) → OnErr r (TakesPrefix old new (flat_map written lines))
+  pub ends_early : {T E : Type 0} (r : Result T E) (new : Log) → drop h.number lines ≡ [] → OnErr r (TakesPrefix mid new gathered) → OnErr r (TakesPrefix old new (flat_map written lines))
   ends_early r new e err = last_fails written lines h.number old mid new gathered r (none_left e) h.taken err

@@ -107,8 +107,8 @@ fn put_lines<O: Sink>(
 }
 
 /// Writes the lines of the trace in the other spelling: those of a text in the binary one, and those of a binary trace as
-/// text. The header says the version of what is written. The bytes are put in pieces of 64 KiB. `Write` comes exactly where a
-/// put failed, and the sink counted one fault; after `Write` and after `NoMemory` the sink took a prefix of the bytes.
+/// text. The header says the version of what is written. How the bytes are cut into pieces is no promise. `Write` comes exactly
+/// where the sink counted one fault; after `Write` and after `NoMemory` the sink took a prefix of the bytes.
 pub fn convert_trace<O: Sink>(alloc: Global, trace: &Trace, sink: &mut O) -> Result<(), RunFault>
     requires short { All HasShortNames trace.now }
     ensures ok { OnOk result

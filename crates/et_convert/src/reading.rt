@@ -6,7 +6,7 @@ ghost use Rattle.et_binary.specs.Packs.{IsPackOf};
 ghost use Rattle.et_convert.specs.Spellings.{SpellsTrace, IsTraceFollowed, IsAnswerIn, format_in};
 
 use et_base::Format;
-use et_binary::{BinaryReader, follow_pack};
+use et_binary::{BinaryReader, OPENING, follow_pack};
 use et_text::{Follower, TextReader, Trace, TraceFault, follow_text};
 use std::alloc::Global;
 
@@ -15,7 +15,7 @@ pub fn format_in(bytes: &[u8]) -> Format
     ensures { result ≡ format_in bytes.now }
 {
     match bytes {
-        [0xFE, ..] => Format::Binary,
+        [first, ..] if *first == OPENING[0] => Format::Binary,
         _ => Format::Text,
     }
 }

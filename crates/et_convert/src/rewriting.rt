@@ -155,6 +155,6 @@ pub fn convert_bytes<O: Sink>(alloc: Global, bytes: &[u8], sink: &mut O) -> Resu
     spelled_lists_differ();
     match format_in(bytes) {
         Format::Text => put_rewritten(alloc, Format::Text, bytes, sink),
-        Format::Binary => put_rewritten(alloc, Format::Binary, &bytes[OPENING..], sink),
+        Format::Binary => put_rewritten(alloc, Format::Binary, &bytes[OPENING.len()..], sink),
     }
 }

@@ -29,6 +29,7 @@ pub mod InitializationOrder
 pub mod Interfaces
 pub mod Runnable
 pub mod Families
+pub mod FrameSteps
 pub mod Beginning
 pub use Rattle.et_class.specs.Operands
 pub use Rattle.et_class.specs.PoolOperands

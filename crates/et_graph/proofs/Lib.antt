@@ -19,3 +19,4 @@ pub mod Books
 pub mod Insides
 pub mod Legality
 pub mod ListedOnce
+mod Stamping

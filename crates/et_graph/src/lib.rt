@@ -18,4 +18,4 @@ pub use objects::Death;
 pub use places::place_of;
 pub use references::References;
 pub use search::{mark, spread_all};
-pub use stamps::Stamps;
+pub use stamps::{Stamps, stamp_each};

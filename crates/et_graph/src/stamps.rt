@@ -1,5 +1,5 @@
 //! A stamp for each object.
-ghost use Rattle.std.specs.Prelude.{◌≡◌, ◌<◌, ◌≤◌, ◌^◌, ℕ, [], length, All, OnOk, slice_index, slice_set};
+ghost use Rattle.std.specs.Prelude.{◌≡◌, ◌<◌, ◌≤◌, ◌^◌, ℕ, [], length, All, Contains, OnOk, slice_index, slice_set};
 
 use et_base::{NoMemory, ObjectId, within};
 use std::alloc::Global;
@@ -73,5 +73,20 @@ impl Stamps {
         ensures events { All (λ t. t ≤ 2 ^ 40) result.now }
     {
         self.stamps.as_slice()
+    }
+}
+
+/// Writes this stamp for each of the objects, all of which have places.
+#[inline(always)]
+pub fn stamp_each(stamps: &mut Stamps, objects: &[ObjectId], event: u64)
+    requires places { (o : ℕ) → Contains objects.now o → o < length stamps.old }
+    requires event { event ≤ 2 ^ 40 }
+    ensures long { length stamps.new ≡ length stamps.old }
+    ensures each { (o : ℕ) → Contains objects.now o → slice_index stamps.new o ≡ event }
+    ensures others { (o : ℕ) →
+        ¬ Contains objects.now o → slice_index stamps.new o ≡ slice_index stamps.old o }
+{
+    'each: for object in objects {
+        stamps.set(*object, event);
     }
 }

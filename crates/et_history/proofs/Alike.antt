@@ -12,7 +12,7 @@ use Rattle.et_graph.specs.Graph.{Graph}
 use Rattle.et_state.specs.declared.records.Record.{Record}
 use Rattle.et_state.specs.Naming.{Names, Mentions, mentions_after, lines_of}
 use Rattle.et_state.specs.Outcome.{Outcome, state_after, records_of, end_by}
-use Rattle.et_io.specs.Sink.{with_more}
+use Rattle.et_io.specs.Sink.{Log, with_more}
 use Rattle.et_binary.specs.Formats.{trace_bytes}
 use Rattle.et_loop.specs.Visits.{visits_at, visits_below, allowed_visits, visits_to, visits_of_turn, turn_visits, due_visits, made_after, IsCut}
 use Rattle.et_loop.specs.Said.{said_at, said_to, IsCutSaid}
@@ -249,20 +249,23 @@ module _ {S T : Type 0} (reached : Graph → ℕ → Bool) (given : Setting S) (
         turns_alike e goes = omega (arith, below_alike e goes, turn_alike e goes, (looks_alike e goes).made, (mirrors.looks 0 start start' first).made)
 
         -- a run that was cut off in a turn of one was so in the same turn of the other
-        pub cut_alike : (before after : Option (List ℕ)) (old new : ℕ) → IsCut reached given visits start made before after old new → IsCut reached other visits' start' made before after old new
+        pub cut_alike : (before after : Log) (old new : ℕ) → IsCut reached given visits start made before after old new → IsCut reached other visits' start' made before after old new
         cut_alike before after old new (inl same) = inl same
         cut_alike before after old new (inr (e, c)) = inr (
           e,
           record {
             goes = goes_there e c.goes;
             rest = c.rest;
+            mid = c.mid;
+            left = c.left;
+            stops = c.stops;
             taken = c.taken ∙ ap (λ (ls : List TraceLine). with_more before (trace_bytes given.format ls ++ c.rest)) (lines_alike e c.goes);
             visits = subst (λ (n : ℕ). new ≤ old + n) (turns_alike e c.goes) c.visits;
           },
         )
 
         -- .. by what was printed
-        pub cut_said_alike : (said : S → ℕ → List ℕ) (said' : T → ℕ → List ℕ) → ((e : ℕ) (s : S) (t : T) (thread : ℕ) → M e s t → said s thread ≡ said' t thread) → (before after : Option (List ℕ)) (old new : ℕ)
+        pub cut_said_alike : (said : S → ℕ → List ℕ) (said' : T → ℕ → List ℕ) → ((e : ℕ) (s : S) (t : T) (thread : ℕ) → M e s t → said s thread ≡ said' t thread) → (before after : Log) (old new : ℕ)
             → IsCutSaid reached given said start made visits before after old new → IsCutSaid reached other said' start' made visits' before after old new
         cut_said_alike said said' tells before after old new (inl same) = inl same
         cut_said_alike said said' tells before after old new (inr (e, c)) = inr (
@@ -270,6 +273,9 @@ module _ {S T : Type 0} (reached : Graph → ℕ → Bool) (given : Setting S) (
           record {
             goes = goes_there e c.goes;
             rest = c.rest;
+            mid = c.mid;
+            left = c.left;
+            stops = c.stops;
             taken = c.taken ∙ ap (λ (bytes : List ℕ). with_more before (bytes ++ c.rest)) (said_alike said said' tells e c.goes);
             visits = subst (λ (n : ℕ). new ≤ old + n) (turns_alike e c.goes) c.visits;
           },

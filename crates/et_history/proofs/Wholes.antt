@@ -35,7 +35,7 @@ use Rattle.et_event.specs.Sound.{IsSoundFor}
 use Rattle.et_event.specs.Start.{start_records}
 use Rattle.et_event.proofs.Beside.{sound-spoken}
 use Rattle.et_linked.proofs.Flushing.{sound_left}
-use Rattle.et_io.specs.Sink.{with_more, TakesPrefix}
+use Rattle.et_io.specs.Sink.{Log, with_more, TakesPrefix}
 use Rattle.et_loop.specs.declared.options.Ran.{Ran}
 use Rattle.et_loop.specs.Traced.{WritesTrace, WritesPrefix}
 use Rattle.et_binary.specs.Formats.{trace_bytes}
@@ -355,7 +355,7 @@ module _ (reached : Graph → ℕ → Bool) (p : Linked) (options : Options) (pi
       → allowed_visits reached given flush_visits_of (start p) (start_records p) e ≡ allowed_visits reached (whole_picked p options pick) whole_visits_of (whole_start p) (start_records p) e
   same_allowed e end last = allowed_alike reached given whole M mirrors (start p) (whole_start p) (start_records p) first flush_visits_of whole_visits_of same_visits e last.first
 
-  pub same_cut : (before after : Option (List ℕ)) (old new : ℕ) → IsCut reached given flush_visits_of (start p) (start_records p) before after old new → IsCut reached (whole_picked p options pick) whole_visits_of (whole_start p) (start_records p) before after old new
+  pub same_cut : (before after : Log) (old new : ℕ) → IsCut reached given flush_visits_of (start p) (start_records p) before after old new → IsCut reached (whole_picked p options pick) whole_visits_of (whole_start p) (start_records p) before after old new
   same_cut before after old new c = cut_alike reached given whole M mirrors (start p) (whole_start p) (start_records p) first flush_visits_of whole_visits_of same_visits before after old new c
 
   -- what is printed, by a rule that reads what the machine keeps
@@ -363,7 +363,7 @@ module _ (reached : Graph → ℕ → Bool) (p : Linked) (options : Options) (pi
       → said_to reached given said (start p) (start_records p) e ≡ said_to reached (whole_picked p options pick) (whole_said said) (whole_start p) (start_records p) e
   same_said said e goes = said_alike reached given whole M mirrors (start p) (whole_start p) (start_records p) first said (whole_said said) (λ k s t thread m. ap (λ x. said x thread) (sym m.0)) e goes
 
-  pub same_cut_said : (said : Kept → ℕ → List ℕ) (before after : Option (List ℕ)) (old new : ℕ) → IsCutSaid reached given said (start p) (start_records p) flush_visits_of before after old new
+  pub same_cut_said : (said : Kept → ℕ → List ℕ) (before after : Log) (old new : ℕ) → IsCutSaid reached given said (start p) (start_records p) flush_visits_of before after old new
       → IsCutSaid reached (whole_picked p options pick) (whole_said said) (whole_start p) (start_records p) whole_visits_of before after old new
   same_cut_said said before after old new c = cut_said_alike reached given whole M mirrors (start p) (whole_start p) (start_records p) first flush_visits_of whole_visits_of same_visits said (whole_said said) (λ k s t thread m. ap (λ x. said x thread) (sym m.0)) before after old new c
 
@@ -404,7 +404,7 @@ module _ (reached : Graph → ℕ → Bool) (p : Linked) (options : Options) (pi
 pub tells_the_same : (reached : Graph → ℕ → Bool) (p : Linked) (options : Options) (pick : ℕ → ℕ) (e : ℕ) → Decides reached → IsSoundRun p (start p) → AreOptions options → ((k : ℕ) → k < e → HistoryGoesOn reached p options pick k) → TellsTheSame reached p options pick e
 tells_the_same reached p options pick e decides run are goes = tells_same reached p options pick decides run are e goes
 
-pub trace : (reached : Graph → ℕ → Bool) (p : Linked) (options : Options) (ran : Ran) (before after : Option (List ℕ)) → Decides reached → IsSoundRun p (start p) → AreOptions options
+pub trace : (reached : Graph → ℕ → Bool) (p : Linked) (options : Options) (ran : Ran) (before after : Log) → Decides reached → IsSoundRun p (start p) → AreOptions options
     → WritesTrace reached (setting p options) (start p) (start_records p) ran before after ↔ WritesTrace reached (whole_setting p options) (whole_start p) (start_records p) ran before after
 trace reached p options ran before after decides run are =
     let pick : ℕ → ℕ = pick_of options.schedule in (
@@ -420,7 +420,7 @@ trace reached p options ran before after decides run are =
           }),
     )
 
-pub prefix : (reached : Graph → ℕ → Bool) (p : Linked) (options : Options) (before after : Option (List ℕ)) → Decides reached → IsSoundRun p (start p) → AreOptions options
+pub prefix : (reached : Graph → ℕ → Bool) (p : Linked) (options : Options) (before after : Log) → Decides reached → IsSoundRun p (start p) → AreOptions options
     → WritesPrefix reached (setting p options) (start p) (start_records p) before after ↔ WritesPrefix reached (whole_setting p options) (whole_start p) (start_records p) before after
 prefix reached p options before after decides run are =
     let pick : ℕ → ℕ = pick_of options.schedule in (
@@ -436,7 +436,7 @@ pub visits : (reached : Graph → ℕ → Bool) (p : Linked) (options : Options)
     → allowed_visits reached (setting p options) flush_visits_of (start p) (start_records p) e ≡ allowed_visits reached (whole_setting p options) whole_visits_of (whole_start p) (start_records p) e
 visits reached p options e end decides run are last = same_allowed reached p options (pick_of options.schedule) decides run are e end last
 
-pub cut : (reached : Graph → ℕ → Bool) (p : Linked) (options : Options) (before after : Option (List ℕ)) (old new : ℕ) → Decides reached → IsSoundRun p (start p) → AreOptions options
+pub cut : (reached : Graph → ℕ → Bool) (p : Linked) (options : Options) (before after : Log) (old new : ℕ) → Decides reached → IsSoundRun p (start p) → AreOptions options
     → IsCut reached (setting p options) flush_visits_of (start p) (start_records p) before after old new → IsCut reached (whole_setting p options) whole_visits_of (whole_start p) (start_records p) before after old new
 cut reached p options before after old new decides run are c = same_cut reached p options (pick_of options.schedule) decides run are before after old new c
 
@@ -445,7 +445,7 @@ pub ends : (reached : Graph → ℕ → Bool) (p : Linked) (options : Options) (
 ends reached p options pick e end decides run are = (ends_there reached p options pick decides run are e end, ends_back reached p options pick decides run are e end)
 
 -- what is printed
-pub says : (reached : Graph → ℕ → Bool) (p : Linked) (options : Options) (said : Kept → ℕ → List ℕ) (ran : Ran) (before after : Option (List ℕ)) → Decides reached → IsSoundRun p (start p) → AreOptions options
+pub says : (reached : Graph → ℕ → Bool) (p : Linked) (options : Options) (said : Kept → ℕ → List ℕ) (ran : Ran) (before after : Log) → Decides reached → IsSoundRun p (start p) → AreOptions options
     → Says reached (setting p options) said (start p) (start_records p) ran before after → Says reached (whole_setting p options) (whole_said said) (whole_start p) (start_records p) ran before after
 says reached p options said ran before after decides run are w =
     let pick : ℕ → ℕ = pick_of options.schedule in
@@ -454,13 +454,13 @@ says reached p options said ran before after decides run are w =
       taken = w.taken ∙ ap (λ bytes. with_more before bytes) (same_said reached p options pick decides run are said ran.event w.ends.first);
     }
 
-pub says_prefix : (reached : Graph → ℕ → Bool) (p : Linked) (options : Options) (said : Kept → ℕ → List ℕ) (before after : Option (List ℕ)) → Decides reached → IsSoundRun p (start p) → AreOptions options
+pub says_prefix : (reached : Graph → ℕ → Bool) (p : Linked) (options : Options) (said : Kept → ℕ → List ℕ) (before after : Log) → Decides reached → IsSoundRun p (start p) → AreOptions options
     → SaysPrefix reached (setting p options) said (start p) (start_records p) before after → SaysPrefix reached (whole_setting p options) (whole_said said) (whole_start p) (start_records p) before after
 says_prefix reached p options said before after decides run are w e end last =
     let pick : ℕ → ℕ = pick_of options.schedule in
     let back = ends_back reached p options pick decides run are e end last in
     subst (λ bytes. TakesPrefix before after bytes) (same_said reached p options pick decides run are said e back.first) (w e end back)
 
-pub says_cut : (reached : Graph → ℕ → Bool) (p : Linked) (options : Options) (said : Kept → ℕ → List ℕ) (before after : Option (List ℕ)) (old new : ℕ) → Decides reached → IsSoundRun p (start p) → AreOptions options
+pub says_cut : (reached : Graph → ℕ → Bool) (p : Linked) (options : Options) (said : Kept → ℕ → List ℕ) (before after : Log) (old new : ℕ) → Decides reached → IsSoundRun p (start p) → AreOptions options
     → IsCutSaid reached (setting p options) said (start p) (start_records p) flush_visits_of before after old new → IsCutSaid reached (whole_setting p options) (whole_said said) (whole_start p) (start_records p) whole_visits_of before after old new
 says_cut reached p options said before after old new decides run are c = same_cut_said reached p options (pick_of options.schedule) decides run are said before after old new c

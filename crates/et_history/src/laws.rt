@@ -1,6 +1,6 @@
 //! The histories of a program. Each law is a function with an empty body: what it promises is its contract.
 
-ghost use Rattle.std.specs.Prelude.{◌≡◌, ◌↔◌, ℕ, ◌+◌, ◌<◌, ◌≤◌, Bool, List, Option, Some, Contains};
+ghost use Rattle.std.specs.Prelude.{◌≡◌, ◌↔◌, ℕ, ◌+◌, ◌<◌, ◌≤◌, Bool, List, Some, Contains};
 ghost use Rattle.et_base.specs.declared.value.End.{End};
 ghost use Rattle.et_graph.specs.Graph.{Graph, Decides};
 ghost use Rattle.et_heap.specs.Objects.{ObjectState, IsHeld, at};
@@ -13,6 +13,7 @@ ghost use Rattle.et_state.specs.Start.{start};
 ghost use Rattle.et_state.specs.State.{Kept};
 ghost use Rattle.et_event.specs.Monitors.{Lock};
 ghost use Rattle.et_event.specs.Start.{start_records};
+ghost use Rattle.et_io.specs.Sink.{Log};
 ghost use Rattle.et_loop.specs.declared.options.Ran.{Ran};
 ghost use Rattle.et_loop.specs.Traced.{WritesTrace, WritesPrefix};
 ghost use Rattle.et_loop.specs.Visits.{allowed_visits, IsCut};
@@ -96,13 +97,13 @@ pub fn histories_tell_the_same()
 /// to the end and up to each turn before.
 pub fn traces_are_the_same()
     ensures trace { (reached : Graph → ℕ → Bool) (p : Linked) (options : Options) (ran : Ran)
-        (before after : Option (List ℕ)) → Decides reached → IsSoundRun p (start p) →
+        (before after : Log) → Decides reached → IsSoundRun p (start p) →
         AreOptions options →
         WritesTrace reached (setting p options) (start p) (start_records p) ran before after
         ↔ WritesTrace reached (whole_setting p options) (whole_start p) (start_records p)
         ran before after }
     ensures prefix { (reached : Graph → ℕ → Bool) (p : Linked) (options : Options)
-        (before after : Option (List ℕ)) → Decides reached → IsSoundRun p (start p) →
+        (before after : Log) → Decides reached → IsSoundRun p (start p) →
         AreOptions options →
         WritesPrefix reached (setting p options) (start p) (start_records p) before after
         ↔ WritesPrefix reached (whole_setting p options) (whole_start p) (start_records p)
@@ -114,7 +115,7 @@ pub fn traces_are_the_same()
         ≡ allowed_visits reached (whole_setting p options) whole_visits_of (whole_start p)
         (start_records p) e }
     ensures cut { (reached : Graph → ℕ → Bool) (p : Linked) (options : Options)
-        (before after : Option (List ℕ)) (old new : ℕ) → Decides reached →
+        (before after : Log) (old new : ℕ) → Decides reached →
         IsSoundRun p (start p) → AreOptions options →
         IsCut reached (setting p options) flush_visits_of (start p) (start_records p)
         before after old new →
@@ -125,19 +126,19 @@ pub fn traces_are_the_same()
 /// What the history of what a machine keeps prints, by a rule that reads that, the other history prints.
 pub fn histories_say_the_same()
     ensures said { (reached : Graph → ℕ → Bool) (p : Linked) (options : Options)
-        (said : Kept → ℕ → List ℕ) (ran : Ran) (before after : Option (List ℕ)) →
+        (said : Kept → ℕ → List ℕ) (ran : Ran) (before after : Log) →
         Decides reached → IsSoundRun p (start p) → AreOptions options →
         Says reached (setting p options) said (start p) (start_records p) ran before after →
         Says reached (whole_setting p options) (whole_said said) (whole_start p) (start_records p)
         ran before after }
     ensures prefix { (reached : Graph → ℕ → Bool) (p : Linked) (options : Options)
-        (said : Kept → ℕ → List ℕ) (before after : Option (List ℕ)) →
+        (said : Kept → ℕ → List ℕ) (before after : Log) →
         Decides reached → IsSoundRun p (start p) → AreOptions options →
         SaysPrefix reached (setting p options) said (start p) (start_records p) before after →
         SaysPrefix reached (whole_setting p options) (whole_said said) (whole_start p)
         (start_records p) before after }
     ensures cut { (reached : Graph → ℕ → Bool) (p : Linked) (options : Options)
-        (said : Kept → ℕ → List ℕ) (before after : Option (List ℕ)) (old new : ℕ) →
+        (said : Kept → ℕ → List ℕ) (before after : Log) (old new : ℕ) →
         Decides reached → IsSoundRun p (start p) → AreOptions options →
         IsCutSaid reached (setting p options) said (start p) (start_records p) flush_visits_of
         before after old new →

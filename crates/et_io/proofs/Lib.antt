@@ -1,4 +1,5 @@
 pub mod Counting
 pub mod Gathered
+pub mod Storing
 pub mod Taking
 pub mod Walks

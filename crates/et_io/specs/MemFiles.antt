@@ -6,7 +6,7 @@ use Rattle.et_io.specs.declared.files.Found.TheVariants.{Bytes, Absent, TooLong,
 use Rattle.std.specs.HashMap.{get_by_text}
 use Rattle.et_io.specs.declared.mem_files.MemFiles.{MemFiles}
 use Rattle.et_io.specs.Calls.{Calls}
-use Rattle.et_io.specs.Files.{Held}
+use Rattle.et_io.specs.Files.{Held, Reading}
 
 -- the files that are held
 abbrev pub held : MemFiles → Held
@@ -16,9 +16,9 @@ held files path = option_map (λ bytes. bytes.items) (get_by_text files.files pa
 abbrev pub calls_of : MemFiles → Calls
 calls_of files = files.calls
 
--- the paths of the reads so far
-abbrev pub asked_of : MemFiles → List (List ℕ)
-asked_of files = files.reads.paths
+-- the reads so far
+abbrev pub asked_of : MemFiles → List Reading
+asked_of files = files.reads.log
 
 -- the new files are the old ones with this file at this path, and no read was made
 pub record Holds (old new : MemFiles) (path bytes : List ℕ) : Type 0 where

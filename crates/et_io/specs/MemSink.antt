@@ -3,10 +3,11 @@ use Rattle.std.specs.Prelude.{◌≡◌, ℕ, min, List, length}
 use Rattle.et_io.specs.declared.sink.Put.{Put}
 use Rattle.et_io.specs.declared.sink.Put.TheVariants.{Took, Failed, NoMemory}
 use Rattle.et_io.specs.Calls.{Calls}
+use Rattle.et_io.specs.Sink.{Mark}
 
--- the bytes taken so far, how many a call takes at most, and the calls
+-- the marks of the puts so far, how many bytes a call takes at most, and the calls
 pub record SinkInMemory : Type 0 where
-  pub taken : List ℕ
+  pub taken : List Mark
   pub most : ℕ
   pub calls : Calls
 

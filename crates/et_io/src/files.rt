@@ -1,7 +1,7 @@
 //! Files by their paths.
-ghost use Rattle.std.specs.Prelude.{◌≡◌, ℕ, ◌≤◌, ◌++◌, ◌∷◌, [], List, Option, IfOk, IfSome};
+ghost use Rattle.std.specs.Prelude.{◌≡◌, ℕ, ◌≤◌, ◌++◌, ◌∷◌, [], List, length, IfOk};
 ghost use Rattle.et_io.specs.Faults.{count_after};
-ghost use Rattle.et_io.specs.Files.{Held, Finds, IsWithin, is_read_failed};
+ghost use Rattle.et_io.specs.Files.{Held, Reading, answer_of, Finds, IsWithin, is_read_failed};
 
 use et_base::NoMemory;
 use std::alloc::Global;
@@ -19,13 +19,13 @@ pub enum Found {
     Failed,
 }
 
-/// Files, each at a path. They may tell what they hold; each tells which reads were made, and how many failed.
+/// Files, each at a path. They tell which reads were made, and what was answered; and how many reads failed.
 pub trait Files {
-    /// The bytes at each path, where the files tell them.
-    ghost holds: { Self → Option Held };
+    /// The reads made so far, in order.
+    ghost asked: { Self → List Reading };
 
-    /// The paths of the reads made so far, in order.
-    ghost asked: { Self → List (List ℕ) };
+    /// These held files agree with what was read behind the first reads. Files that are known agree with what they hold.
+    ghost agrees: { Self → (first : List Reading) → Held → Type 0 };
 
     /// How many reads failed.
     ghost faults: { Self → ℕ };
@@ -33,11 +33,16 @@ pub trait Files {
     /// Reads the file at the path, if it has at most this many bytes. A read changes no file. One that fails counts one
     /// fault, up to 2^64 - 1, and any other answer leaves the count as it was. `NoMemory` says nothing of the file.
     fn read(&mut self, alloc: Global, path: &str, most: u64) -> Result<Found, NoMemory>
-        ensures found { IfOk result
-            (λ found. IfSome (holds self.old) (λ held. Finds found most (held path.now))) }
+        ensures found { (first : List Reading) (held : Held) → length first ≤ length (asked self.old)
+            → agrees self.new first held → IfOk result (λ found. Finds found most (held path.now)) }
         ensures within { IfOk result (λ found. IsWithin found most) }
         ensures failed { faults self.new ≡ count_after (is_read_failed result) (faults self.old) }
-        ensures asked { asked self.new ≡ asked self.old ++ path.now ∷ [] }
-        ensures kept { holds self.new ≡ holds self.old }
+        ensures asked { asked self.new ≡ asked self.old ++ record {
+          path = path.now;
+          most = most;
+          answer = answer_of result;
+        } ∷ [] }
+        ensures kept { (first : List Reading) (held : Held) → agrees self.new first held →
+            agrees self.old first held }
         ensures never_falls { faults self.old ≤ faults self.new };
 }

@@ -1,6 +1,7 @@
 //! Sinks that gather what they take.
-ghost use Rattle.std.specs.Prelude.{◌≡◌, ℕ, List, Option, true, not};
+ghost use Rattle.std.specs.Prelude.{◌≡◌, ℕ, List, Option, option_map, true, not};
 ghost use Rattle.et_io.specs.Faults.{count_after};
+ghost use Rattle.et_io.specs.Sink.{taken_bytes};
 
 use crate::sink::Sink;
 
@@ -13,6 +14,7 @@ pub trait GatheringSink: Sink {
     /// 2^64 - 1, and any part of what was gathered may have been handed on. Nothing is taken by it.
     fn hand_on(&mut self) -> bool
         ensures taken { Self.taken self.new ≡ Self.taken self.old }
-        ensures handed { result ≡ true → handed self.new ≡ Self.taken self.new }
+        ensures handed { result ≡ true →
+            handed self.new ≡ option_map taken_bytes (Self.taken self.new) }
         ensures faults { Self.faults self.new ≡ count_after (not result) (Self.faults self.old) };
 }

@@ -6,10 +6,11 @@ ghost use Rattle.et_io.specs.Calls.{next_fails, after_call};
 ghost use Rattle.et_io.specs.Faults.{count_after};
 ghost use Rattle.et_io.specs.GatheringMemSink.{handed_bytes};
 ghost use Rattle.et_io.specs.MemSink.{TakesMost};
-ghost use Rattle.et_io.specs.Sink.{Takes, is_put_failed};
+ghost use Rattle.et_io.specs.Sink.{Takes, is_put_failed, taken_bytes};
 
 use crate::calls::CallBook;
 use crate::gathering::GatheringSink;
+use crate::logs::{Made, Puts};
 use crate::sink::{Put, Sink};
 use et_base::NoMemory;
 use std::alloc::Global;
@@ -23,18 +24,21 @@ pub struct GatheringMemSink {
     taken: Vec<u8>,
     count_handed: usize,
     calls: CallBook,
+    puts: Puts,
 }
 
 impl Model for GatheringMemSink {
-    ghost use Rattle.std.specs.Prelude.{◌≤◌, length};
+    ghost use Rattle.std.specs.Prelude.{◌≡◌, ◌≤◌, length};
+    ghost use Rattle.et_io.specs.Sink.{taken_bytes};
     ghost use Rattle.et_io.specs.GatheringMemSink.{GatheringSinkInMemory};
 
     ghost Value = { GatheringSinkInMemory };
 
     ghost view = { λ s.
-        record { taken = s.taken.items; count_handed = s.count_handed; calls = s.calls } };
+        record { taken = s.puts.marks; count_handed = s.count_handed; calls = s.calls } };
 
-    ghost invariant = { λ s. s.count_handed ≤ length s.taken.items };
+    ghost invariant = { λ s. (s.count_handed ≤ length s.taken.items)
+        × (s.taken.items ≡ taken_bytes s.puts.marks) };
 }
 
 impl GatheringMemSink {
@@ -50,6 +54,7 @@ impl GatheringMemSink {
             taken: Vec::new(alloc),
             count_handed: 0,
             calls: CallBook::begin(alloc),
+            puts: Puts::begin(),
         }
     }
 
@@ -89,13 +94,16 @@ impl Sink for GatheringMemSink {
         ensures calls { self.new.calls ≡ after_call self.old.calls }
         ensures gathers { handed_bytes self.new ≡ handed_bytes self.old }
     {
-        if self.calls.next_call() {
-            return Put::Failed;
-        }
-        match self.taken.extend_from_slice(piece) {
-            Ok(()) => Put::Took(piece.len()),
-            Err(_) => Put::NoMemory,
-        }
+        let answer = if self.calls.next_call() {
+            Put::Failed
+        } else {
+            match self.taken.extend_from_slice(piece) {
+                Ok(()) => Put::Took(piece.len()),
+                Err(_) => Put::NoMemory,
+            }
+        };
+        self.puts = self.puts.then(&Made { piece, answer });
+        answer
     }
 }
 
@@ -105,7 +113,8 @@ impl GatheringSink for GatheringMemSink {
     /// Fails exactly at the calls that are to fail, and hands on nothing then.
     fn hand_on(&mut self) -> bool
         ensures taken { Some self.new.taken ≡ Some self.old.taken }
-        ensures handed { result ≡ true → Some (handed_bytes self.new) ≡ Some self.new.taken }
+        ensures handed { result ≡ true →
+            Some (handed_bytes self.new) ≡ Some (taken_bytes self.new.taken) }
         ensures faults { self.new.calls.faults ≡ count_after (not result) self.old.calls.faults }
         ensures fails { not result ≡ next_fails self.old.calls }
         ensures calls { self.new.calls ≡ after_call self.old.calls }

@@ -1,20 +1,22 @@
-//! The real files and streams. Nothing is proved of what they hold or take.
+//! The real files and streams. They log what they were asked for and what was answered; that the system's answers are true
+//! is trusted.
 ghost use Rattle.std.specs.Io.Buffered.{writer_buffer};
-ghost use Rattle.std.specs.Prelude.{◌≡◌, ◌<◌, ◌≤◌, [], length, IfOk, IfSome, true, not};
+ghost use Rattle.std.specs.Prelude.{◌≡◌, ◌<◌, ◌≤◌, [], length, Some, IfOk, IfSome, true, not};
 ghost use Rattle.et_io.specs.Faults.{count_after};
 ghost use Rattle.et_io.specs.Files.{IsWithin};
+ghost use Rattle.et_io.specs.Sink.{bytes_but, taken_bytes};
 
 use crate::files::{Files, Found};
 use crate::gathering::GatheringSink;
-use crate::reads::{Read as Asked, Reads};
+use crate::logs::{Made, Puts, Read as Asked, Reads};
 use crate::sink::{Put, Sink};
 use et_base::NoMemory;
 use std::alloc::Global;
-use std::io::{BufWriter, ErrorKind, Read, Write};
+use std::io::{self, BufWriter, ErrorKind, Read, Write};
 use std::{fs, rt};
 
-/// The files of the system. They tell nothing of what they hold. The count of faults stays at its last number,
-/// 2^64 - 1, once it stands there.
+/// The files of the system. Files agree with what was read of them where each answer is true. The count of faults stays
+/// at its last number, 2^64 - 1, once it stands there.
 #[derive(Drop)]
 pub struct HostFiles<R: rt::Files> {
     runtime: R,
@@ -33,54 +35,85 @@ impl<R: rt::Files> HostFiles<R> {
     }
 }
 
+/// How many bytes are asked of the system at once.
+const ASKED: usize = 8_192;
+
+/// Reads to the end, or so many bytes: never more. A read that was interrupted is tried again.
+fn read_up_to<F: Read>(file: &mut F, bytes: &mut Vec<u8>, most: usize) -> io::Result<()>
+    requires { length bytes.old.items ≤ most }
+    ensures { length bytes.new.items ≤ most }
+{
+    let mut piece = [0; ASKED];
+    for _ in 0..u64::MAX {
+        let room = (most - bytes.len()).min(ASKED);
+        match file.read(&mut piece[..room]) {
+            Ok(0) => return Ok(()),
+            Ok(count) => bytes.extend_from_slice(&piece[..count])?,
+            Err(error) if error.kind() == ErrorKind::Interrupted => {}
+            Err(error) => return Err(error),
+        }
+    }
+    Err(io::Error::from(ErrorKind::Interrupted))
+}
+
 /// Reads to the end, or to the first byte past the most that is wanted.
 fn read_open<F: Read + Drop>(file: F, alloc: Global, most: u64) -> Result<Found, NoMemory>
     ensures { IfOk result (λ found. IsWithin found most) }
 {
+    let mut file = file;
     let mut bytes = Vec::new(alloc);
-    match file.take(most.saturating_add(1)).read_to_end(&mut bytes) {
-        Ok(_) if bytes.len() as u64 > most => Ok(Found::TooLong),
-        Ok(_) => Ok(Found::Bytes(bytes)),
+    match read_up_to(&mut file, &mut bytes, most.saturating_add(1) as usize) {
+        Ok(()) if bytes.len() as u64 > most => Ok(Found::TooLong),
+        Ok(()) => Ok(Found::Bytes(bytes)),
         Err(error) if error.kind() == ErrorKind::OutOfMemory => Err(NoMemory),
         Err(_) => Ok(Found::Failed),
     }
 }
 
 impl<R: rt::Files> Files for HostFiles<R> {
-    ghost use Rattle.std.specs.Prelude.{None};
+    ghost use Rattle.et_io.specs.Files.{AgreesBehind};
 
-    ghost holds = { λ _. None };
+    ghost asked = { λ files. files.reads.log };
 
-    ghost asked = { λ files. files.reads.paths };
+    ghost agrees = { λ files first held. AgreesBehind first files.reads.log held };
 
     ghost faults = { λ files. files.faults };
 
     fn read(&mut self, alloc: Global, path: &str, most: u64) -> Result<Found, NoMemory> {
-        self.reads = self.reads.then(&Asked { path });
-        let found = match fs::open(&self.runtime, path) {
-            Ok(file) => read_open(file, alloc, most)?,
-            Err(error) if error.kind() == ErrorKind::NotFound => Found::Absent,
-            Err(_) => Found::Failed,
+        let answer = match fs::open(&self.runtime, path) {
+            Ok(file) => read_open(file, alloc, most),
+            Err(error) if error.kind() == ErrorKind::NotFound => Ok(Found::Absent),
+            Err(_) => Ok(Found::Failed),
         };
-        if matches!(&found, Found::Failed) {
+        if matches!(&answer, Ok(Found::Failed)) {
             self.faults = self.faults.saturating_add(1);
         }
-        Ok(found)
+        self.reads = self.reads.then(&Asked {
+            path,
+            most,
+            answer: &answer,
+        });
+        answer
     }
 }
 
-/// A stream of the system, as standard output. It tells nothing of what it took. The count of faults stays at its last
-/// number, 2^64 - 1, once it stands there.
+/// A stream of the system, as standard output. The count of faults stays at its last number, 2^64 - 1, once it stands
+/// there.
 #[derive(Drop)]
 pub struct HostSink<W: Write> {
     stream: W,
     faults: u64,
+    puts: Puts,
 }
 
 impl<W: Write> HostSink<W> {
     /// The sink of this stream.
     pub fn begin(stream: W) -> HostSink<W> {
-        HostSink { stream, faults: 0 }
+        HostSink {
+            stream,
+            faults: 0,
+            puts: Puts::begin(),
+        }
     }
 }
 
@@ -99,31 +132,39 @@ impl<W: Write + Drop> HostSink<BufWriter<W>> {
 }
 
 impl<W: Write> Sink for HostSink<W> {
-    ghost use Rattle.std.specs.Prelude.{None};
+    ghost use Rattle.std.specs.Prelude.{Some};
 
-    ghost taken = { λ _. None };
+    ghost taken = { λ sink. Some sink.puts.marks };
 
     ghost faults = { λ sink. sink.faults };
 
     fn put(&mut self, piece: &[u8]) -> Put {
-        match write_once(&mut self.stream, piece) {
+        let answer = match write_once(&mut self.stream, piece) {
             Some(count) => Put::Took(count),
             None => {
                 self.faults = self.faults.saturating_add(1);
                 Put::Failed
             }
-        }
+        };
+        self.puts = self.puts.then(&Made { piece, answer });
+        answer
     }
 }
 
 impl<W: Write + Drop> GatheringSink for HostSink<BufWriter<W>> {
-    ghost use Rattle.std.specs.Prelude.{None};
+    ghost use Rattle.std.specs.Prelude.{Some};
+    ghost use Rattle.std.specs.Io.Buffered.{writer_buffer};
+    ghost use Rattle.et_io.specs.Sink.{bytes_but};
 
-    ghost handed = { λ _. None };
+    ghost handed = { λ sink. Some (bytes_but (writer_buffer sink.stream) sink.puts.marks) };
 
     /// Hands on to the stream what was gathered, and says whether the stream took it all.
     fn hand_on(&mut self) -> bool
         ensures emptied { result ≡ true → writer_buffer self.new.stream ≡ [] }
+        ensures taken { Some self.new.puts.marks ≡ Some self.old.puts.marks }
+        ensures handed { result ≡ true →
+            Some (bytes_but (writer_buffer self.new.stream) self.new.puts.marks)
+            ≡ Some (taken_bytes self.new.puts.marks) }
         ensures faults { self.new.faults ≡ count_after (not result) self.old.faults }
     {
         let is_taken = self.stream.flush().is_ok();

@@ -8,11 +8,11 @@ mod files;
 mod gathering;
 mod gathering_mem_sink;
 mod host;
+mod logs;
 mod mem_files;
 mod mem_sink;
 mod pieces;
 mod putting;
-mod reads;
 mod sink;
 
 pub use files::{Files, Found};

@@ -1,7 +1,7 @@
 //! Files in memory.
 use crate::calls::CallBook;
 use crate::files::{Files, Found};
-use crate::reads::{Read, Reads};
+use crate::logs::{Read, Reads};
 use et_base::NoMemory;
 use std::alloc::Global;
 use std::collections::HashMap;
@@ -16,10 +16,12 @@ pub struct MemFiles {
 }
 
 impl MemFiles {
-    ghost use Rattle.std.specs.Prelude.{◌≡◌, ◌<◌, ◌^◌, List, ℕ, [], None, OnOk, OnErr};
+    ghost use Rattle.std.specs.Prelude.{◌≡◌, ◌<◌, ◌≤◌, ◌^◌, List, ℕ, [], None, IfOk, OnOk, OnErr};
     ghost use Rattle.std.specs.Ordering.{nat_cmp};
     ghost use Rattle.std.specs.BTreeSet.{insert_key};
-    ghost use Rattle.et_io.specs.MemFiles.{held, calls_of, asked_of, Holds, IsUnchanged};
+    ghost use Rattle.et_io.specs.Calls.{next_fails, after_call};
+    ghost use Rattle.et_io.specs.Files.{Finds, IsWithin};
+    ghost use Rattle.et_io.specs.MemFiles.{held, calls_of, asked_of, Holds, IsUnchanged, FailsAsTold};
 
     /// Nothing held, no call made, none to fail and no faults.
     pub fn begin(alloc: Global) -> MemFiles
@@ -58,34 +60,17 @@ impl MemFiles {
     {
         self.calls.fail_at(call)
     }
-}
-
-impl Files for MemFiles {
-    ghost use Rattle.std.specs.Prelude.{◌≡◌, ◌≤◌, ◌↔◌, ◌++◌, ◌∷◌, [], ℕ, List, Some, Ok, IfOk, IfSome, IsTrue};
-    ghost use Rattle.et_io.specs.Calls.{next_fails, after_call};
-    ghost use Rattle.et_io.specs.Faults.{count_after};
-    ghost use Rattle.et_io.specs.Files.{Finds, IsWithin, is_read_failed};
-    ghost use Rattle.et_io.specs.MemFiles.{held, calls_of, asked_of, FailsAsTold};
-
-    ghost holds = { λ files. Some (held files) };
-
-    ghost asked = { asked_of };
-
-    ghost faults = { λ files. (calls_of files).faults };
 
     /// Finds what is held. Fails exactly at the calls that are to fail.
-    fn read(&mut self, alloc: Global, path: &str, most: u64) -> Result<Found, NoMemory>
+    fn answer(&mut self, alloc: Global, path: &str, most: u64) -> Result<Found, NoMemory>
         ensures found { IfOk result (λ found. Finds found most (held self.old path.now)) }
         ensures within { IfOk result (λ found. IsWithin found most) }
-        ensures failed { (calls_of self.new).faults
-            ≡ count_after (is_read_failed result) (calls_of self.old).faults }
-        ensures asked { asked_of self.new ≡ asked_of self.old ++ path.now ∷ [] }
-        ensures kept { Some (held self.new) ≡ Some (held self.old) }
-        ensures never_falls { (calls_of self.old).faults ≤ (calls_of self.new).faults }
         ensures fails { FailsAsTold result (next_fails (calls_of self.old)) }
         ensures calls { calls_of self.new ≡ after_call (calls_of self.old) }
+        ensures files { held self.new ≡ held self.old }
+        ensures asked { asked_of self.new ≡ asked_of self.old }
+        ensures never_falls { (calls_of self.old).faults ≤ (calls_of self.new).faults }
     {
-        self.reads = self.reads.then(&Read { path });
         if self.calls.next_call() {
             return Ok(Found::Failed);
         }
@@ -94,5 +79,47 @@ impl Files for MemFiles {
             Some(bytes) if bytes.len() as u64 > most => Ok(Found::TooLong),
             Some(bytes) => Ok(Found::Bytes(Vec::from_slice(alloc, bytes.as_slice())?)),
         }
+    }
+}
+
+impl Files for MemFiles {
+    ghost use Rattle.std.specs.Prelude.{◌≡◌, ◌≤◌, ◌++◌, ◌∷◌, [], List, length, IfOk};
+    ghost use Rattle.et_io.specs.Calls.{next_fails, after_call};
+    ghost use Rattle.et_io.specs.Faults.{count_after};
+    ghost use Rattle.et_io.specs.Files.{Held, Reading, answer_of, Finds, IsWithin, is_read_failed};
+    ghost use Rattle.et_io.specs.MemFiles.{held, calls_of, asked_of, FailsAsTold};
+
+    ghost asked = { asked_of };
+
+    ghost agrees = { λ files first other. held files ≡ other };
+
+    ghost faults = { λ files. (calls_of files).faults };
+
+    /// Finds what is held. Fails exactly at the calls that are to fail.
+    fn read(&mut self, alloc: Global, path: &str, most: u64) -> Result<Found, NoMemory>
+        ensures found { (first : List Reading) (other : Held) →
+            length first ≤ length (asked_of self.old) → held self.new ≡ other →
+            IfOk result (λ found. Finds found most (other path.now)) }
+        ensures within { IfOk result (λ found. IsWithin found most) }
+        ensures failed { (calls_of self.new).faults
+            ≡ count_after (is_read_failed result) (calls_of self.old).faults }
+        ensures asked { asked_of self.new ≡ asked_of self.old ++ record {
+          path = path.now;
+          most = most;
+          answer = answer_of result;
+        } ∷ [] }
+        ensures kept { (first : List Reading) (other : Held) → held self.new ≡ other →
+            held self.old ≡ other }
+        ensures never_falls { (calls_of self.old).faults ≤ (calls_of self.new).faults }
+        ensures fails { FailsAsTold result (next_fails (calls_of self.old)) }
+        ensures calls { calls_of self.new ≡ after_call (calls_of self.old) }
+    {
+        let answer = self.answer(alloc, path, most);
+        self.reads = self.reads.then(&Read {
+            path,
+            most,
+            answer: &answer,
+        });
+        answer
     }
 }

@@ -5,9 +5,10 @@ ghost use Rattle.std.specs.BTreeSet.{insert_key};
 ghost use Rattle.et_io.specs.Calls.{next_fails, after_call};
 ghost use Rattle.et_io.specs.MemSink.{TakesMost};
 ghost use Rattle.et_io.specs.Faults.{count_after};
-ghost use Rattle.et_io.specs.Sink.{Takes, is_put_failed};
+ghost use Rattle.et_io.specs.Sink.{Takes, is_put_failed, taken_bytes};
 
 use crate::calls::CallBook;
+use crate::logs::{Made, Puts};
 use crate::sink::{Put, Sink};
 use et_base::NoMemory;
 use std::alloc::Global;
@@ -20,17 +21,19 @@ pub struct MemSink {
     taken: Vec<u8>,
     most: u64,
     calls: CallBook,
+    puts: Puts,
 }
 
 impl Model for MemSink {
-    ghost use Rattle.std.specs.Prelude.{◌≤◌};
+    ghost use Rattle.std.specs.Prelude.{◌≡◌, ◌≤◌};
     ghost use Rattle.et_io.specs.MemSink.{SinkInMemory};
+    ghost use Rattle.et_io.specs.Sink.{taken_bytes};
 
     ghost Value = { SinkInMemory };
 
-    ghost view = { λ s. record { taken = s.taken.items; most = s.most; calls = s.calls } };
+    ghost view = { λ s. record { taken = s.puts.marks; most = s.most; calls = s.calls } };
 
-    ghost invariant = { λ s. 1 ≤ s.most };
+    ghost invariant = { λ s. (1 ≤ s.most) × (s.taken.items ≡ taken_bytes s.puts.marks) };
 }
 
 impl MemSink {
@@ -48,6 +51,7 @@ impl MemSink {
             taken: Vec::new(alloc),
             most,
             calls: CallBook::begin(alloc),
+            puts: Puts::begin(),
         }
     }
 
@@ -65,7 +69,7 @@ impl MemSink {
 
     /// The bytes taken so far.
     pub fn bytes(&self) -> &[u8]
-        ensures { result.now ≡ self.now.taken }
+        ensures { result.now ≡ taken_bytes self.now.taken }
     {
         self.taken.as_slice()
     }
@@ -87,13 +91,16 @@ impl Sink for MemSink {
         ensures calls { self.new.calls ≡ after_call self.old.calls }
         ensures most { self.new.most ≡ self.old.most }
     {
-        if self.calls.next_call() {
-            return Put::Failed;
-        }
-        let count = (piece.len() as u64).min(self.most) as usize;
-        match self.taken.extend_from_slice(&piece[..count]) {
-            Ok(()) => Put::Took(count),
-            Err(_) => Put::NoMemory,
-        }
+        let answer = if self.calls.next_call() {
+            Put::Failed
+        } else {
+            let count = (piece.len() as u64).min(self.most) as usize;
+            match self.taken.extend_from_slice(&piece[..count]) {
+                Ok(()) => Put::Took(count),
+                Err(_) => Put::NoMemory,
+            }
+        };
+        self.puts = self.puts.then(&Made { piece, answer });
+        answer
     }
 }

@@ -9,9 +9,9 @@ use crate::sink::Sink;
 /// How many bytes are gathered before they are put.
 const PIECE: usize = 65_536;
 
-/// Puts the bytes that were gathered and empties the buffer, once they are 64 KiB or more; fewer bytes stay. `Write` comes
-/// exactly where a put failed, and the sink counted one fault. After `Write` and after `NoMemory` the sink took a prefix of the
-/// bytes, and what is in the buffer means nothing.
+/// Puts the bytes that were gathered and empties the buffer, once they are 64 KiB or more; fewer bytes stay. That so many are
+/// put at once is no promise. `Write` comes exactly where the sink counted one fault. After `Write` and after `NoMemory` the sink
+/// took a prefix of the bytes, a put that failed is the last one, and what is in the buffer means nothing.
 #[inline]
 pub fn put_piece<S: Sink>(sink: &mut S, gathered: &mut Vec<u8>) -> Result<(), RunFault>
     ensures ok { OnOk result (TakesUpTo

@@ -14,9 +14,9 @@ pub enum RunFault {
     NoMemory,
 }
 
-/// Puts the whole piece, in as many calls as the sink wants, and none where the piece is empty. It ends with the first
-/// put that fails, which is answered `Write`: then the sink counted one fault, and otherwise none. After `Write` and
-/// after `NoMemory` the sink took a prefix of the piece.
+/// Puts the whole piece, in as many calls as the sink wants, and none where the piece is empty: no empty piece is put. It
+/// ends with the first put that fails, behind which none is made. `Write` says that the sink counted one fault, and by any
+/// other answer it counted none. After `Write` and after `NoMemory` the sink took a prefix of the piece.
 #[inline(always)]
 pub fn put_all<S: Sink>(sink: &mut S, piece: &[u8]) -> Result<(), RunFault>
     ensures ok { OnOk result (S.taken sink.new ≡ with_more (S.taken sink.old) piece.now) }

@@ -1,7 +1,7 @@
 //! What bytes are put to.
-ghost use Rattle.std.specs.Prelude.{◌≡◌, ℕ, ◌≤◌, List, Option};
+ghost use Rattle.std.specs.Prelude.{◌≡◌, ℕ, ◌≤◌};
 ghost use Rattle.et_io.specs.Faults.{count_after};
-ghost use Rattle.et_io.specs.Sink.{Takes, is_put_failed};
+ghost use Rattle.et_io.specs.Sink.{Log, Takes, is_put_failed};
 
 /// What a sink answered to one put.
 #[derive(Clone, Copy, Debug, PartialEq, Eq)]
@@ -14,10 +14,11 @@ pub enum Put {
     NoMemory,
 }
 
-/// What bytes are put to. A sink may tell which bytes it took; each tells how often it failed.
+/// What bytes are put to. A sink may tell which bytes it took, and of which puts it took nothing; each tells how often it
+/// failed.
 pub trait Sink {
-    /// The bytes taken so far, where the sink tells them.
-    ghost taken: { Self → Option (List ℕ) };
+    /// The log of the puts so far, where the sink tells it.
+    ghost taken: { Self → Log };
 
     /// How many puts failed.
     ghost faults: { Self → ℕ };

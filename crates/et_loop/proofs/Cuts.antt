@@ -1,7 +1,7 @@
 -- A run that is cut off in a turn.
-use Rattle.std.proofs.Common.{◌≡◌, ℕ, ◌+◌, ◌≤◌, Bool, List, Option, ◌∙◌, ap, inl, inr}
+use Rattle.std.proofs.Common.{◌≡◌, ℕ, ◌+◌, ◌≤◌, Bool, List, ◌∙◌, ap, inl, inr}
 use Rattle.et_graph.specs.Graph.{Graph}
-use Rattle.et_io.specs.Sink.{with_more, TakesPrefix}
+use Rattle.et_io.specs.Sink.{Log, with_more, TakesPrefix}
 use Rattle.et_state.specs.declared.records.Record.{Record}
 use Rattle.et_state.specs.Naming.{Mentions}
 use Rattle.et_state.specs.History.{Setting, lines_to}
@@ -11,29 +11,32 @@ use Rattle.et_loop.specs.Visits.{visits_to, IsCut}
 use Rattle.et_loop.proofs.Headers.{lines_whole}
 use Rattle.et_loop.proofs.RunLemmas.{Running, more_twice}
 
-module _ {S : Type 0} (reached : Graph → ℕ → Bool) (given : Setting S) (flush_visits : (ℕ → Bool) → S → ℕ) (start : S) (made : List Record) (before : Option (List ℕ)) (old new : ℕ) where
+module _ {S : Type 0} (reached : Graph → ℕ → Bool) (given : Setting S) (flush_visits : (ℕ → Bool) → S → ℕ) (start : S) (made : List Record) (before : Log) (old new : ℕ) where
   -- before the first turn nothing was visited
-  pub cut_first : (after : Option (List ℕ)) → new ≡ old → IsCut reached given flush_visits start made before after old new
+  pub cut_first : (after : Log) → new ≡ old → IsCut reached given flush_visits start made before after old new
   cut_first after same = inl same
 
-  module _ (e : ℕ) (s : S) (last : ℕ → ℕ) (m : Mentions) (now : Option (List ℕ)) (runs : Running reached given start made e s last m before now) (few : new ≤ old + visits_to reached given flush_visits start made e) where
+  module _ (e : ℕ) (s : S) (last : ℕ → ℕ) (m : Mentions) (now : Log) (runs : Running reached given start made e s last m before now) (few : new ≤ old + visits_to reached given flush_visits start made e) where
     -- what was taken so far
     taken_is : now ≡ with_more before (trace_bytes given.format (lines_to reached given start made e))
     taken_is = runs.lines ∙ ap (λ (bytes : List ℕ). with_more before bytes) (lines_whole reached given start made given.format e)
 
     -- in a put of the lines of the turn
-    pub cut_putting : (after : Option (List ℕ)) (piece : List ℕ) → TakesPrefix now after piece → IsCut reached given flush_visits start made before after old new
-    cut_putting after piece (rest, h) = inr (
+    pub cut_putting : (after : Log) (piece : List ℕ) → TakesPrefix now after piece → IsCut reached given flush_visits start made before after old new
+    cut_putting after piece h = inr (
       e,
       record {
         goes = runs.first;
-        rest = h.prefix;
-        taken = h.taken ∙ (ap (λ (t : Option (List ℕ)). with_more t h.prefix) taken_is ∙ more_twice before (trace_bytes given.format (lines_to reached given start made e)) h.prefix);
+        rest = h.takes.prefix;
+        mid = h.mid;
+        taken = h.takes.taken ∙ (ap (λ (t : Log). with_more t h.takes.prefix) taken_is ∙ more_twice before (trace_bytes given.format (lines_to reached given start made e)) h.takes.prefix);
+        left = h.rest;
+        stops = h.stops;
         visits = few;
       },
     )
 
     -- .. or in the midst of its flush, or of the last lines
-    pub cut_broken : (from : S) (noted : ℕ → ℕ) (after : Option (List ℕ)) (out : List ℕ) → Breaks reached given e from noted now after out → IsCut reached given flush_visits start made before after old new
+    pub cut_broken : (from : S) (noted : ℕ → ℕ) (after : Log) (out : List ℕ) → Breaks reached given e from noted now after out → IsCut reached given flush_visits start made before after old new
     cut_broken from noted after out (inl h) = cut_putting after _ h
     cut_broken from noted after out (inr h) = cut_putting after _ h.1.takes

@@ -5,7 +5,8 @@ use Rattle.et_graph.specs.Graph.{Graph, IsReached, Decides}
 use Rattle.et_graph.specs.Listed.{AreListed}
 use Rattle.et_graph.proofs.Walks.{is_reached, is_reached_decides}
 use Rattle.et_base.specs.declared.value.End.{End}
-use Rattle.et_io.specs.Sink.{TakesUpTo, TakesPrefix}
+use Rattle.et_io.specs.Sink.{Log, TakesUpTo, TakesPrefix}
+use Rattle.et_io.proofs.Taking.{takes_no_more}
 use Rattle.et_state.specs.Outcome.{records_of}
 use Rattle.et_state.specs.Naming.{Mentions, lines_of}
 use Rattle.et_state.specs.History.{Setting, is_flush_point, flush_lines, outcome_step, settled}
@@ -28,7 +29,7 @@ before_first given said (suc k) e s s' old new h = before_first given said k e s
 
 -- the flush alone was made, or a part of it
 pub broken_at_flush : {S : Type 0} (given : Setting S) (said : S → ℕ → List ℕ) (flush_visits : (ℕ → Bool) → S → ℕ) (e : ℕ) (s : S) (due : Bool) (old : List ℕ) (before after : ℕ) → due ≡ is_flush_point given.interval e
-    → ((here : ℕ → Bool) → ((o : ℕ) → IsTrue (here o) ↔ IsReached (given.rule.graph s) o) → after ≤ before + due_visits due (flush_visits here s)) → (taken taken' : Option (List ℕ)) (out : List ℕ)
+    → ((here : ℕ → Bool) → ((o : ℕ) → IsTrue (here o) ↔ IsReached (given.rule.graph s) o) → after ≤ before + due_visits due (flush_visits here s)) → (taken taken' : Log) (out : List ℕ)
     → ((deaths : List (ℕ × ℕ)) → (due ≡ true → AreListed (given.rule.graph s) (slice_index old) deaths) → TakesPrefix taken taken' (out ++ lines_written_in given.format (due_lines due (flush_lines e deaths)))) → IsBrokenTurn given said e s old before after flush_visits taken taken' out
 unfolding GoQuietly
 broken_at_flush given said flush_visits e s due old before after at most taken taken' out takes =
@@ -58,7 +59,7 @@ goes_behind given e s m s' m' front out out' None g =
     record { goes = g.goes; state = g.state; mentions = g.mentions; lines = ap (λ (t : List ℕ). front ++ t) g.lines ∙ sym (append_assoc front out more) }
 goes_behind given e s m s' m' front out out' (Some end) g = record { ends = g.ends; state = g.state; mentions = g.mentions; lines = ap (λ (t : List ℕ). front ++ t) g.lines }
 
-module _ {S : Type 0} (given : Setting S) (said : S → ℕ → List ℕ) (flush_visits : (ℕ → Bool) → S → ℕ) (e : ℕ) (s s₁ : S) (due : Bool) (old : List ℕ) (bytes left : List ℕ) (taken taken₁ : Option (List ℕ)) (before flushed : ℕ)
+module _ {S : Type 0} (given : Setting S) (said : S → ℕ → List ℕ) (flush_visits : (ℕ → Bool) → S → ℕ) (e : ℕ) (s s₁ : S) (due : Bool) (old : List ℕ) (bytes left : List ℕ) (taken taken₁ : Log) (before flushed : ℕ)
     (at : due ≡ is_flush_point given.interval e)
     (state : (here : ℕ → Bool) → ((o : ℕ) → IsTrue (here o) ↔ IsReached (given.rule.graph s) o) → s₁ ≡ due_state due (given.rule.flushed here s) s)
     (graphs : Settles due (given.rule.graph s) (given.rule.graph s₁))
@@ -146,7 +147,7 @@ module _ {S : Type 0} (given : Setting S) (said : S → ℕ → List ℕ) (flush
       comes = record { events = f.events; visits = turn_visits };
       breaks = λ reached decides last listed.
           let deaths : List (ℕ × ℕ) = deaths_now reached given (e + quiet) f.from last in
-          inl (subst (λ (t : List ℕ). TakesPrefix taken taken₁ t) (f.lines_there deaths (λ _. listed) ∙ ap (λ (b : Bool). bytes ++ lines_written_in given.format (due_lines b (flush_lines (e + quiet) deaths))) f.at_there) (left, puts.put));
+          inl (subst (λ (t : List ℕ). TakesPrefix taken taken₁ t) (f.lines_there deaths (λ _. listed) ∙ ap (λ (b : Bool). bytes ++ lines_written_in given.format (due_lines b (flush_lines (e + quiet) deaths))) f.at_there) (takes_no_more taken taken₁ bytes₁ left puts.put));
     }
 
     -- the last event is done
@@ -166,7 +167,7 @@ module _ {S : Type 0} (given : Setting S) (said : S → ℕ → List ℕ) (flush
       }
 
     -- .. or the history ends
-    module _ (m : Mentions) (s' : S) (m' : Mentions) (out' spoken : List ℕ) (stamps : List ℕ) (end : End) (goes : Goes given (e + quiet) mid m s' m' bytes₁ out' (Some end)) (says : SaysStep given said (e + quiet) mid spoken (Some end)) (kept : stamps ≡ between) (taken₂ : Option (List ℕ)) (now : ℕ)
+    module _ (m : Mentions) (s' : S) (m' : Mentions) (out' spoken : List ℕ) (stamps : List ℕ) (end : End) (goes : Goes given (e + quiet) mid m s' m' bytes₁ out' (Some end)) (says : SaysStep given said (e + quiet) mid spoken (Some end)) (kept : stamps ≡ between) (taken₂ : Log) (now : ℕ)
         (last_few : (here : ℕ → Bool) → (due ≡ false → (o : ℕ) → IsTrue (here o) ↔ IsReached (given.rule.graph s') o) → now ≤ after + last_visits due (flush_visits here s')) where
       same_end : (reached : Graph → ℕ → Bool) → Decides reached → due ≡ false → s' ≡ f.from
       same_end reached decides none =
@@ -245,7 +246,7 @@ module _ {S : Type 0} (given : Setting S) (said : S → ℕ → List ℕ) (flush
         (subst (λ (x : Option End). SaysStep given said (e + quiet) h.mid spoken x) is h.says)
         (subst (λ (x : Option End). Stamped x (e + quiet) (given.rule.graph h.mid) (given.rule.graph s') h.between new) is h.stamped))
 
-    module _ (over : End) (is : end ≡ Some over) (taken₂ : Option (List ℕ)) (now : ℕ)
+    module _ (over : End) (is : end ≡ Some over) (taken₂ : Log) (now : ℕ)
         (last_few : (here : ℕ → Bool) → (due ≡ false → (o : ℕ) → IsTrue (here o) ↔ IsReached (given.rule.graph s') o) → now ≤ after + last_visits due (flush_visits here s')) where
       over_says : SaysStep given said (e + quiet) h.mid spoken (Some over)
       over_says = subst (λ (x : Option End). SaysStep given said (e + quiet) h.mid spoken x) is h.says

@@ -7,7 +7,7 @@ use Rattle.et_state.specs.History.{Setting, left_by, last_reached}
 use Rattle.et_graph.specs.Listed.{AreListed, IsGreatest}
 use Rattle.et_base.specs.declared.value.End.{End}
 use Rattle.et_state.specs.Naming.{Mentions}
-use Rattle.et_io.specs.Sink.{with_more}
+use Rattle.et_io.specs.Sink.{Log, with_more}
 use Rattle.et_loop.specs.Run.{time_noted, Turns}
 use Rattle.et_loop.proofs.RunLemmas.{noted_before, noted_is, Running, turn_on}
 use Rattle.et_loop.specs.Stamping.{Passes}
@@ -56,14 +56,14 @@ module _ {S : Type 0} (reached : Graph → ℕ → Bool) (decides : Decides reac
   graph_first = refl
 
   -- the times that are noted before an event are those of the history
-  pub running_as : (e : ℕ) (s : S) (last : ℕ → ℕ) (m : Mentions) (before now : Option (List ℕ)) → Running reached given start made e s last m before now → Running reached given start made e s (λ o. noted_before reached given start made o e) m before now
+  pub running_as : (e : ℕ) (s : S) (last : ℕ → ℕ) (m : Mentions) (before now : Log) → Running reached given start made e s last m before now → Running reached given start made e s (λ o. noted_before reached given start made o e) m before now
   running_as e s last m before now r = record { state = r.state; first = r.first; noted = λ o. refl; mentions = r.mentions; lines = r.lines }
 
-  module _ (e : ℕ) (s : S) (m : Mentions) (before now : Option (List ℕ)) (r : Running reached given start made e s (λ o. noted_before reached given start made o e) m before now) (stamps : ℕ → ℕ) (told : IsToldByStamps graphs e (given.rule.graph s) stamps) where
+  module _ (e : ℕ) (s : S) (m : Mentions) (before now : Log) (r : Running reached given start made e s (λ o. noted_before reached given start made o e) m before now) (stamps : ℕ → ℕ) (told : IsToldByStamps graphs e (given.rule.graph s) stamps) where
     pub listed_here : AreListed (given.rule.graph s) stamps (dated reached decides (given.rule.graph s) (time_noted (reached (given.rule.graph s)) (λ o. noted_before reached given start made o e) e))
     listed_here = listed_now e (given.rule.graph s) stamps (ap given.rule.graph r.state) told
 
-    module _ (next : Option End) (s' : S) (last' : ℕ → ℕ) (m' : Mentions) (out out' : List ℕ) (empty : out ≡ []) (is : next ≡ None) (turn : Turns reached given e s (λ o. noted_before reached given start made o e) m s' last' m' out out' next) (n : ℕ) (now' : Option (List ℕ)) (at : n ≡ suc e) (en : now' ≡ with_more now out') where
+    module _ (next : Option End) (s' : S) (last' : ℕ → ℕ) (m' : Mentions) (out out' : List ℕ) (empty : out ≡ []) (is : next ≡ None) (turn : Turns reached given e s (λ o. noted_before reached given start made o e) m s' last' m' out out' next) (n : ℕ) (now' : Log) (at : n ≡ suc e) (en : now' ≡ with_more now out') where
       pub next_runs : Running reached given start made n s' (λ o. noted_before reached given start made o n) m' before now'
       next_runs = running_as n s' last' m' before now' (turn_on reached given start made e s (λ o. noted_before reached given start made o e) m before now r next s' last' m' out out' empty is turn n now' at en)
 

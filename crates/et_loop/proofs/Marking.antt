@@ -1,12 +1,10 @@
 -- Stamps that are written, and the number of deaths.
-use Rattle.std.proofs.Common.{◌≡◌, ℕ, zero, suc, ◌+◌, ◌<◌, ◌≤◌, ◌⊎◌, List, [], ◌∷◌, ◌++◌, map, get_or, set, length, Contains, refl, sym, ◌∙◌, subst, inl, inr, add-one, arith}
+use Rattle.std.proofs.Common.{◌≡◌, ℕ, zero, suc, ◌+◌, ◌<◌, ◌≤◌, ◌⊎◌, List, map, get_or, set, length, Contains, refl, sym, ◌∙◌, subst, inl, inr, add-one, arith}
 use Rattle.std.specs.List.Sorted.{IsStrictlyIncreasing}
 use Rattle.std.proofs.lemmas.Bool.{cases_eq}
 use Rattle.std.proofs.lemmas.List.{get_or-set_same, get_or-set_other, length-set, length-map}
 use Rattle.std.proofs.lemmas.Grind.{get_or_default_zero}
-use Rattle.std.proofs.lemmas.List.Elements.{Contains-append_left, Contains-push, Contains-push_cases}
 use Rattle.et_graph.specs.Graph.{Graph, IsMade, IsReached}
-use Rattle.et_base.proofs.Lists.{Contains-none}
 use Rattle.et_graph.proofs.Sound.{fresh_range}
 use Rattle.et_graph.proofs.Deaths.{first_map}
 use Rattle.et_graph.specs.Listed.{AreListed}
@@ -14,28 +12,6 @@ use Rattle.et_loop.specs.Kept.{IsStepTo}
 use Rattle.et_state.specs.declared.ends.EventEnd.{EventEnd}
 use Rattle.et_state.specs.declared.ends.EventEnd.TheVariants as ends
 use Rattle.et_loop.specs.Stamping.{Restamps, StepsWhereDone}
-
--- the time stands at each of the objects, and the rest is as before
-pub record IsEach (old new objects : List ℕ) (t : ℕ) : Type 0 where
-  pub long : length new ≡ length old
-  pub each : (o : ℕ) → Contains objects o → get_or new o 0 ≡ t
-  pub others : (o : ℕ) → ¬ Contains objects o → get_or new o 0 ≡ get_or old o 0
-
-pub each_none : (old : List ℕ) (t : ℕ) → IsEach old old [] t
-each_none old t = record { long = refl; each = λ o c. absurd (Contains-none o c); others = λ o c. refl }
-
-pub each_push : (old new objects : List ℕ) (t x : ℕ) → IsEach old new objects t → x < length new → IsEach old (set new x t) (objects ++ x ∷ []) t
-each_push old new objects t x is lt = record {
-  long = length-set new x t ∙ is.long;
-  each = λ o c. elim (cases_eq o x) [
-    | inl e ↦ subst (λ (j : ℕ). get_or (set new x t) j 0 ≡ t) (sym e) (get_or-set_same new x t 0 lt)
-    | inr ne ↦ get_or-set_other new x o t 0 ne ∙ elim (Contains-push_cases objects x o c) [ inl d ↦ is.each o d | inr e ↦ absurd (ne (sym e)) ]
-  ];
-  others = λ o out. elim (cases_eq o x) [
-    | inl e ↦ absurd (out (subst (λ (j : ℕ). Contains (objects ++ x ∷ []) j) (sym e) (Contains-push objects x)))
-    | inr ne ↦ get_or-set_other new x o t 0 ne ∙ is.others o (λ c. out (Contains-append_left objects (x ∷ []) o c))
-  ];
-}
 
 -- the time stands at each object above `before` and up to n, and the rest is as before
 pub record IsNew (old new : List ℕ) (before n t : ℕ) : Type 0 where

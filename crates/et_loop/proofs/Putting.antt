@@ -1,6 +1,5 @@
 -- What a sink took of lines that are gathered in a buffer, behind what was in it, and put in pieces.
 use Rattle.std.proofs.Common.{◌≡◌, ℕ, ◌+◌, ◌<◌, ◌≤◌, List, [], ◌∷◌, ◌++◌, length, take, drop, get_or, map, sym, ◌∙◌, ap, subst, append_assoc, append-nil, Bool, true, false, not, refl}
-use Rattle.std.specs.Prelude.{Option}
 use Rattle.std.proofs.lemmas.Grind.{flat_map-append}
 use Rattle.std.proofs.lemmas.List.{length-map, map-append, take_all, take_more, take-append-drop}
 use Rattle.et_base.specs.declared.format.Format.{Format}
@@ -9,48 +8,20 @@ use Rattle.et_base.specs.declared.line.TraceLine.TheVariants.{Flush, Death, Fini
 use Rattle.et_base.specs.declared.value.End.{End}
 use Rattle.et_graph.specs.declared.objects.Death as graph
 use Rattle.et_graph.specs.Listing.{death_pairs}
-use Rattle.et_io.specs.Sink.{with_more, TakesUpTo, TakesPrefix}
-use Rattle.et_io.proofs.Taking.{with_more-with_more, takes_nothing}
+use Rattle.et_io.specs.Sink.{Log, TakesUpTo, TakesPrefix}
+use Rattle.et_io.proofs.Taking.{gathers, goes_on, longer, part_put, takes_no_more}
 use Rattle.et_state.specs.History.{flush_lines, how_of}
 use Rattle.et_binary.specs.Formats.{written_in, lines_written_in}
 use Rattle.et_loop.specs.Run.{due_lines, last_lines}
 
 -- IN SEVERAL PUTS
 
--- a part of what was left goes on
-goes_on : (old mid new : Option (List ℕ)) (whole rest left : List ℕ) → TakesUpTo old mid whole rest → TakesUpTo mid new rest left → TakesUpTo old new whole left
-goes_on old mid new whole rest left a b = record {
-  prefix = a.prefix ++ b.prefix;
-  parts = a.parts ∙ (ap (λ (t : List ℕ). a.prefix ++ t) b.parts ∙ sym (append_assoc a.prefix b.prefix left));
-  taken = b.taken ∙ (ap (λ (t : Option (List ℕ)). with_more t b.prefix) a.taken ∙ with_more-with_more old a.prefix b.prefix);
-}
-
-pub part_put : (old mid new : Option (List ℕ)) (whole rest : List ℕ) → TakesUpTo old mid whole rest → TakesPrefix mid new rest → TakesPrefix old new whole
-part_put old mid new whole rest a b = (b.0, goes_on old mid new whole rest b.0 a b.1)
-
--- all of it was put
-pub all_put : (old mid new : Option (List ℕ)) (whole rest : List ℕ) → TakesUpTo old mid whole rest → new ≡ with_more mid rest → new ≡ with_more old whole
-all_put old mid new whole rest a is =
-    is ∙ (ap (λ (t : Option (List ℕ)). with_more t rest) a.taken ∙ (with_more-with_more old a.prefix rest ∙ ap (λ (t : List ℕ). with_more old t) (sym a.parts)))
-
--- none of it
-pub none_put : (old : Option (List ℕ)) (whole : List ℕ) → TakesPrefix old old whole
-none_put old whole = (whole, takes_nothing old whole)
-
--- more is gathered
-pub gathers : (old new : Option (List ℕ)) (whole rest more : List ℕ) → TakesUpTo old new whole rest → TakesUpTo old new (whole ++ more) (rest ++ more)
-gathers old new whole rest more a = record { prefix = a.prefix; parts = ap (λ (t : List ℕ). t ++ more) a.parts ∙ append_assoc a.prefix rest more; taken = a.taken }
-
--- a part of the front is a part of all
-pub longer : (old new : Option (List ℕ)) (front behind : List ℕ) → TakesPrefix old new front → TakesPrefix old new (front ++ behind)
-longer old new front behind a = (a.0 ++ behind, gathers old new front a.0 behind a.1)
-
 -- what is gathered behind the rest is put
-pub takes_after : (old mid new : Option (List ℕ)) (whole rest more left : List ℕ) → TakesUpTo old mid whole rest → TakesUpTo mid new (rest ++ more) left → TakesUpTo old new (whole ++ more) left
+pub takes_after : (old mid new : Log) (whole rest more left : List ℕ) → TakesUpTo old mid whole rest → TakesUpTo mid new (rest ++ more) left → TakesUpTo old new (whole ++ more) left
 takes_after old mid new whole rest more left a b = goes_on old mid new (whole ++ more) (rest ++ more) left (gathers old mid whole rest more a) b
 
-pub prefix_after : (old mid new : Option (List ℕ)) (whole rest more : List ℕ) → TakesUpTo old mid whole rest → TakesPrefix mid new (rest ++ more) → TakesPrefix old new (whole ++ more)
-prefix_after old mid new whole rest more a b = (b.0, takes_after old mid new whole rest more b.0 a b.1)
+pub prefix_after : (old mid new : Log) (whole rest more : List ℕ) → TakesUpTo old mid whole rest → TakesPrefix mid new (rest ++ more) → TakesPrefix old new (whole ++ more)
+prefix_after old mid new whole rest more a b = part_put old mid new (whole ++ more) (rest ++ more) (gathers old mid whole rest more a) b
 
 -- THE LINES OF A FLUSH
 
@@ -93,9 +64,9 @@ module _ (f : Format) (e : ℕ) (deaths : List graph.Death) where
       ap (λ (n : ℕ). lines_written_in f (Flush e n ∷ map line_of (death_pairs deaths))) (length-map {B = ℕ × ℕ} deaths (λ (d : graph.Death). (d.object, d.time)))
       ∙ (ap (λ (ds : List graph.Death). lines_written_in f (Flush e (length deaths) ∷ map line_of (death_pairs ds))) (sym (take-append-drop i deaths)) ∙ two_parts (take i deaths) (drop i deaths))
 
-  module _ (front : List ℕ) (old mid : Option (List ℕ)) (gathered : List ℕ) (i : ℕ) (up : TakesUpTo old mid (front ++ lines_up_to i) gathered) where
+  module _ (front : List ℕ) (old mid : Log) (gathered : List ℕ) (i : ℕ) (up : TakesUpTo old mid (front ++ lines_up_to i) gathered) where
     -- the next line is gathered, and a piece may be put
-    pub death_put : (d : graph.Death) (new : Option (List ℕ)) (more left : List ℕ) → i < length deaths → more ≡ gathered ++ written_in f (line_at (get_or deaths i d)) → TakesUpTo mid new more left → TakesUpTo old new (front ++ lines_up_to (i + 1)) left
+    pub death_put : (d : graph.Death) (new : Log) (more left : List ℕ) → i < length deaths → more ≡ gathered ++ written_in f (line_at (get_or deaths i d)) → TakesUpTo mid new more left → TakesUpTo old new (front ++ lines_up_to (i + 1)) left
     death_put d new more left lt e b =
         let line : List ℕ = written_in f (line_at (get_or deaths i d)) in
         subst (λ (t : List ℕ). TakesUpTo old new t left) (append_assoc front (lines_up_to i) line ∙ ap (λ (t : List ℕ). front ++ t) (sym (next_line i d lt)))
@@ -106,14 +77,21 @@ module _ (f : Format) (e : ℕ) (deaths : List graph.Death) where
     deaths_stop =
         let rest : List ℕ = lines_written_in f (map line_of (death_pairs (drop i deaths))) in
         subst (λ (t : List ℕ). TakesPrefix old mid t) (append_assoc front (lines_up_to i) rest ∙ ap (λ (t : List ℕ). front ++ t) (sym (lines_split i)))
-        (gathered ++ rest, gathers old mid (front ++ lines_up_to i) gathered rest up)
+        (longer old mid (front ++ lines_up_to i) rest (takes_no_more old mid (front ++ lines_up_to i) gathered up))
 
   -- .. which is not put
-  pub death_fails : (front : List ℕ) (old mid : Option (List ℕ)) (gathered : List ℕ) (i : ℕ) → TakesUpTo old mid (front ++ lines_up_to i) gathered
-      → (d : graph.Death) (new : Option (List ℕ)) (more : List ℕ) → i < length deaths → more ≡ gathered ++ written_in f (line_at (get_or deaths i d)) → TakesPrefix mid new more → TakesPrefix old new (front ++ lines_written_in f (flush_lines e (death_pairs deaths)))
-  death_fails front old mid gathered i up d new more lt e b = deaths_stop front old new b.0 (i + 1) (death_put front old mid gathered i up d new more b.0 lt e b.1)
+  pub death_fails : (front : List ℕ) (old mid : Log) (gathered : List ℕ) (i : ℕ) → TakesUpTo old mid (front ++ lines_up_to i) gathered
+      → (d : graph.Death) (new : Log) (more : List ℕ) → i < length deaths → more ≡ gathered ++ written_in f (line_at (get_or deaths i d)) → TakesPrefix mid new more → TakesPrefix old new (front ++ lines_written_in f (flush_lines e (death_pairs deaths)))
+  death_fails front old mid gathered i up d new more lt e b =
+      let line : List ℕ = written_in f (line_at (get_or deaths i d)) in
+      let rest : List ℕ = lines_written_in f (map line_of (death_pairs (drop (i + 1) deaths))) in
+      let next : TakesPrefix old new (front ++ lines_up_to (i + 1)) =
+      subst (λ (t : List ℕ). TakesPrefix old new t) (append_assoc front (lines_up_to i) line ∙ ap (λ (t : List ℕ). front ++ t) (sym (next_line i d lt)))
+      (prefix_after old mid new (front ++ lines_up_to i) gathered line up (subst (λ (t : List ℕ). TakesPrefix mid new t) e b)) in
+      subst (λ (t : List ℕ). TakesPrefix old new t) (append_assoc front (lines_up_to (i + 1)) rest ∙ ap (λ (t : List ℕ). front ++ t) (sym (lines_split (i + 1))))
+      (longer old new (front ++ lines_up_to (i + 1)) rest next)
 
-  pub deaths_put : (front : List ℕ) (old mid : Option (List ℕ)) (gathered : List ℕ) (i : ℕ) → length deaths ≤ i → TakesUpTo old mid (front ++ lines_up_to i) gathered → TakesUpTo old mid (front ++ lines_written_in f (flush_lines e (death_pairs deaths))) gathered
+  pub deaths_put : (front : List ℕ) (old mid : Log) (gathered : List ℕ) (i : ℕ) → length deaths ≤ i → TakesUpTo old mid (front ++ lines_up_to i) gathered → TakesUpTo old mid (front ++ lines_written_in f (flush_lines e (death_pairs deaths))) gathered
   deaths_put front old mid gathered i le up = subst (λ (t : List ℕ). TakesUpTo old mid (front ++ t) gathered) (no_line_more i le) up
 
 -- THE LAST LINES
@@ -123,7 +101,7 @@ pub last_written : (f : Format) (due : Bool) (end : End) (e : ℕ) (lines : List
 last_written f true end e lines = append-nil (written_in f (Finish e (how_of end)))
 last_written f false end e lines = flat_map-append (written_in f) lines (Finish e (how_of end) ∷ []) ∙ ap (λ (t : List ℕ). lines_written_in f lines ++ t) (append-nil (written_in f (Finish e (how_of end))))
 
-module _ (f : Format) (due : Bool) (end : End) (e : ℕ) (front : List ℕ) (old new : Option (List ℕ)) (lines : List TraceLine) where
+module _ (f : Format) (due : Bool) (end : End) (e : ℕ) (front : List ℕ) (old new : Log) (lines : List TraceLine) where
   abbrev z_line : List ℕ
   z_line = written_in f (Finish e (how_of end))
 

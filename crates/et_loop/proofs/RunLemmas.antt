@@ -14,35 +14,29 @@ use Rattle.et_state.specs.Naming.{Mentions, nothing_mentioned, mentions_after, l
 use Rattle.et_state.specs.History.{Setting, is_flush_point, flush_lines, how_of, ending, outcome_step, settled, left_by, records_at, last_reached, deaths, mentions_to, lines_to, trace_of, IsLastEvent}
 use Rattle.et_text.specs.Ranges.{header_version}
 use Rattle.et_binary.specs.Formats.{written_in, lines_written_in, trace_bytes}
-use Rattle.et_io.specs.Sink.{with_more, TakesPrefix}
+use Rattle.et_io.specs.Sink.{Log, with_more, TakesPrefix}
+use Rattle.et_io.proofs.Taking.{longer, part_put, takes_no_more, with_more-nil, with_more-with_more}
 use Rattle.et_loop.specs.Run.{time_noted, flush_of, due_lines, flush_now, Turns, Advances, Concludes, BreaksFlush, Breaks}
 use Rattle.et_loop.specs.Traced.{WritesTrace, WritesPrefix}
 use Rattle.et_loop.proofs.Headers.{trace_whole}
 
 -- WHAT IS TAKEN
 
-pub more_nothing : (taken : Option (List ℕ)) → taken ≡ with_more taken []
-more_nothing None = refl
-more_nothing (Some xs) = ap (λ ys. Some ys) (sym (append-nil xs))
+pub more_nothing : (taken : Log) → taken ≡ with_more taken []
+more_nothing taken = sym (with_more-nil taken)
 
-pub more_twice : (taken : Option (List ℕ)) (a b : List ℕ) → with_more (with_more taken a) b ≡ with_more taken (a ++ b)
-more_twice None a b = refl
-more_twice (Some xs) a b = ap (λ ys. Some ys) (append_assoc xs a b)
+pub more_twice : (taken : Log) (a b : List ℕ) → with_more (with_more taken a) b ≡ with_more taken (a ++ b)
+more_twice taken a b = with_more-with_more taken a b
 
 -- a prefix of what comes next, behind what was taken, is a prefix of the whole
-pub front_on : (taken mid new : Option (List ℕ)) (a p w r : List ℕ) → mid ≡ with_more taken a → w ≡ (a ++ p) ++ r → TakesPrefix mid new p → TakesPrefix taken new w
-front_on taken mid new a p w r em ew (rest, h) = (
-  rest ++ r,
-  record {
-    prefix = a ++ h.prefix;
-    parts = ew ∙ (ap (λ q. (a ++ q) ++ r) h.parts ∙ (ap (λ q. q ++ r) (sym (append_assoc a h.prefix rest)) ∙ append_assoc (a ++ h.prefix) rest r));
-    taken = h.taken ∙ (ap (λ t. with_more t h.prefix) em ∙ more_twice taken a h.prefix);
-  },
-)
+pub front_on : (taken mid new : Log) (a p w r : List ℕ) → mid ≡ with_more taken a → w ≡ (a ++ p) ++ r → TakesPrefix mid new p → TakesPrefix taken new w
+front_on taken mid new a p w r em ew h =
+    subst (λ (t : List ℕ). TakesPrefix taken new t) (sym ew)
+    (longer taken new (a ++ p) r (part_put taken mid new (a ++ p) p (record { prefix = a; parts = refl; taken = em }) h))
 
 -- what was taken so far is a prefix of the whole
-pub front_so_far : (taken new : Option (List ℕ)) (a w r : List ℕ) → new ≡ with_more taken a → w ≡ a ++ r → TakesPrefix taken new w
-front_so_far taken new a w r en ew = (r, record { prefix = a; parts = ew; taken = en })
+pub front_so_far : (taken new : Log) (a w r : List ℕ) → new ≡ with_more taken a → w ≡ a ++ r → TakesPrefix taken new w
+front_so_far taken new a w r en ew = takes_no_more taken new w r (record { prefix = a; parts = ew; taken = en })
 
 -- HOW THE LINES GROW
 
@@ -135,14 +129,14 @@ module _ {S : Type 0} (reached : Graph → ℕ → Bool) (given : Setting S) (st
   noted_is o (suc e) = refl
 
   -- what holds between two turns of the loop
-  pub record Running (e : ℕ) (s : S) (last : ℕ → ℕ) (m : Mentions) (before now : Option (List ℕ)) : Type 0 where
+  pub record Running (e : ℕ) (s : S) (last : ℕ → ℕ) (m : Mentions) (before now : Log) : Type 0 where
     pub state : s ≡ left_by reached given start made e
     pub first : (k : ℕ) → k < e → ending given k (settled reached given k (left_by reached given start made k)) ≡ None
     pub noted : (o : ℕ) → last o ≡ noted_before o e
     pub mentions : m ≡ mentions_to reached given start made e
     pub lines : now ≡ with_more before (lines_written_in given.format (lines_to reached given start made e))
 
-  pub running_start : (last : ℕ → ℕ) (m : Mentions) (before now : Option (List ℕ)) (bytes : List ℕ) → ((o : ℕ) → last o ≡ 0) → m ≡ mentions_after given.names nothing_mentioned made → bytes ≡ lines_written_in given.format (Header (header_version given.format) given.interval ∷ lines_of given.names nothing_mentioned made) → now ≡ with_more before bytes → Running 0 start last m before now
+  pub running_start : (last : ℕ → ℕ) (m : Mentions) (before now : Log) (bytes : List ℕ) → ((o : ℕ) → last o ≡ 0) → m ≡ mentions_after given.names nothing_mentioned made → bytes ≡ lines_written_in given.format (Header (header_version given.format) given.interval ∷ lines_of given.names nothing_mentioned made) → now ≡ with_more before bytes → Running 0 start last m before now
   unfolding left_by noted_before mentions_to lines_to
   running_start last m before now bytes h em eb en = record {
     state = refl;
@@ -153,16 +147,16 @@ module _ {S : Type 0} (reached : Graph → ℕ → Bool) (given : Setting S) (st
   }
 
   -- nothing but a prefix of the first lines was put
-  pub front_start : (before now : Option (List ℕ)) (bytes : List ℕ) → bytes ≡ lines_written_in given.format (Header (header_version given.format) given.interval ∷ lines_of given.names nothing_mentioned made) → TakesPrefix before now bytes → WritesPrefix reached given start made before now
+  pub front_start : (before now : Log) (bytes : List ℕ) → bytes ≡ lines_written_in given.format (Header (header_version given.format) given.interval ∷ lines_of given.names nothing_mentioned made) → TakesPrefix before now bytes → WritesPrefix reached given start made before now
   unfolding lines_to
   front_start before now bytes eb h n end last =
       let ext = trace_front 0 n end (search rules) in
       front_on before before now [] bytes (trace_bytes given.format (trace_of reached given start made n end)) ext.0 (more_nothing before) (ext.1 ∙ ap (λ b. b ++ ext.0) (sym eb)) h
 
-  pub front_nothing : (before : Option (List ℕ)) → WritesPrefix reached given start made before before
+  pub front_nothing : (before : Log) → WritesPrefix reached given start made before before
   front_nothing before n end last = front_so_far before before [] (trace_bytes given.format (trace_of reached given start made n end)) (trace_bytes given.format (trace_of reached given start made n end)) (more_nothing before) refl
 
-  module _ (e : ℕ) (s : S) (last : ℕ → ℕ) (m : Mentions) (before now : Option (List ℕ)) (r : Running e s last m before now) where
+  module _ (e : ℕ) (s : S) (last : ℕ → ℕ) (m : Mentions) (before now : Log) (r : Running e s last m before now) where
     -- the lines of a flush that is due are those of the history
     flush_is : flush_now reached given e s last ≡ flush_lines e (deaths reached given start made e)
     flush_is =
@@ -195,7 +189,7 @@ module _ {S : Type 0} (reached : Graph → ℕ → Bool) (given : Setting S) (st
       first_next : (k : ℕ) → k < suc e → ending given k (settled reached given k (left_by reached given start made k)) ≡ None
       first_next k lt = ⊎_elim (λ b. r.first k b) (λ q. subst (λ j. ending given j (settled reached given j (left_by reached given start made j)) ≡ None) (sym q) (subst (λ x. ending given e (settled reached given e x) ≡ None) r.state a.goes)) (below_or_at k e lt)
 
-      running_next : (now' : Option (List ℕ)) → now' ≡ with_more now out' → Running (suc e) s' last' m' before now'
+      running_next : (now' : Log) → now' ≡ with_more now out' → Running (suc e) s' last' m' before now'
       unfolding left_by noted_before last_reached mentions_to
       running_next now' en = record {
         state = a.state ∙ ap (λ x. state_after (settled reached given e x) (outcome_step given (suc e) (settled reached given e x))) r.state;
@@ -205,11 +199,11 @@ module _ {S : Type 0} (reached : Graph → ℕ → Bool) (given : Setting S) (st
         lines = en ∙ (ap (λ t. with_more t out') r.lines ∙ (more_twice before (lines_written_in given.format (lines_to reached given start made e)) out' ∙ (ap (λ o. with_more before (lines_written_in given.format (lines_to reached given start made e) ++ o)) put_is ∙ ap (λ o. with_more before o) (sym lines_are))));
       }
 
-      pub running_on : (n : ℕ) (now' : Option (List ℕ)) → n ≡ suc e → now' ≡ with_more now out' → Running n s' last' m' before now'
+      pub running_on : (n : ℕ) (now' : Log) → n ≡ suc e → now' ≡ with_more now out' → Running n s' last' m' before now'
       running_on n now' h en = subst (λ j. Running j s' last' m' before now') (sym h) (running_next now' en)
 
       -- only a prefix of its lines was put
-      pub front_next : (now' : Option (List ℕ)) → TakesPrefix now now' out' → WritesPrefix reached given start made before now'
+      pub front_next : (now' : Log) → TakesPrefix now now' out' → WritesPrefix reached given start made before now'
       front_next now' h n end last'' =
           let ext = trace_front (suc e) n end (up_to_last (suc e) n end last'' first_next) in
           front_on before now now' (lines_written_in given.format (lines_to reached given start made e)) out' (trace_bytes given.format (trace_of reached given start made n end)) ext.0 r.lines
@@ -233,14 +227,14 @@ module _ {S : Type 0} (reached : Graph → ℕ → Bool) (given : Setting S) (st
       is_last : IsLastEvent reached given start made e end
       is_last = record { ends = subst (λ x. ending given e (settled reached given e x) ≡ Some end) r.state a.ends; first = r.first }
 
-      pub running_end : (now' : Option (List ℕ)) → now' ≡ with_more now out' → WritesTrace reached given start made (record { end = end; event = e }) before now'
+      pub running_end : (now' : Log) → now' ≡ with_more now out' → WritesTrace reached given start made (record { end = end; event = e }) before now'
       running_end now' en = record {
         ends = is_last;
         taken = en ∙ (ap (λ t. with_more t out') r.lines ∙ (more_twice before (lines_written_in given.format (lines_to reached given start made e)) out' ∙ ap (λ o. with_more before o) (sym trace_is)));
       }
 
       -- only a prefix of its lines was put
-      pub front_end : (now' : Option (List ℕ)) → TakesPrefix now now' out' → WritesPrefix reached given start made before now'
+      pub front_end : (now' : Log) → TakesPrefix now now' out' → WritesPrefix reached given start made before now'
       front_end now' h n other last'' =
           let up = up_to_last e n other last'' r.first in
           let down = up_to_last n e end is_last last''.first in
@@ -252,12 +246,12 @@ module _ {S : Type 0} (reached : Graph → ℕ → Bool) (given : Setting S) (st
           front_on before now now' (lines_written_in given.format (lines_to reached given start made e)) out' (trace_bytes given.format (trace_of reached given start made n other)) [] r.lines whole h
 
     -- .. whichever of the two it was
-    pub front_turn : (next : Option End) (s' : S) (last' : ℕ → ℕ) (m' : Mentions) (out out' : List ℕ) → out ≡ [] → Turns reached given e s last m s' last' m' out out' next → (now' : Option (List ℕ)) → TakesPrefix now now' out' → WritesPrefix reached given start made before now'
+    pub front_turn : (next : Option End) (s' : S) (last' : ℕ → ℕ) (m' : Mentions) (out out' : List ℕ) → out ≡ [] → Turns reached given e s last m s' last' m' out out' next → (now' : Log) → TakesPrefix now now' out' → WritesPrefix reached given start made before now'
     front_turn None s' last' m' out out' empty a now' h = front_next s' last' m' out out' empty a now' h
     front_turn (Some end) s' last' m' out out' empty a now' h = front_end s' last' m' end out out' empty a now' h
 
     -- a turn that was broken off: only a prefix of the lines of its flush was put, or of the last lines
-    front_flush : (now' : Option (List ℕ)) (out : List ℕ) → out ≡ [] → BreaksFlush reached given e s last now now' out → WritesPrefix reached given start made before now'
+    front_flush : (now' : Log) (out : List ℕ) → out ≡ [] → BreaksFlush reached given e s last now now' out → WritesPrefix reached given start made before now'
     front_flush now' out empty h n end last'' =
         let due = is_flush_point given.interval e in
         let flush : List TraceLine = flush_lines e (deaths reached given start made e) in
@@ -268,14 +262,14 @@ module _ {S : Type 0} (reached : Graph → ℕ → Bool) (given : Setting S) (st
         (sym (trace_whole reached given start made given.format n end) ∙ (ext.1 ∙ ap (λ b. b ++ ext.0) (flat_map-append (written_in given.format) (lines_to reached given start made e) (due_lines due flush))))
         (subst (λ b. TakesPrefix now now' b) piece h)
 
-    pub front_broken : (now' : Option (List ℕ)) (out : List ℕ) → out ≡ [] → Breaks reached given e s last now now' out → WritesPrefix reached given start made before now'
+    pub front_broken : (now' : Log) (out : List ℕ) → out ≡ [] → Breaks reached given e s last now now' out → WritesPrefix reached given start made before now'
     front_broken now' out empty (inl h) = front_flush now' out empty h
     front_broken now' out empty (inr h) = front_end s last m h.0 out _ empty (record { ends = h.1.ends; lines = refl }) now' h.1.takes
 
-    pub turn_on : (next : Option End) (s' : S) (last' : ℕ → ℕ) (m' : Mentions) (out out' : List ℕ) → out ≡ [] → next ≡ None → Turns reached given e s last m s' last' m' out out' next → (n : ℕ) (now' : Option (List ℕ)) → n ≡ suc e → now' ≡ with_more now out' → Running n s' last' m' before now'
+    pub turn_on : (next : Option End) (s' : S) (last' : ℕ → ℕ) (m' : Mentions) (out out' : List ℕ) → out ≡ [] → next ≡ None → Turns reached given e s last m s' last' m' out out' next → (n : ℕ) (now' : Log) → n ≡ suc e → now' ≡ with_more now out' → Running n s' last' m' before now'
     turn_on next s' last' m' out out' empty is a n now' h en = running_on s' last' m' out out' empty (subst (λ o. Turns reached given e s last m s' last' m' out out' o) is a) n now' h en
 
-    pub turn_end : (next : Option End) (end : End) (s' : S) (last' : ℕ → ℕ) (m' : Mentions) (out out' : List ℕ) → out ≡ [] → next ≡ Some end → Turns reached given e s last m s' last' m' out out' next → (now' : Option (List ℕ)) → now' ≡ with_more now out' → WritesTrace reached given start made (record { end = end; event = e }) before now'
+    pub turn_end : (next : Option End) (end : End) (s' : S) (last' : ℕ → ℕ) (m' : Mentions) (out out' : List ℕ) → out ≡ [] → next ≡ Some end → Turns reached given e s last m s' last' m' out out' next → (now' : Log) → now' ≡ with_more now out' → WritesTrace reached given start made (record { end = end; event = e }) before now'
     turn_end next end s' last' m' out out' empty is a now' en = running_end s' last' m' end out out' empty (subst (λ o. Turns reached given e s last m s' last' m' out out' o) is a) now' en
 
 -- what holds in any case holds where there is an error

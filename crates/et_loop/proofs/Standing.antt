@@ -1,8 +1,9 @@
 -- What holds of a run after an event: how far it came, for what its stamps stand, how many visits it made, and what
 -- was printed. Quiet events keep it.
-use Rattle.std.proofs.Common.{◌≡◌, ℕ, zero, suc, ◌+◌, ◌*◌, ◌++◌, Bool, false, if◌then◌else◌, List, [], Option, None, refl, sym, ◌∙◌, ap, subst, arith}
+use Rattle.std.proofs.Common.{◌≡◌, ℕ, zero, suc, ◌+◌, ◌*◌, ◌++◌, Bool, false, if◌then◌else◌, List, [], None, refl, sym, ◌∙◌, ap, subst, arith}
 use Rattle.std.specs.Prelude.{slice_index}
 use Rattle.et_graph.specs.Graph.{Graph, Decides}
+use Rattle.et_io.specs.Sink.{Log}
 use Rattle.et_state.specs.declared.records.Record.{Record}
 use Rattle.et_state.specs.Outcome.{state_after, records_of}
 use Rattle.et_state.specs.Naming.{Mentions, mentions_after, lines_of}
@@ -33,7 +34,7 @@ quiet_turn {S = S} reached given said e s s' last m old new q =
           ∙ ap (λ (rs : List Record). lines_written_in given.format (lines_of given.names m rs)) told);
     }
 
-module _ {S : Type 0} (reached : Graph → ℕ → Bool) (decides : Decides reached) (given : Setting S) (said : S → ℕ → List ℕ) (flush_visits : (ℕ → Bool) → S → ℕ) (start : S) (made : List Record) (m : Mentions) (before now heard hears : Option (List ℕ)) (first : ℕ) where
+module _ {S : Type 0} (reached : Graph → ℕ → Bool) (decides : Decides reached) (given : Setting S) (said : S → ℕ → List ℕ) (flush_visits : (ℕ → Bool) → S → ℕ) (start : S) (made : List Record) (m : Mentions) (before now heard hears : Log) (first : ℕ) where
   pub record Stands (e : ℕ) (s : S) (stamps : List ℕ) (visits : ℕ) : Type 0 where
     pub runs : Running reached given start made e s (λ o. noted_before reached given start made o e) m before now
     pub told : IsToldByStamps (graphs reached decides given start made) e (given.rule.graph s) (slice_index stamps)

@@ -1,27 +1,16 @@
 -- What the guest's sink took between two turns, and where a run is cut off.
-use Rattle.std.proofs.Common.{◌≡◌, ℕ, zero, suc, ◌+◌, ◌<◌, ◌≤◌, Bool, if◌then◌else◌, List, [], ◌∷◌, ◌++◌, Option, Some, None, refl, sym, ◌∙◌, ap, subst, arith, inr, ⊎_elim, append_assoc, append-nil}
+use Rattle.std.proofs.Common.{◌≡◌, ℕ, zero, suc, ◌+◌, ◌<◌, ◌≤◌, Bool, if◌then◌else◌, List, [], ◌∷◌, ◌++◌, Option, Some, None, refl, sym, ◌∙◌, ap, subst, arith, inl, inr, ⊎_elim, append_assoc, append-nil}
 use Rattle.std.proofs.lemmas.Bool.{cases_lt}
 use Rattle.et_base.specs.declared.value.End.{End}
 use Rattle.et_graph.specs.Graph.{Graph}
-use Rattle.et_io.specs.Sink.{with_more, TakesPrefix}
+use Rattle.et_io.specs.Sink.{Log, with_more, TakesPrefix}
+use Rattle.et_io.proofs.Taking.{nothing_taken}
 use Rattle.et_state.specs.declared.records.Record.{Record}
 use Rattle.et_state.specs.History.{Setting, IsLastEvent, ending, settled, left_by, picked_turn}
 use Rattle.et_loop.specs.Quiet.{GoesQuietly}
 use Rattle.et_loop.specs.Said.{said_at, said_to, SaysPrefix, SaysTurn, IsCutSaid}
 use Rattle.et_loop.specs.Visits.{visits_to}
 use Rattle.et_loop.proofs.RunLemmas.{more_nothing, more_twice, front_on, front_so_far}
-
--- a piece that was taken whole
-pub whole_prefix : (now after : Option (List ℕ)) (piece : List ℕ) → after ≡ with_more now piece → TakesPrefix now after piece
-whole_prefix now after piece is = ([], record { prefix = piece; parts = sym (append-nil piece); taken = is })
-
--- of an empty piece nothing is taken
-front_empty : (xs ys : List ℕ) → [] ≡ xs ++ ys → xs ≡ []
-front_empty [] ys is = refl
-front_empty (x ∷ xs) ys is = cc
-
-pub nothing_taken : (now after : Option (List ℕ)) → TakesPrefix now after [] → after ≡ now
-nothing_taken now after (rest, t) = t.taken ∙ (ap (λ p. with_more now p) (front_empty t.prefix rest t.parts) ∙ sym (more_nothing now))
 
 none_some : (o : Option End) (end : End) → o ≡ None → o ≡ Some end → ⊥
 none_some o end a b = cc
@@ -49,17 +38,17 @@ module _ {S : Type 0} (reached : Graph → ℕ → Bool) (given : Setting S) (sa
       (cases_lt n e)
 
   -- what holds between two turns: all that was printed was taken
-  pub record Talking (e : ℕ) (before now : Option (List ℕ)) : Type 0 where
+  pub record Talking (e : ℕ) (before now : Log) : Type 0 where
     pub taken : now ≡ with_more before (said_to reached given said start made e)
 
-  pub talking_start : (before : Option (List ℕ)) → Talking 0 before before
+  pub talking_start : (before : Log) → Talking 0 before before
   unfolding said_to
   talking_start before = record { taken = more_nothing before }
 
-  pub say_nothing : (before : Option (List ℕ)) → SaysPrefix reached given said start made before before
+  pub say_nothing : (before : Log) → SaysPrefix reached given said start made before before
   say_nothing before n end last = front_so_far before before [] _ (said_to reached given said start made n) (more_nothing before) refl
 
-  module _ (e : ℕ) (before now : Option (List ℕ)) (h : Talking e before now) (first : GoesTo e) where
+  module _ (e : ℕ) (before now : Log) (h : Talking e before now) (first : GoesTo e) where
     -- so far only a prefix of it was taken
     pub say_now : SaysPrefix reached given said start made before now
     say_now n end last =
@@ -73,19 +62,25 @@ module _ {S : Type 0} (reached : Graph → ℕ → Bool) (given : Setting S) (sa
         record {
           goes = first;
           rest = [];
+          mid = now;
           taken = h.taken ∙ ap (λ (bytes : List ℕ). with_more before bytes) (sym (append-nil (said_to reached given said start made e)));
+          left = [];
+          stops = inl refl;
           visits = few;
         },
       )
 
       -- in a put of what the turn prints
-      pub said_putting : (after : Option (List ℕ)) (piece : List ℕ) → TakesPrefix now after piece → IsCutSaid reached given said start made flush_visits before after old new
-      said_putting after piece (rest, t) = inr (
+      pub said_putting : (after : Log) (piece : List ℕ) → TakesPrefix now after piece → IsCutSaid reached given said start made flush_visits before after old new
+      said_putting after piece t = inr (
         e,
         record {
           goes = first;
-          rest = t.prefix;
-          taken = t.taken ∙ (ap (λ (x : Option (List ℕ)). with_more x t.prefix) h.taken ∙ more_twice before (said_to reached given said start made e) t.prefix);
+          rest = t.takes.prefix;
+          mid = t.mid;
+          taken = t.takes.taken ∙ (ap (λ (x : Log). with_more x t.takes.prefix) h.taken ∙ more_twice before (said_to reached given said start made e) t.takes.prefix);
+          left = t.rest;
+          stops = t.stops;
           visits = few;
         },
       )
@@ -104,28 +99,28 @@ module _ {S : Type 0} (reached : Graph → ℕ → Bool) (given : Setting S) (sa
       turn_says says = says ∙ ap (λ (x : S). said (settled reached given e x) (picked_turn given (suc e) (settled reached given e x))) state
 
       -- the next event was done, and all that it prints was put
-      pub talking_on : (next : Option End) → next ≡ None → SaysTurn reached given said e s bytes next → (n : ℕ) (now' : Option (List ℕ)) → n ≡ suc e → now' ≡ with_more now bytes → Talking n before now'
+      pub talking_on : (next : Option End) → next ≡ None → SaysTurn reached given said e s bytes next → (n : ℕ) (now' : Log) → n ≡ suc e → now' ≡ with_more now bytes → Talking n before now'
       unfolding said_to
       talking_on next is says n now' at en = subst (λ j. Talking j before now') (sym at) (record {
         taken = en ∙ (ap (λ t. with_more t bytes) h.taken ∙ (more_twice before (said_to reached given said start made e) bytes ∙ ap (λ o. with_more before (said_to reached given said start made e ++ o)) (turn_says (subst (λ x. SaysTurn reached given said e s bytes x) is says))));
       })
 
       -- the history ended: nothing is printed
-      pub talking_end : (next : Option End) (end : End) → next ≡ Some end → SaysTurn reached given said e s bytes next → (now' : Option (List ℕ)) → now' ≡ with_more now bytes → now' ≡ with_more before (said_to reached given said start made e)
+      pub talking_end : (next : Option End) (end : End) → next ≡ Some end → SaysTurn reached given said e s bytes next → (now' : Log) → now' ≡ with_more now bytes → now' ≡ with_more before (said_to reached given said start made e)
       talking_end next end is says now' en =
           en ∙ (ap (λ (o : List ℕ). with_more now o) (subst (λ x. SaysTurn reached given said e s bytes x) is says) ∙ (sym (more_nothing now) ∙ h.taken))
 
-      say_next : (now' : Option (List ℕ)) → GoesTo (suc e) → SaysTurn reached given said e s bytes None → TakesPrefix now now' bytes → SaysPrefix reached given said start made before now'
+      say_next : (now' : Log) → GoesTo (suc e) → SaysTurn reached given said e s bytes None → TakesPrefix now now' bytes → SaysPrefix reached given said start made before now'
       unfolding said_to
       say_next now' goes says t n end last =
           let ext = said_within n (suc e) (up_to_last (suc e) n end last goes) in
           front_on before now now' (said_to reached given said start made e) bytes _ ext.0 h.taken (ext.1 ∙ ap (λ o. (said_to reached given said start made e ++ o) ++ ext.0) (sym (turn_says says))) t
 
-      say_last : (end : End) (now' : Option (List ℕ)) → SaysTurn reached given said e s bytes (Some end) → TakesPrefix now now' bytes → SaysPrefix reached given said start made before now'
+      say_last : (end : End) (now' : Log) → SaysTurn reached given said e s bytes (Some end) → TakesPrefix now now' bytes → SaysPrefix reached given said start made before now'
       say_last end now' says t =
           subst (λ x. SaysPrefix reached given said start made before x) (sym (nothing_taken now now' (subst (λ o. TakesPrefix now now' o) says t))) say_now
 
       -- only a prefix of what the turn prints was put
-      pub say_turn : (next : Option End) (now' : Option (List ℕ)) → (next ≡ None → GoesTo (suc e)) → SaysTurn reached given said e s bytes next → TakesPrefix now now' bytes → SaysPrefix reached given said start made before now'
+      pub say_turn : (next : Option End) (now' : Log) → (next ≡ None → GoesTo (suc e)) → SaysTurn reached given said e s bytes next → TakesPrefix now now' bytes → SaysPrefix reached given said start made before now'
       say_turn None now' goes says t = say_next now' (goes refl) says t
       say_turn (Some end) now' goes says t = say_last end now' says t

@@ -1,7 +1,7 @@
 -- EVENTS THAT TELL NOTHING: they are done one after the other, with no line in between, and nothing printed. S is what a state
 -- is, and `said` what the event of a thread prints in a state, where it is done.
-use Rattle.std.specs.Prelude.{◌≡◌, ℕ, zero, suc, ◌+◌, ◌-◌, ◌*◌, ◌<◌, ◌≤◌, Bool, false, List, [], Option, None, IfNone, length, slice_index}
-use Rattle.et_io.specs.Sink.{TakesUpTo}
+use Rattle.std.specs.Prelude.{◌≡◌, ℕ, zero, suc, ◌+◌, ◌-◌, ◌*◌, ◌<◌, ◌≤◌, Bool, false, List, [], None, IfNone, length, slice_index}
+use Rattle.et_io.specs.Sink.{Log, TakesUpTo}
 use Rattle.et_graph.specs.Graph.{Graph, Decides}
 use Rattle.et_graph.specs.Listed.{AreListed}
 use Rattle.et_state.specs.declared.records.Record.{Record}
@@ -116,7 +116,7 @@ module _ {S : Type 0} (given : Setting S) (said : S → ℕ → List ℕ) where
       ShowsDeaths reached last quiet from between = AreListed (given.rule.graph from) (slice_index between) (let g = given.rule.graph from in deaths_to (reached g) (is_gone g) (time_noted (reached g) last (e + quiet)) g.made)
 
       -- The lines of the turn stand behind `out`, which was in the buffer before it. The sink took all of it but what is left there.
-      pub record IsTurn (m : Mentions) (s' : S) (m' : Mentions) (taken taken' : Option (List ℕ)) (out left bytes new : List ℕ) (progress : Progress) : Type 0 where
+      pub record IsTurn (m : Mentions) (s' : S) (m' : Mentions) (taken taken' : Log) (out left bytes new : List ℕ) (progress : Progress) : Type 0 where
         pub from : S
         pub between : List ℕ
         pub comes : ComesInTurn progress.quiet from between
@@ -127,7 +127,7 @@ module _ {S : Type 0} (given : Setting S) (said : S → ℕ → List ℕ) where
         pub says : (reached : Graph → ℕ → Bool) → Decides reached → SaysTurn reached given said (e + progress.quiet) from bytes progress.end
         pub passes : IfNone progress.end (Passes (is_flush_point given.interval (e + progress.quiet)) (e + progress.quiet) (given.rule.graph from) (given.rule.graph s') (slice_index between) (slice_index new))
 
-      pub record IsBrokenTurn (taken taken' : Option (List ℕ)) (out : List ℕ) : Type 0 where
+      pub record IsBrokenTurn (taken taken' : Log) (out : List ℕ) : Type 0 where
         pub quiet : ℕ
         pub from : S
         pub between : List ℕ

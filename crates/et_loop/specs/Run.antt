@@ -5,7 +5,7 @@ use Rattle.et_base.specs.declared.line.TraceLine.{TraceLine}
 use Rattle.et_base.specs.declared.line.TraceLine.TheVariants.{Finish}
 use Rattle.et_base.specs.declared.value.End.{End}
 use Rattle.et_base.specs.declared.value.End.TheVariants.{IllTyped, ObjectLimit}
-use Rattle.et_io.specs.Sink.{TakesUpTo, TakesPrefix}
+use Rattle.et_io.specs.Sink.{Log, TakesUpTo, TakesPrefix}
 use Rattle.et_graph.specs.Graph.{Graph}
 use Rattle.et_graph.specs.Listed.{AreListed}
 use Rattle.et_state.specs.declared.records.Record.{Record}
@@ -42,13 +42,13 @@ last_lines false end e lines = lines ++ Finish e (how_of end) ∷ []
 
 -- A flush after event e, where one is due, of a graph g with these stamps: its lines stand behind those that were in the buffer.
 -- The sink took all of these but what is in the buffer now.
-pub record PutsFlush (g : Graph) (stamps : List ℕ) (format : Format) (due : Bool) (e : ℕ) (taken taken' : Option (List ℕ)) (old new : List ℕ) : Type 0 where
+pub record PutsFlush (g : Graph) (stamps : List ℕ) (format : Format) (due : Bool) (e : ℕ) (taken taken' : Log) (old new : List ℕ) : Type 0 where
   pub bytes : List ℕ
   pub lines : (deaths : List (ℕ × ℕ)) → (due ≡ true → AreListed g (slice_index stamps) deaths) → bytes ≡ lines_written_in format (due_lines due (flush_lines e deaths))
   pub put : TakesUpTo taken taken' (old ++ bytes) new
 
 -- .. and what is written at the end, where a flush was due before or not
-pub record PutsLast (g : Graph) (stamps : List ℕ) (format : Format) (due : Bool) (ran : Ran) (taken taken' : Option (List ℕ)) (old new : List ℕ) : Type 0 where
+pub record PutsLast (g : Graph) (stamps : List ℕ) (format : Format) (due : Bool) (ran : Ran) (taken taken' : Log) (old new : List ℕ) : Type 0 where
   pub bytes : List ℕ
   pub lines : (deaths : List (ℕ × ℕ)) → (due ≡ false → AreListed g (slice_index stamps) deaths) → bytes ≡ lines_written_in format (last_lines due ran.end ran.event (flush_lines ran.event deaths))
   pub put : TakesUpTo taken taken' (old ++ bytes) new
@@ -107,7 +107,7 @@ module _ {S : Type 0} (reached : Graph → ℕ → Bool) (given : Setting S) (e 
     Turns None = Advances
     Turns (Some end) = Concludes end
 
-  module _ (taken taken' : Option (List ℕ)) (out : List ℕ) where
+  module _ (taken taken' : Log) (out : List ℕ) where
     -- The turn was broken off, with `out` in the buffer before it: of that and of the lines of the flush, if one is due, the sink
     -- took the first ones.
     abbrev pub BreaksFlush : Type 0

@@ -4,7 +4,7 @@ use Rattle.std.specs.Prelude.{◌≡◌, ℕ, zero, suc, ◌+◌, ◌<◌, ◌�
 use Rattle.et_base.specs.declared.value.End.{End}
 use Rattle.et_graph.specs.Graph.{Graph}
 use Rattle.et_io.specs.Faults.{count_after}
-use Rattle.et_io.specs.Sink.{with_more, TakesPrefix}
+use Rattle.et_io.specs.Sink.{Log, with_more, Stops, TakesPrefix}
 use Rattle.et_state.specs.declared.records.Record.{Record}
 use Rattle.et_state.specs.History.{Setting, IsLastEvent, ending, left_by, picked_turn, settled}
 use Rattle.et_loop.specs.declared.options.Ran.{Ran}
@@ -35,21 +35,25 @@ module _ {S : Type 0} (reached : Graph → ℕ → Bool) (given : Setting S) (sa
     said_to (suc e) = said_to e ++ said_at (suc e)
 
     -- the run ended as the history does, and the guest's sink took what its events print, no more and no less
-    pub record Says (ran : Ran) (before after : Option (List ℕ)) : Type 0 where
+    pub record Says (ran : Ran) (before after : Log) : Type 0 where
       pub ends : IsLastEvent reached given start made ran.event ran.end
       pub taken : after ≡ with_more before (said_to ran.event)
 
     -- it took a prefix of that, and nothing else
-    abbrev pub SaysPrefix : Option (List ℕ) → Option (List ℕ) → Type 0
+    abbrev pub SaysPrefix : Log → Log → Type 0
     SaysPrefix before after = (e : ℕ) (end : End) → IsLastEvent reached given start made e end → TakesPrefix before after (said_to e)
 
-    module _ (flush_visits : (ℕ → Bool) → S → ℕ) (before after : Option (List ℕ)) (old new : ℕ) where
+    module _ (flush_visits : (ℕ → Bool) → S → ℕ) (before after : Log) (old new : ℕ) where
       -- The run was cut off in the turn after event e: the sink took what the events up to that one print, and maybe a part
-      -- of what the event of the turn prints. The counter of visits, which was old, allows for the turns so far and this one.
+      -- of what the event of the turn prints; a put that failed is the last one. The counter of visits, which was old, allows for
+      -- the turns so far and this one.
       pub record IsCutSaidAfter (e : ℕ) : Type 0 where
         pub goes : (k : ℕ) → k < e → ending given k (settled reached given k (left_by reached given start made k)) ≡ None
         pub rest : List ℕ
-        pub taken : after ≡ with_more before (said_to e ++ rest)
+        pub mid : Log
+        pub taken : mid ≡ with_more before (said_to e ++ rest)
+        pub left : List ℕ
+        pub stops : Stops mid after left
         pub visits : new ≤ old + visits_to reached given flush_visits start made e
 
       -- .. or before the first turn, and then nothing was visited

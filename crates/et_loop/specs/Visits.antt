@@ -7,7 +7,7 @@ use Rattle.et_state.specs.declared.records.Record.{Record}
 use Rattle.et_state.specs.Outcome.{state_after}
 use Rattle.et_state.specs.History.{Setting, is_flush_point, ending, outcome_step, settled, left_by, lines_to}
 use Rattle.et_binary.specs.Formats.{trace_bytes}
-use Rattle.et_io.specs.Sink.{with_more}
+use Rattle.et_io.specs.Sink.{Log, with_more, Stops}
 
 -- a flush that comes only where it is due
 abbrev pub due_visits : Bool → ℕ → ℕ
@@ -64,13 +64,17 @@ module _ {S : Type 0} (reached : Graph → ℕ → Bool) (given : Setting S) (fl
       visits_below e + 8 * e + ((given.rule.graph (left_by reached given start made e)).made - (given.rule.graph start).made)
       + visits_of_turn reached given flush_visits e (left_by reached given start made e)
 
-  module _ (before after : Option (List ℕ)) (old new : ℕ) where
+  module _ (before after : Log) (old new : ℕ) where
     -- The run was cut off in the turn after event e: the history goes on before that event, and the sink took all lines up to
-    -- its records. The counter of visits, which was old, allows for the turns so far and this one.
+    -- its records, and maybe more; a put that failed is the last one. The counter of visits, which was old, allows for the turns so
+    -- far and this one.
     pub record IsCutAfter (e : ℕ) : Type 0 where
       pub goes : (k : ℕ) → k < e → ending given k (settled reached given k (left_by reached given start made k)) ≡ None
       pub rest : List ℕ
-      pub taken : after ≡ with_more before (trace_bytes given.format (lines_to reached given start made e) ++ rest)
+      pub mid : Log
+      pub taken : mid ≡ with_more before (trace_bytes given.format (lines_to reached given start made e) ++ rest)
+      pub left : List ℕ
+      pub stops : Stops mid after left
       pub visits : new ≤ old + visits_to e
 
     -- .. or before the first turn, and then nothing was visited

@@ -18,7 +18,6 @@ mod tracer;
 
 pub use et_state::{Options, Output, Schedule};
 pub use guest::{Guest, Stretch, TimeSlice};
-pub use marks::stamp_each;
 pub use options::Ran;
 pub use program::Program;
 pub use run::run_guest;

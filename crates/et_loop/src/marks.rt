@@ -4,21 +4,7 @@ ghost use Rattle.et_loop.specs.Stamping.{Restamps, HasStamps};
 
 use crate::guest::Guest;
 use et_base::{NoMemory, ObjectId};
-use et_graph::Stamps;
-
-/// Writes this stamp for each of the objects.
-pub fn stamp_each(stamps: &mut Stamps, objects: &[ObjectId], event: u64)
-    requires places { (o : ℕ) → Contains objects.now o → o < length stamps.old }
-    requires event { event ≤ 2 ^ 40 }
-    ensures long { length stamps.new ≡ length stamps.old }
-    ensures each { (o : ℕ) → Contains objects.now o → slice_index stamps.new o ≡ event }
-    ensures others { (o : ℕ) →
-        ¬ Contains objects.now o → slice_index stamps.new o ≡ slice_index stamps.old o }
-{
-    'each: for object in objects {
-        stamps.set(*object, event);
-    }
-}
+use et_graph::{Stamps, stamp_each};
 
 /// Writes this stamp for each object that was made since there were so many.
 fn stamp_new(stamps: &mut Stamps, before: u32, made: u32, event: u64)

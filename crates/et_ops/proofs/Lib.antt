@@ -1,5 +1,9 @@
+mod InFrame
+mod Groups
 mod Storing
 mod Switching
 mod Dividing
 mod Texts
 mod Loading
+mod Stepping
+mod Lifting

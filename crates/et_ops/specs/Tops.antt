@@ -1,9 +1,10 @@
--- What a branch and a store leave of the topmost frame.
-use Rattle.std.specs.Prelude.{ℕ, ◌+◌, ◌-◌, slice_index_or, slice_set, ℤ, Bool, if◌then◌else◌, List, [], Option, Some, None}
+-- What a branch and a store leave of the topmost frame, and what a rearrangement asks of it.
+use Rattle.std.specs.Prelude.{ℕ, ◌+◌, ◌-◌, slice_index_or, slice_set, ℤ, Bool, true, ◌&&◌, if◌then◌else◌, List, [], Option, Some, None}
 use Rattle.et_base.specs.declared.value.Value.{Value}
 use Rattle.et_base.specs.declared.value.Value.TheVariants.{Unset, Long, LongHigh}
 use Rattle.et_heap.specs.Refs.{refs_of_value}
 use Rattle.et_state.specs.Threads.{FrameState}
+use Rattle.et_event.specs.Plain.{is_single}
 use Rattle.et_event.specs.Sites.{target}
 
 -- the frame after a branch: the pc goes so far from where it is, where the test holds, and else on
@@ -27,3 +28,8 @@ refs_at (Some j) locals = refs_of_value (slice_index_or locals j Unset)
 
 abbrev pub half_of : ℕ → List Value → Option ℕ
 half_of i locals = half_beside i (slice_index_or locals i Unset)
+
+-- two entries are a long, or two values
+abbrev pub are_pair : Value → Value → Bool
+are_pair LongHigh (Long n) = true
+are_pair v w = is_single v && is_single w

@@ -1,6 +1,6 @@
-//! Constants.
+//! Constants of the pool.
 ghost use Rattle.std.specs.Prelude.{◌≡◌, ℕ, ◌+◌, ◌<◌, ◌^◌, ◌++◌, ◌∷◌, [], true, List, Option, IfOk, OnErr};
-ghost use Rattle.et_base.specs.declared.value.Value.TheVariants.{Int, Long, LongHigh, Null};
+ghost use Rattle.et_base.specs.declared.value.Value.TheVariants.{Int, Long, LongHigh};
 ghost use Rattle.et_pool.specs.Entries.{Item};
 ghost use Rattle.et_code.specs.declared.instr.Instr.{Instr as Decoded};
 ghost use Rattle.et_program.specs.Entries.{Linked};
@@ -8,7 +8,7 @@ ghost use Rattle.et_state.specs.declared.records.Record.{Record};
 ghost use Rattle.et_state.specs.State.{kept_of};
 ghost use Rattle.et_state.specs.Words.{HasFrame, top};
 ghost use Rattle.et_state.specs.Sound.{IsSound};
-ghost use Rattle.et_event.specs.Answered.{StepsFrame, EventAnswers};
+ghost use Rattle.et_event.specs.Answered.{EventAnswers};
 ghost use Rattle.et_event.specs.Moments.{fits_heap, moment};
 ghost use Rattle.et_event.specs.Plain.{put, on_frame, constant};
 ghost use Rattle.et_event.specs.Sites.{constant_at};
@@ -20,39 +20,6 @@ use et_pool::Pool;
 use et_program::Program;
 use et_state::{EventEnd, Lines, Machine};
 
-/// `aconst_null`.
-pub(crate) fn push_null(machine: &mut Machine, thread: ThreadId, next: u32) -> bool
-    requires frame { HasFrame machine.old.guest thread }
-    requires sound { IsSound (kept_of machine.old) }
-    requires clock { machine.old.guest.clock < 2 ^ 40 }
-    ensures { StepsFrame (put next (Null ∷ (top machine.old.guest thread).operands)
-        (top machine.old.guest thread)) result thread machine.old machine.new }
-{
-    replace(machine, thread, 0, &[Value::Null], next)
-}
-
-/// An int is pushed.
-pub(crate) fn push_int(machine: &mut Machine, thread: ThreadId, n: i32, next: u32) -> bool
-    requires frame { HasFrame machine.old.guest thread }
-    requires sound { IsSound (kept_of machine.old) }
-    requires clock { machine.old.guest.clock < 2 ^ 40 }
-    ensures { StepsFrame (put next (Int n ∷ (top machine.old.guest thread).operands)
-        (top machine.old.guest thread)) result thread machine.old machine.new }
-{
-    replace(machine, thread, 0, &[Value::Int(n)], next)
-}
-
-/// A long is pushed.
-pub(crate) fn push_long(machine: &mut Machine, thread: ThreadId, n: i64, next: u32) -> bool
-    requires frame { HasFrame machine.old.guest thread }
-    requires sound { IsSound (kept_of machine.old) }
-    requires clock { machine.old.guest.clock < 2 ^ 40 }
-    ensures { StepsFrame (put next (LongHigh ∷ Long n ∷ (top machine.old.guest thread).operands)
-        (top machine.old.guest thread)) result thread machine.old machine.new }
-{
-    replace(machine, thread, 0, &[Value::LongHigh, Value::Long(n)], next)
-}
-
 /// The event of an int of the pool.
 #[tactic(auto, using(et_parts::proofs::Answering::steps_done, et_parts::proofs::Answering::steps_refused, et_parts::proofs::Answering::steps_same))]
 fn int_event(machine: &mut Machine, thread: ThreadId, n: i32, next: u32) -> EventEnd
@@ -63,7 +30,7 @@ fn int_event(machine: &mut Machine, thread: ThreadId, n: i32, next: u32) -> Even
         (moment p machine.old thread) (put next (Int n ∷ (top machine.old.guest thread).operands)
         (top machine.old.guest thread))) result machine.old machine.new out out }
 {
-    if push_int(machine, thread, n, next) {
+    if replace(machine, thread, 0, &[Value::Int(n)], next) {
         EventEnd::Done
     } else {
         ill_typed(machine, thread)
@@ -81,7 +48,7 @@ fn long_event(machine: &mut Machine, thread: ThreadId, n: i64, next: u32) -> Eve
         (put next (LongHigh ∷ Long n ∷ (top machine.old.guest thread).operands)
         (top machine.old.guest thread))) result machine.old machine.new out out }
 {
-    if push_long(machine, thread, n, next) {
+    if replace(machine, thread, 0, &[Value::LongHigh, Value::Long(n)], next) {
         EventEnd::Done
     } else {
         ill_typed(machine, thread)

@@ -7,13 +7,17 @@ mod constants;
 mod divisions;
 mod event;
 mod frames;
+mod lifted;
+mod literals;
 mod locals;
 mod numbers;
+mod operands;
 mod plain;
 mod stack;
+mod step;
 mod stores;
 mod strings;
 mod switches;
 
 pub use event::ops_event;
-pub use plain::plain_event;
+pub use step::frame_events;

@@ -1,12 +1,13 @@
 //! The plain instructions, by their rows.
-ghost use Rattle.std.specs.Prelude.{◌≡◌, ℕ, ◌<◌, ◌^◌, true, List, Option, IfOk, OnErr, length};
+ghost use Rattle.std.specs.Prelude.{◌≡◌, ℕ, ◌<◌, ◌≤◌, ◌^◌, true, List, Option, IfOk, OnErr, length};
 ghost use Rattle.std.specs.Option.{option_copied};
 ghost use Rattle.et_pool.specs.Entries.{Item};
 ghost use Rattle.et_code.specs.declared.instr.Instr.{Instr as Decoded};
 ghost use Rattle.et_code.specs.Switches.{IsSwitch};
 ghost use Rattle.et_program.specs.Entries.{Linked};
 ghost use Rattle.et_state.specs.State.{kept_of};
-ghost use Rattle.et_state.specs.Words.{HasFrame, top};
+ghost use Rattle.et_state.specs.Threads.{most_frames};
+ghost use Rattle.et_state.specs.Words.{HasFrame, thread_at, top};
 ghost use Rattle.et_state.specs.Sound.{IsSound};
 ghost use Rattle.et_state.specs.declared.records.Record.{Record};
 ghost use Rattle.et_event.specs.declared.rows.FrameRow.TheVariants as frame_rows;
@@ -23,7 +24,8 @@ ghost use Rattle.et_parts.specs.Places.{IsPlace, site_at};
 
 use crate::constants::constant_event;
 use crate::divisions::divide_event;
-use crate::frames::{frame_event, natural};
+use crate::frames::natural;
+use crate::lifted::frame_done;
 use et_base::{NoMemory, ThreadId};
 use et_code::Instr;
 use et_event::{FrameRow, Row};
@@ -44,7 +46,7 @@ fn frame_row_event(
     requires frame { HasFrame machine.old.guest thread }
     requires sound { IsSound (kept_of machine.old) }
     requires clock { machine.old.guest.clock < 2 ^ 40 }
-    requires locals { length (top machine.old.guest thread).locals < 2 ^ 16 }
+    requires few { length (thread_at machine.old.guest thread).frames ≤ most_frames }
     requires pc { (top machine.old.guest thread).pc < 2 ^ 31 }
     requires switch { row ≡ frame_rows.Switch → IsSwitch code.now instr.now }
     ensures { (p : Linked) (pool : List (Option Item)) (class : ℕ) (out : List Record) →
@@ -52,7 +54,7 @@ fn frame_row_event(
         (record { instr = instr.now; next = next; code = code.now; pool = pool; class = class }) row
         (top machine.old.guest thread))) result machine.old machine.new out out }
 {
-    if frame_event(machine, thread, row, code, instr, next) {
+    if frame_done(machine, thread, row, code, instr, next) {
         EventEnd::Done
     } else {
         ill_typed(machine, thread)
@@ -99,7 +101,7 @@ fn row_event(
     requires sound { IsSound (kept_of machine.old) }
     requires clock { machine.old.guest.clock < 2 ^ 40 }
     requires fits { fits_heap machine.old.heap ≡ true }
-    requires locals { length (top machine.old.guest thread).locals < 2 ^ 16 }
+    requires few { length (thread_at machine.old.guest thread).frames ≤ most_frames }
     requires pc { (top machine.old.guest thread).pc < 2 ^ 31 }
     requires switch { row ≡ rows.Frame frame_rows.Switch →
         IsSwitch place.now.code.now place.now.instr }
@@ -129,10 +131,10 @@ fn row_event(
     }
 }
 
-/// The event of the plain instruction at a place, for a caller that has decoded it. It answers what the table of events says
-/// of its row there, as [`ops_event`](crate::ops_event) does, and visits no object. After `NoMemory` the machine may have one
-/// object more, to which nothing refers, and there may be its record; all else is as before.
-pub fn plain_event(
+/// The event of the plain instruction at a place. It answers what the table of events says of its row there, and visits no
+/// object. After `NoMemory` the machine may have one object more, to which nothing refers, and there may be its record; all
+/// else is as before.
+pub(crate) fn plain_event(
     program: &Program,
     machine: &mut Machine,
     thread: ThreadId,

@@ -16,7 +16,7 @@ use Rattle.et_event.specs.Sites.{decoded_at, site_of}
 use Rattle.et_event.specs.Table.{row_of}
 use Rattle.et_parts.proofs.SiteAnswers.{moment}
 
-by_turn : (p : Linked) (s : Kept) (t : ℕ) → turn_of (thread_at s.guest t) ≡ turns.Instruction → event p s t ≡ by_instruction (moment p s t) (decoded_at p (top s.guest t))
+pub by_turn : (p : Linked) (s : Kept) (t : ℕ) → turn_of (thread_at s.guest t) ≡ turns.Instruction → event p s t ≡ by_instruction (moment p s t) (decoded_at p (top s.guest t))
 unfolding event
 by_turn p s t e = ap (λ (turn : Turn). does_turn (moment p s t) turn) e
 

@@ -14,3 +14,4 @@ pub mod Rows
 pub mod Keeping
 pub mod There
 pub mod Entering
+pub mod FrameEvents

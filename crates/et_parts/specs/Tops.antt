@@ -1,12 +1,11 @@
 -- What stands on top of operands, by its kind.
-use Rattle.std.specs.Prelude.{ℕ, ℤ, Bool, true, ◌&&◌, List, [], ◌∷◌, Option, Some, None, Contains}
+use Rattle.std.specs.Prelude.{ℕ, ℤ, List, [], ◌∷◌, Option, Some, None, Contains}
 use Rattle.et_base.specs.declared.value.Value.{Value}
 use Rattle.et_base.specs.declared.value.Value.TheVariants.{Int, Long, LongHigh, Null, Ref}
 use Rattle.et_heap.specs.Refs.{refs_of_value}
 use Rattle.et_state.specs.Threads.{FrameState}
 use Rattle.et_state.specs.ThreadRoots.{frame_roots}
 use Rattle.et_event.specs.Checks.{Reference}
-use Rattle.et_event.specs.Plain.{is_single}
 
 abbrev pub int_of : Value → Option ℤ
 int_of (Int n) = Some n
@@ -20,11 +19,6 @@ abbrev pub entry_reference : Value → Option Reference
 entry_reference Null = Some None
 entry_reference (Ref o) = Some (Some o)
 entry_reference other = None
-
--- two entries are a long, or two values
-abbrev pub are_pair : Value → Value → Bool
-are_pair LongHigh (Long n) = true
-are_pair v w = is_single v && is_single w
 
 -- what the value refers to stands in the frame
 abbrev pub IsIn : FrameState → Value → Type 0

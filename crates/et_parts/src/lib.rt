@@ -27,4 +27,4 @@ pub use objects::{class_called, make_instance, slots_of};
 pub use operands::{give, put, replace, take};
 pub use places::{Place, place_of};
 pub use throws::throw_error;
-pub use tops::{int_at, is_one, is_pair, long_at, operand_at, reference_at};
+pub use tops::{int_at, long_at, operand_at, reference_at};

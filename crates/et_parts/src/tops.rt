@@ -1,9 +1,8 @@
 //! What stands on top of the operands of the topmost frame.
-ghost use Rattle.std.specs.Prelude.{◌≡◌, ◌+◌, ◌<◌, ◌^◌, length, drop, true};
+ghost use Rattle.std.specs.Prelude.{◌≡◌, ◌+◌, ◌<◌, ◌^◌};
 ghost use Rattle.et_state.specs.Threads.{operand_of};
 ghost use Rattle.et_state.specs.Words.{HasFrame, top};
-ghost use Rattle.et_event.specs.Plain.{is_single as single, is_one_value as one_first, is_value_pair as pair_first};
-ghost use Rattle.et_parts.specs.Tops.{int_of, long_of, entry_reference, IsIn, are_pair};
+ghost use Rattle.et_parts.specs.Tops.{int_of, long_of, entry_reference, IsIn};
 
 use et_base::{ObjectId, ThreadId, Value};
 use et_state::Machine;
@@ -63,47 +62,4 @@ pub fn reference_at(machine: &Machine, thread: ThreadId, k: u32) -> Option<Optio
         Value::Ref(o) => Some(Some(o)),
         _ => None,
     }
-}
-
-/// Whether an entry is a value by itself.
-#[inline(always)]
-fn is_single(value: Value) -> bool
-    ensures { result ≡ single value }
-{
-    matches!(value, Value::Int(_) | Value::Null | Value::Ref(_))
-}
-
-/// Whether two entries are a long, or two values.
-fn are_together(upper: Value, lower: Value) -> bool
-    ensures { result ≡ are_pair upper lower }
-{
-    match (upper, lower) {
-        (Value::LongHigh, Value::Long(_)) => true,
-        (upper, lower) => is_single(upper) && is_single(lower),
-    }
-}
-
-/// Whether the operand so far below the top is there, and a value by itself.
-#[tactic(auto, using(crate::proofs::Groups::one_at, crate::proofs::Groups::one_deep))]
-#[inline(always)]
-pub fn is_one(machine: &Machine, thread: ThreadId, k: u32) -> bool
-    requires { HasFrame machine.now.guest thread }
-    ensures is { result ≡ one_first (drop k (top machine.now.guest thread).operands) }
-    ensures deep { result ≡ true → k < length (top machine.now.guest thread).operands }
-{
-    is_single(operand_at(machine, thread, k))
-}
-
-/// Whether the two operands from there on are there, and a long or two values.
-#[tactic(auto, using(crate::proofs::Groups::pair_at, crate::proofs::Groups::pair_deep))]
-pub fn is_pair(machine: &Machine, thread: ThreadId, k: u32) -> bool
-    requires frame { HasFrame machine.now.guest thread }
-    requires small { k + 1 < 2 ^ 32 }
-    ensures is { result ≡ pair_first (drop k (top machine.now.guest thread).operands) }
-    ensures deep { result ≡ true → k + 1 < length (top machine.now.guest thread).operands }
-{
-    are_together(
-        operand_at(machine, thread, k),
-        operand_at(machine, thread, k + 1),
-    )
 }

@@ -89,10 +89,10 @@ fn static_read_event(
     access_event(alloc, program, machine, thread, place, &read.wanted(), out)
 }
 
-/// The event of the instruction at a place, which is one on fields, arrays and classes, for a caller that has decoded it. It
-/// answers what the table of events says of its row there, as [`refs_event`] does, and `Native` where that does, and visits as
-/// many objects at most. After `NoMemory` the event may be half done, and machine and records may only be dropped.
-pub fn heap_row_event<L: Ledger>(
+/// The event of the instruction on fields, arrays and classes at a place; `Native` where a `getstatic` reads System.out, with
+/// nothing changed. It visits six objects at most, and one for each that the event makes. After `NoMemory` the event may be
+/// half done.
+fn heap_row_event<L: Ledger>(
     alloc: Global,
     program: &Program,
     machine: &mut Machine,
@@ -136,10 +136,11 @@ pub fn heap_row_event<L: Ledger>(
 
 /// The event of a thread whose turn is an instruction on fields, arrays and classes (JVMS 2.11.5, 6.5). It answers `Native`,
 /// with the method of the topmost frame, exactly where a `getstatic` reads System.out; then machine and records are as before,
-/// no object was visited, and [`out_event`](crate::out_event) does the event. Else it answers what the table of events says: `Done` or `Waited`, and then the machine keeps the next state, to which a legal step led, and the
-/// records of the event stand behind those that were there; or `IllTyped` or `ObjectLimit`, and then machine and records are
-/// as before. Whatever it answers, it visits six objects at most, and one for each object that the event makes. After
-/// `NoMemory` the event may be half done, and machine and records may only be dropped.
+/// no object was visited, and [`out_event`](crate::out_event) does the event. Else it answers what the table of events says:
+/// `Done` or `Waited`, and then the machine keeps the next state, to which a legal step led, and the records of the event
+/// stand behind those that were there; or `IllTyped` or `ObjectLimit`, and then machine and records are as before. Whatever
+/// it answers, it visits six objects at most, and one for each object that the event makes. After `NoMemory` the event may
+/// be half done, and machine and records may only be dropped.
 #[tactic(auto, using(et_event::proofs::FamilyTurns::refs_instructs))]
 pub fn refs_event<L: Ledger>(
     alloc: Global,

@@ -24,5 +24,5 @@ mod slots;
 mod static_fields;
 mod streams;
 
-pub use event::{heap_row_event, refs_event};
+pub use event::refs_event;
 pub use streams::out_event;

@@ -7,7 +7,7 @@ use Rattle.std.specs.List.{flat_map, AllZip, All}
 use Rattle.std.proofs.lemmas.List.{take_more, append-nil}
 use Rattle.std.proofs.lemmas.Grind.{flat_map-append}
 use Rattle.std.proofs.lemmas.List.Elements.{All-cons}
-use Rattle.et_io.specs.Sink.{with_more, TakesPrefix}
+use Rattle.et_io.specs.Sink.{Log, with_more, TakesPrefix}
 use Rattle.et_graph.specs.Graph.{Graph, Decides}
 use Rattle.et_graph.proofs.Walks.{is_reached, is_reached_decides}
 use Rattle.et_replay.specs.declared.item.Item.{Item}
@@ -212,11 +212,3 @@ lines_are reached items (p ∷ told) = ap (λ (t : List ℕ). told_line reached 
 
 pub text_is : {B : Type 0} (S : B → Policy → ℕ → Type 0) (reached : Graph → ℕ → Bool) (items : List Item) (bs : List B) (policies : List Policy) (a : AreTold S bs policies) → flat_map (told_line reached (reverse items)) a.told ≡ replay_text reached items policies
 text_is S reached items bs policies a = lines_are reached items a.told ∙ ap (λ (t : List Policy). replay_text reached items t) a.are
-
--- nothing was taken yet
-with_none : (told : Option (List ℕ)) → told ≡ with_more told []
-with_none (Some taken) = ap (λ (t : List ℕ). Some t) (sym (append-nil taken))
-with_none None = refl
-
-pub none_taken : (told : Option (List ℕ)) (text : List ℕ) → TakesPrefix told told text
-none_taken told text = (text, record { prefix = []; parts = refl; taken = with_none told })

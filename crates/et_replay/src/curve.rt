@@ -154,7 +154,7 @@ fn put_rows<O: Sink>(
 
 /// Writes the live curve: for each event with an A, U, M, E or X line, in rising order, a line with the event and the
 /// bytes that are live at it. An object is live from the event that makes it up to the time of its D line, or to the
-/// end where it has none. The text is put in pieces of 64 KiB. `Write` comes exactly where a put failed, and the sink
+/// end where it has none. How the text is cut into pieces as it is put is no promise. `Write` comes exactly where the sink
 /// counted one fault; after `Write` and after `NoMemory` the sink took a prefix of the text.
 pub fn curve_lines<O: Sink>(alloc: Global, trace: &Trace, sink: &mut O) -> Result<(), RunFault>
     ensures ok { OnOk result

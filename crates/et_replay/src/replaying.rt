@@ -188,12 +188,13 @@ fn lines_of(
     run(alloc, &mut seats, items)
 }
 
-/// Feeds each item of a timeline to each model, and puts the line of each model's report to the sink, in the order of
-/// the models. A model that answers `Exhausted` has its report taken and is dropped there; the others go on. The
-/// models have their policies, were told of at least as many objects as the timeline makes, and were fed nothing. The
-/// answer is the number of lines. Bytes are put only once all lines are there. `Write` comes
-/// exactly where a put failed, and the sink counted one fault; after `Write` and after `NoMemory` the sink took a prefix
-/// of the lines.
+/// Feeds the items of a timeline to each model, and puts the line of each model's report to the sink, in the order of the
+/// models: what it reports of all items, or of those up to the one at which it was exhausted. The models have their policies,
+/// were told of at least as many objects as the timeline makes, and were fed nothing. The answer is the number of lines. `Write`
+/// comes exactly where the sink counted one fault; after `Write` and after `NoMemory` the sink took a prefix of the lines.
+///
+/// As it is written, and by no clause: a model that is exhausted is dropped there, and bytes are put only once all lines are
+/// there.
 pub fn replay<O: Sink>(
     alloc: Global,
     timeline: &Timeline,

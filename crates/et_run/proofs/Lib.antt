@@ -2,8 +2,13 @@ mod Answering
 mod Counting
 mod Flushing
 mod Forgotten
+mod FrameKept
+mod QuietFrames
 mod Starting
 mod Running
 mod Stretching
 mod TextTurns
+mod Waiting
+mod Opcodes
+mod TurnFamilies
 pub mod OneTrace

@@ -1,5 +1,5 @@
 -- Quiet events of a machine, one after the other, and the one behind them.
-use Rattle.std.proofs.Common.{◌≡◌, ℕ, suc, ◌+◌, ◌-◌, ◌*◌, ◌<◌, ◌≤◌, List, [], length, Contains, Some, None, refl, sym, ◌∙◌, ap, subst, arith}
+use Rattle.std.proofs.Common.{◌≡◌, ℕ, zero, suc, ◌+◌, ◌-◌, ◌*◌, ◌<◌, ◌≤◌, List, [], length, Contains, Some, None, refl, sym, ◌∙◌, ap, subst, arith}
 use Rattle.std.specs.Prelude.{slice_index}
 use Rattle.std.proofs.lemmas.Grind.{get_or_default_zero}
 use Rattle.et_graph.specs.Graph.{Graph}
@@ -22,7 +22,7 @@ use Rattle.et_loop.proofs.Marking.{lost_made}
 use Rattle.et_loop.proofs.Quiets.{IsAnswered, answered_is, is_native, step_done, tick_done, reached_there, step_there}
 
 -- what is lost is stamped, and nothing was made
-quiet_marks : (e : ℕ) (g h : Graph) (lost old new : List ℕ) → h.made ≡ g.made → IsStepTo g h lost → ((o : ℕ) → Contains lost o → slice_index new o ≡ e) → ((o : ℕ) → ¬ Contains lost o → slice_index new o ≡ slice_index old o)
+pub quiet_marks : (e : ℕ) (g h : Graph) (lost old new : List ℕ) → h.made ≡ g.made → IsStepTo g h lost → ((o : ℕ) → Contains lost o → slice_index new o ≡ e) → ((o : ℕ) → ¬ Contains lost o → slice_index new o ≡ slice_index old o)
     → StampsMark e g h (slice_index old) (slice_index new)
 quiet_marks e g h lost old new same step each others =
     (lost, step, record { fresh = λ o a b. absurd (omega (arith, same)); lost_before = λ o le c. each o c; kept = λ o side out. others o out })
@@ -38,6 +38,53 @@ said_none (ends.Native method) said bytes done native says none = absurd (native
 -- the clock went on by one
 pub ticks_where : (end : EventEnd) (old new : ℕ) → end_after 0 end ≡ None → ((method : ℕ) → end ≡ ends.Native method → ⊥) → TicksWhereDone end old new → new ≡ old + 1
 ticks_where end old new done native h = tick_done 0 end old new native done h
+
+-- SO MANY QUIET EVENTS BEHIND OTHERS
+module _ (p : Linked) (place : ℕ) where
+  abbrev pub Quiets : ℕ → ℕ → Kept → Kept → List ℕ → List ℕ → Type 0
+  Quiets k e s s' old new = AreQuiet (event_with_texts p) (said_by p) unended_threads graph_of place k e s s' old new
+
+  quiet_behind : (k quiet e : ℕ) (s mid s' : Kept) (old between new : List ℕ) → Quiets quiet e s mid old between → Quiets k (e + quiet) mid s' between new → Quiets (quiet + k) e s s' old new
+  unfolding AreQuiet
+  quiet_behind zero quiet e s mid s' old between new first h =
+      let none : quiet ≡ quiet + 0 = omega arith in
+      subst (λ (n : ℕ). Quiets n e s s' old new) none
+      (subst (λ (x : Kept). Quiets quiet e s x old new) (sym h.0) (subst (λ (xs : List ℕ). Quiets quiet e s mid old xs) (sym h.1) first))
+  quiet_behind (suc k) quiet e s mid s' old between new first h =
+      let more : suc (quiet + k) ≡ quiet + suc k = omega arith in
+      let later : e + quiet + k ≡ e + (quiet + k) = omega arith in
+      let last : IsQuiet (event_with_texts p) (said_by p) unended_threads graph_of place (e + (quiet + k)) h.0 s' h.1 new =
+      subst (λ (n : ℕ). IsQuiet (event_with_texts p) (said_by p) unended_threads graph_of place n h.0 s' h.1 new) later h.3 in
+      let all : Quiets (suc (quiet + k)) e s s' old new = (h.0, h.1, quiet_behind k quiet e s mid h.0 old between h.1 first h.2, last) in
+      subst (λ (n : ℕ). Quiets n e s s' old new) more all
+
+  -- what they leave as it is
+  record Leaves (s s' : Kept) (old new : List ℕ) : Type 0 where
+    pub made : (graph_of s').made ≡ (graph_of s).made
+    pub count : length (unended_threads s') ≡ length (unended_threads s)
+    pub turn : slice_index (unended_threads s') place ≡ slice_index (unended_threads s) place
+    pub long : length new ≡ length old
+    pub there : AreMade (graph_of s) → AreMade (graph_of s')
+
+  quiet_leaves : (k e : ℕ) (s s' : Kept) (old new : List ℕ) → Quiets k e s s' old new → Leaves s s' old new
+  unfolding AreQuiet
+  quiet_leaves zero e s s' old new h = record {
+    made = ap (λ (x : Kept). (graph_of x).made) h.0;
+    count = ap (λ (x : Kept). length (unended_threads x)) h.0;
+    turn = ap (λ (x : Kept). slice_index (unended_threads x) place) h.0;
+    long = ap (λ (xs : List ℕ). length xs) h.1;
+    there = λ made. subst (λ (x : Kept). AreMade (graph_of x)) (sym h.0) made;
+  }
+  quiet_leaves (suc k) e s s' old new h =
+      let first : Leaves s h.0 old h.1 = quiet_leaves k e s h.0 old h.1 h.2 in
+      let last : IsQuiet (event_with_texts p) (said_by p) unended_threads graph_of place (e + k) h.0 s' h.1 new = h.3 in
+      record {
+        made = last.made ∙ first.made;
+        count = last.count ∙ first.count;
+        turn = last.turn ∙ first.turn;
+        long = last.long ∙ first.long;
+        there = λ made. step_there (graph_of h.0) (graph_of s') last.marks.0 (first.there made) last.marks.1;
+      }
 
 module _ (p : Linked) (place most e : ℕ) (s : Kept) (old : List ℕ) (thread threads objects before : ℕ) where
   -- after so many quiet events
@@ -79,6 +126,27 @@ module _ (p : Linked) (place most e : ℕ) (s : Kept) (old : List ℕ) (thread t
     is_there lt =
         let inside : place < length (unended_threads mid) = omega (arith, lt, g.same_threads) in
         (place, inside, get_or_default_zero (unended_threads mid) place thread inside ∙ g.same_thread)
+
+    -- SO MANY MORE QUIET ONES
+    pub going_quietly : (k : ℕ) (s' : Kept) (new' : List ℕ) → k ≤ most - 1 - quiet → ((at : ℕ) → slice_index (unended_threads mid) at ≡ thread → Quiets p at k mid.guest.clock mid s' new new')
+        → s'.guest.clock ≡ mid.guest.clock + k → IsSoundRun p s' → IsGoing (quiet + k) s' new' out bytes visits
+    going_quietly k s' new' few each clock sound =
+        let quiets : Quiets p place k (e + quiet) mid s' new new' = subst (λ (n : ℕ). Quiets p place k n mid s' new new') g.clock (each place g.same_thread) in
+        let same : Leaves p place mid s' new new' = quiet_leaves p place k (e + quiet) mid s' new new' quiets in
+        record {
+          few = omega (arith, few, g.few);
+          events = quiet_behind p place k quiet e s mid s' old new new' g.events quiets;
+          clock = omega (arith, clock, g.clock);
+          sound = sound;
+          made = same.there g.made;
+          stamps = record { few = omega (arith, g.stamps.few, same.made); places = omega (arith, g.stamps.places, same.made, same.long) };
+          empty = g.empty;
+          unsaid = g.unsaid;
+          same_objects = same.made ∙ g.same_objects;
+          same_threads = same.count ∙ g.same_threads;
+          same_thread = same.turn ∙ g.same_thread;
+          allowed = omega (arith, g.allowed);
+        }
 
     -- ITS NEXT EVENT
     module _ (end : EventEnd) (s' : Kept) (out' : List Record) (bytes' : List ℕ) (lost : List ℕ) (after : ℕ) where

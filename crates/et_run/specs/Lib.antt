@@ -1,3 +1,4 @@
+pub mod Waits
 pub mod WithTexts
 pub use Rattle.et_history.specs.Whole
 pub use Rattle.et_history.specs.Settings

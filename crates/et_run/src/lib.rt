@@ -1,6 +1,7 @@
 //! A linked program and its machine with its texts, as the run with stamps knows them.
 #![tactic(auto)]
 
+mod families;
 mod first;
 mod forgetting;
 mod guest;
@@ -11,6 +12,7 @@ mod steps;
 mod stretches;
 mod threads;
 mod turns;
+mod waits;
 mod with_texts;
 
 pub use program_run::run;

@@ -4,6 +4,7 @@ ghost use Rattle.et_event.specs.Told.{event_with_texts, said_by};
 ghost use Rattle.et_graph.specs.Graph.{IsReached};
 ghost use Rattle.et_history.specs.Settings.{IsSoundRun, flush_visits_of, unended_threads, flushed_of};
 ghost use Rattle.et_walk.specs.Telling.{names_of_program};
+ghost use Rattle.et_run.specs.Waits.{HasWaited};
 ghost use Rattle.et_run.specs.WithTexts.{state_of};
 ghost use Rattle.et_state.specs.Roots.{graph_of};
 ghost use Rattle.et_loop.specs.Stamping.{StepsWhereDone};
@@ -12,6 +13,7 @@ ghost use Rattle.et_graph.specs.Listed.{AreListed};
 ghost use Rattle.et_state.specs.Answers.{Answers, SaysWhereDone, TicksWhereDone};
 ghost use Rattle.et_state.specs.Naming.{IsNamed};
 ghost use Rattle.et_state.specs.Outcome.{state_after};
+ghost use Rattle.et_state.specs.declared.ends.EventEnd.TheVariants as ends;
 
 use crate::forgetting::forget_dead;
 use crate::turns::turn_event;
@@ -24,12 +26,13 @@ use et_heap::RootList;
 use et_history::text_laws::flushes_keep_texts;
 use et_linked::start_laws::flush_keeps_sound;
 use et_program::Program;
-use et_spoken::laws::events_are_told;
+use et_spoken::laws::{events_are_told, events_keep_monitors};
 use et_state::{EventEnd, Output};
 use std::alloc::Global;
 use std::sync::ledger::Ledger;
 
 /// The event of a thread that has not ended.
+#[inline(always)]
 pub fn running_event<L: Ledger>(
     alloc: Global,
     program: &Program,
@@ -56,9 +59,12 @@ pub fn running_event<L: Ledger>(
         running.old.machine.guest.clock running.new.machine.guest.clock) }
     ensures named { OnOk result (All (IsNamed (names_of_program program.now)) out.old.records →
         All (IsNamed (names_of_program program.now)) out.new.records) }
+    ensures waited { IfOk result (λ end. end ≡ ends.Waited →
+        HasWaited program.now (state_of running.new) thread) }
 {
     // Laws: they tell the prover, and do nothing.
     events_are_told();
+    events_keep_monitors();
     turn_event(alloc, program, running, thread, out, visits)
 }
 

@@ -1,10 +1,10 @@
 //! Events of a machine that one thread does at once.
-ghost use Rattle.std.specs.Prelude.{◌≡◌, ◌+◌, ◌<◌, ◌≤◌, ◌^◌, [], None, All, IfOk, IsTrue, OnErr, OnOk, length, slice_index};
+ghost use Rattle.std.specs.Prelude.{◌≡◌, ℕ, ◌+◌, ◌<◌, ◌≤◌, ◌^◌, [], None, All, Contains, IfOk, IsTrue, OnErr, OnOk, length, slice_index};
 ghost use Rattle.et_event.specs.Told.{event_with_texts, said_by};
 ghost use Rattle.et_heap.specs.Objects.{made_count};
 ghost use Rattle.et_history.specs.Settings.{IsSoundRun, unended_threads};
 ghost use Rattle.et_walk.specs.Telling.{names_of_program};
-ghost use Rattle.et_loop.specs.Quiet.{IsStretch, IsBrokenOff};
+ghost use Rattle.et_loop.specs.Quiet.{AreQuiet, IsStretch, IsBrokenOff};
 ghost use Rattle.et_loop.specs.Run.{end_after};
 ghost use Rattle.et_loop.specs.Stamping.{AreMade, HasStamps};
 ghost use Rattle.et_state.specs.Answers.{TicksWhereDone};
@@ -15,12 +15,15 @@ ghost use Rattle.et_state.specs.Threads.{unended_of};
 
 use crate::steps::running_event;
 use crate::threads::nth_unended;
+use crate::waits::waiting_events;
 use crate::with_texts::MachineWithTexts;
 use et_base::{NoMemory, Steps, ThreadId};
-use et_graph::Stamps;
-use et_loop::{Output, Stretch, TimeSlice, stamp_each};
+use et_graph::{Stamps, stamp_each};
+use et_loop::{Output, Stretch, TimeSlice};
+use et_ops::frame_events;
 use et_program::Program;
-use et_state::{EventEnd, Machine};
+use et_spoken::laws::{events_lead_to_sound_states, texts_stay_sound};
+use et_state::{EventEnd, Machine, Turn};
 use std::alloc::Global;
 use std::sync::ledger::Ledger;
 
@@ -79,6 +82,57 @@ fn is_quiet(machine: &Machine, standing: &Standing, end: &EventEnd, out: &Output
         && stands(machine, standing)
 }
 
+/// Events of a thread that has not ended which are instructions that read and change nothing but its topmost frame: as many as
+/// come one after the other, up to `most`. They are quiet. Where the thread does no instruction next there are none.
+#[tactic(auto, unfolding(et_loop::specs::Quiet::AreQuiet))]
+#[inline(always)]
+fn frame_stretch(
+    program: &Program,
+    running: &mut MachineWithTexts,
+    thread: ThreadId,
+    stamps: &mut Stamps,
+    most: u64,
+) -> u64
+    requires clock { running.old.machine.guest.clock + most ≤ 2 ^ 40 }
+    requires sound { IsSoundRun program.now (state_of running.old) }
+    requires thread { Contains (unended_threads (state_of running.old)) thread }
+    requires made { AreMade (graph_of (state_of running.old)) }
+    requires stamps { HasStamps (graph_of (state_of running.old)) stamps.old }
+    ensures few { result ≤ most }
+    ensures quiet { (place : ℕ) →
+        slice_index (unended_threads (state_of running.old)) place ≡ thread → AreQuiet
+        (event_with_texts program.now) (said_by program.now) unended_threads graph_of place
+        result running.old.machine.guest.clock (state_of running.old) (state_of running.new)
+        stamps.old stamps.new }
+    ensures sound { IsSoundRun program.now (state_of running.new) }
+    ensures clock { running.new.machine.guest.clock
+        ≡ running.old.machine.guest.clock + result }
+{
+    // Laws: they tell the prover, and do nothing.
+    events_lead_to_sound_states();
+    texts_stay_sound();
+    running.machine.has_no_texts();
+    if most == 0 {
+        return 0;
+    }
+    match running.machine.turn(thread) {
+        Turn::Instruction => frame_events(program, &mut running.machine, thread, stamps, most),
+        Turn::Unwind | Turn::EndThread | Turn::Entry | Turn::Initialize => 0,
+    }
+}
+
+/// How many events may be instructions that change nothing but their frame, of so many, behind one that went so: none where the
+/// thread waited, since it stands where it stood.
+#[inline(always)]
+fn frames_behind(before: EventEnd, most: u64) -> u64
+    ensures { result ≤ most }
+{
+    match before {
+        EventEnd::Waited => 0,
+        _ => most,
+    }
+}
+
 /// The events of a time slice, up to one that is not quiet.
 pub fn stretch<L: Ledger>(
     alloc: Global,
@@ -118,7 +172,10 @@ pub fn stretch<L: Ledger>(
         objects: running.machine.heap.count(),
     };
     let mut quiet = 0;
+    let mut before = EventEnd::Done;
     'events: loop {
+        let most = frames_behind(before, slice.events - 1 - quiet);
+        quiet += frame_stretch(program, running, thread, stamps, most);
         let e = running.machine.clock();
         let end = running_event(alloc, program, running, thread, out, visits)?;
         if quiet + 1 == slice.events || !is_quiet(&running.machine, &standing, &end, out) {
@@ -126,5 +183,7 @@ pub fn stretch<L: Ledger>(
         }
         stamp_each(stamps, running.machine.lost(), e);
         quiet += 1;
+        quiet += waiting_events(program, running, thread, &end, slice.events - 1 - quiet);
+        before = end;
     }
 }

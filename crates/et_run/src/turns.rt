@@ -11,22 +11,20 @@ ghost use Rattle.et_event.specs.SoundTexts.{HasSoundTexts};
 ghost use Rattle.et_event.specs.Told.{event_with_texts, said_by};
 ghost use Rattle.et_run.specs.WithTexts.{state_of, text_turn};
 ghost use Rattle.et_state.specs.Answers.{SaysWhereDone};
-ghost use Rattle.et_state.specs.declared.stage.Turn.TheVariants as turns;
 ghost use Rattle.et_state.specs.Outcome.{state_after};
 ghost use Rattle.et_state.specs.State.{kept_of};
-ghost use Rattle.et_state.specs.Threads.{turn_of};
-ghost use Rattle.et_state.specs.Words.{IsUnended, thread_at};
+ghost use Rattle.et_state.specs.Words.{IsUnended};
 
+use crate::families::turn_family;
 use crate::with_texts::MachineWithTexts;
 use et_base::{NoMemory, Steps, ThreadId};
 use et_calls::calls_event;
-use et_event::Row;
-use et_ops::plain_event;
-use et_parts::{ill_typed, place_of};
+use et_event::Family;
+use et_ops::ops_event;
 use et_program::Program;
-use et_refs::heap_row_event;
+use et_refs::refs_event;
 use et_spoken::laws::{events_lead_to_sound_states, texts_stay_sound};
-use et_state::{EventEnd, Lines, Machine, Output, Turn};
+use et_state::{EventEnd, Lines, Machine, Output};
 use et_strings::strings_event;
 use et_sync::sync_event;
 use et_throw::throw_event;
@@ -61,44 +59,10 @@ fn call_turn_event<L: Ledger>(
     }
 }
 
-/// The event of a thread whose turn is an instruction; `Native` where it calls a method of texts or reads System.out. It is
-/// decoded once where it is a plain one, or one on fields, arrays and classes. It visits eight objects at most, and one for
-/// each that the event makes. After `NoMemory` the machine may only be dropped.
+/// The event of a thread, by the family of its turn; `Native` where it calls a method of texts or reads System.out. It visits
+/// eight objects at most, and one for each that the event makes. After `NoMemory` the machine may only be dropped.
 #[inline(always)]
-fn instruction_event<L: Ledger>(
-    alloc: Global,
-    program: &Program,
-    machine: &mut Machine,
-    thread: ThreadId,
-    out: &mut Lines,
-    visits: &mut Steps<L>,
-) -> Result<EventEnd, NoMemory>
-    requires begins { BeginsEvent program.now machine.old thread }
-    requires turn { turn_of (thread_at machine.old.guest thread) ≡ turns.Instruction }
-    ensures event { IfOk result (λ end.
-        DefersOrAnswers (text_turn program.now (kept_of machine.old) thread) (event program.now
-        (kept_of machine.old) thread) end machine.old machine.new out.old out.new) }
-    ensures visits { visits.new ≤ visits.old + 8 + (length (state_after (kept_of machine.old)
-        (event program.now (kept_of machine.old) thread)).heap - length machine.old.heap) }
-    ensures deferred { IsSome (text_turn program.now (kept_of machine.old) thread) →
-        visits.new ≤ visits.old + 2 }
-{
-    let Some(place) = place_of(program, machine, thread) else {
-        return Ok(ill_typed(machine, thread));
-    };
-    match place.row {
-        Row::Frame(_) | Row::PoolConstant | Row::Divide(_, _) => {
-            plain_event(program, machine, thread, &place, out)
-        }
-        Row::Heap(_) => heap_row_event(alloc, program, machine, thread, &place, out, visits),
-        Row::Call(_) => call_turn_event(alloc, program, machine, thread, out, visits),
-        Row::Throw => throw_event(alloc, program, machine, thread, out, visits),
-        Row::Monitor(_) => sync_event(alloc, program, machine, thread, out, visits),
-    }
-}
-
-/// The event of a thread, by what it does in its turn; `Native` where it calls a method of texts or reads System.out.
-fn event_by_turn<L: Ledger>(
+fn event_by_family<L: Ledger>(
     alloc: Global,
     program: &Program,
     machine: &mut Machine,
@@ -115,13 +79,12 @@ fn event_by_turn<L: Ledger>(
     ensures deferred { IsSome (text_turn program.now (kept_of machine.old) thread) →
         visits.new ≤ visits.old + 2 }
 {
-    match machine.turn(thread) {
-        Turn::Instruction => instruction_event(alloc, program, machine, thread, out, visits),
-        Turn::Unwind => throw_event(alloc, program, machine, thread, out, visits),
-        Turn::EndThread => sync_event(alloc, program, machine, thread, out, visits),
-        Turn::Entry | Turn::Initialize => {
-            call_turn_event(alloc, program, machine, thread, out, visits)
-        }
+    match turn_family(program, machine, thread) {
+        Family::Ops => ops_event(alloc, program, machine, thread, out, visits),
+        Family::Refs => refs_event(alloc, program, machine, thread, out, visits),
+        Family::Calls => call_turn_event(alloc, program, machine, thread, out, visits),
+        Family::Throw => throw_event(alloc, program, machine, thread, out, visits),
+        Family::Sync => sync_event(alloc, program, machine, thread, out, visits),
     }
 }
 
@@ -131,6 +94,7 @@ fn event_by_turn<L: Ledger>(
 /// and so do the bytes that it prints; or `IllTyped` or `ObjectLimit`, and then all is as before. Each of these leaves a sound
 /// state. Whatever it answers, it visits eight objects at most, and one for each that the event makes. After `NoMemory` machine
 /// and texts may only be dropped.
+#[inline(always)]
 pub fn turn_event<L: Ledger>(
     alloc: Global,
     program: &Program,
@@ -159,7 +123,7 @@ pub fn turn_event<L: Ledger>(
     events_lead_to_sound_states();
     texts_stay_sound();
     running.machine.has_no_texts();
-    match event_by_turn(
+    match event_by_family(
         alloc,
         program,
         &mut running.machine,

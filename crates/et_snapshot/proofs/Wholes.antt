@@ -1,10 +1,11 @@
 -- The whole text of a snapshot, put part by part.
-use Rattle.std.proofs.Common.{◌≡◌, ◌∙◌, ℕ, List, [], ◌∷◌, ◌++◌, length, refl, sym, ap, append_assoc}
-use Rattle.std.specs.Prelude.{reverse, codes, Option, None}
+use Rattle.std.proofs.Common.{◌≡◌, ◌∙◌, ℕ, List, [], ◌∷◌, ◌++◌, length, refl, sym, ap, subst, append_assoc}
+use Rattle.std.specs.Prelude.{reverse, codes, None}
 use Rattle.std.specs.List.{flat_map}
 use Rattle.std.proofs.lemmas.List.{length-map}
 use Rattle.et_base.specs.declared.line.TraceLine.{TraceLine}
-use Rattle.et_io.specs.Sink.{TakesUpTo, TakesPrefix}
+use Rattle.et_io.specs.Sink.{Log, TakesUpTo, TakesPrefix}
+use Rattle.et_io.proofs.Taking.{longer}
 use Rattle.et_text.specs.Rules.{AreFine}
 use Rattle.et_text.specs.Spelling.{number_field}
 use Rattle.et_replay.specs.Curve.{live}
@@ -13,7 +14,7 @@ use Rattle.et_snapshot.specs.declared.totals.Total.{Total}
 use Rattle.et_snapshot.specs.Snapshot.{static_row, slots_at, object_rows, live_lines, class_row, head_row, snapshot_text}
 use Rattle.et_snapshot.specs.Heap.{objects_of, lists_of, row_of, rows_of, total_rows, IsCounted}
 use Rattle.et_snapshot.proofs.Classes.{fields}
-use Rattle.et_snapshot.proofs.Pieces.{longer, then_up_to, then_prefix}
+use Rattle.et_snapshot.proofs.Pieces.{then_up_to, then_prefix}
 use Rattle.et_snapshot.proofs.Telling.{objects_told, count_is, bytes_are, static_rows, object_rows_are, class_rows_are}
 
 abbrev pub head_of : ℕ → Total → List ℕ
@@ -46,7 +47,7 @@ whole_is version e lines heap totals all f c =
     ∙ (ap (λ (t : List ℕ). head_row lines e ++ flat_map static_row (slots_at lines e 0) ++ t ++ class_text heap totals) objects
     ∙ ap (λ (t : List ℕ). head_row lines e ++ flat_map static_row (slots_at lines e 0) ++ flat_map (object_rows lines e) (live_lines lines e) ++ t) classes)))
 
-module _ (old one two three : Option (List ℕ)) (h s o c : List ℕ) where
+module _ (old one two three : Log) (h s o c : List ℕ) where
   -- four texts, of which three were gathered after the first
   pub three_up_to : (a b d : List ℕ) → TakesUpTo old one (h ++ s) a → TakesUpTo one two (a ++ o) b → TakesUpTo two three (b ++ c) d → TakesUpTo old three (h ++ ((s ++ o) ++ c)) d
   three_up_to a b d p q r = then_up_to old two three h (s ++ o) c b d (then_up_to old one two h s o a b p q) r
@@ -55,10 +56,10 @@ module _ (old one two three : Option (List ℕ)) (h s o c : List ℕ) where
   last_stops a b p q r = then_prefix old two three h (s ++ o) c b (then_up_to old one two h s o a b p q) r
 
   pub second_stops : (a : List ℕ) → TakesUpTo old one (h ++ s) a → TakesPrefix one two (a ++ o) → TakesPrefix old two (h ++ ((s ++ o) ++ c))
-  second_stops a p q = longer old two (h ++ (s ++ o)) c (h ++ ((s ++ o) ++ c)) (sym (append_assoc h (s ++ o) c)) (then_prefix old one two h s o a p q)
+  second_stops a p q = subst (λ (t : List ℕ). TakesPrefix old two t) (append_assoc h (s ++ o) c) (longer old two (h ++ (s ++ o)) c (then_prefix old one two h s o a p q))
 
   pub first_stops : TakesPrefix old one (h ++ s) → TakesPrefix old one (h ++ ((s ++ o) ++ c))
-  first_stops p = longer old one (h ++ s) (o ++ c) (h ++ ((s ++ o) ++ c)) (ap (λ (t : List ℕ). h ++ t) (append_assoc s o c) ∙ sym (append_assoc h s (o ++ c))) p
+  first_stops p = subst (λ (t : List ℕ). TakesPrefix old one t) (sym (ap (λ (t : List ℕ). h ++ t) (append_assoc s o c) ∙ sym (append_assoc h s (o ++ c)))) (longer old one (h ++ s) (o ++ c) p)
 
 -- the four, one after the other
 pub joined : (h s o c : List ℕ) → h ++ ((s ++ o) ++ c) ≡ h ++ s ++ o ++ c

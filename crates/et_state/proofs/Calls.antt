@@ -11,13 +11,15 @@ use Rattle.et_heap.specs.Queues.{first_value, with_waits, without_first_waiting,
 use Rattle.et_heap.proofs.HeapLists.{held_set}
 use Rattle.et_state.specs.Threads.{FrameState, at_pc, pushed, popped, without_operands, with_local, operand_of, local_of, in_clinit, without_top, entered_by, with_pending, as_entered, as_ended, ended_roots, new_thread}
 use Rattle.et_state.specs.ThreadRoots.{frame_roots}
+use Rattle.et_state.specs.NewFrames.{entered_over}
+use Rattle.et_state.specs.declared.new_frame.NewHead.{NewHead}
 use Rattle.et_state.specs.declared.class_state.ClassState.{ClassState}
 use Rattle.et_state.specs.State.{GuestState, Kept, MachineState, kept_of}
 use Rattle.et_state.specs.Words.{thread_at, with_new_thread, top, HasFrame, IsUnended, static_at, with_static, with_class_state, with_class_monitor, with_string, with_guest, begun, losing, steps_guest, steps_thread, steps_top, steps_object, with_new_object, with_object}
 use Rattle.et_state.specs.Roots.{roots_of}
 use Rattle.et_state.specs.Sound.{IsSound}
 use Rattle.et_state.specs.Moves.{Moves, WasThere, MayBeTied, IsUnderWay, IsOnWay, AreInHeap, WereThere}
-use Rattle.et_state.proofs.Places.{moves_none, frame_push, frame_pop, frame_clear, frame_set_local, frame_in_clinit, guest_top, guest_dropped, guest_entered, guest_pending, guest_started, guest_ended, guest_set_entered, guest_static, guest_interned, moves_place, moves_left, moves_right, moves_anew, moves_first, leads-new}
+use Rattle.et_state.proofs.Places.{moves_none, frame_push, frame_pop, frame_clear, frame_set_local, frame_in_clinit, guest_top, guest_dropped, guest_entered, guest_over, guest_pending, guest_started, guest_ended, guest_set_entered, guest_static, guest_interned, moves_place, moves_left, moves_right, moves_anew, moves_first, leads-new}
 use Rattle.et_state.proofs.UnderWay.{start, law_guest, law_lose, law_object, law_leads, law_beside, law_make, waiting_pair}
 
 pub only_held : (H : ℕ → Type 0) (o : ℕ) → H o → (p : ℕ) → Contains (o ∷ []) p → H p
@@ -60,6 +62,9 @@ on_set_local s m t i v w has lt held were = guest s m _ _ w (guest_top _ _ m.gue
 
 pub on_enter_frame : (s : Kept) (m : MachineState) (t : ℕ) (f : FrameState) → IsOnWay s m → t < length m.guest.threads → AreInHeap m (frame_roots f) → IsOnWay s (steps_thread m t (entered_by f (thread_at m.guest t)) [])
 on_enter_frame s m t f w lt held = guest s m _ [] w (guest_entered (IsHeld m.heap) (WasThere s (kept_of m)) m.guest t f lt held)
+
+pub on_enter_over : (s : Kept) (m : MachineState) (t : ℕ) (h : NewHead) (count : ℕ) → IsOnWay s m → HasFrame m.guest t → AreInHeap m (option_to_list h.lock) → IsOnWay s (steps_thread m t (entered_over h count (thread_at m.guest t)) [])
+on_enter_over s m t h count w has held = guest s m _ [] w (guest_over (IsHeld m.heap) (WasThere s (kept_of m)) m.guest t h count has held)
 
 pub on_enter_clinit : (s : Kept) (m : MachineState) (t method room locals : ℕ) → IsOnWay s m → HasFrame m.guest t → (top m.guest t).locals ≡ [] → (top m.guest t).operands ≡ [] → IsOnWay s (steps_top m t (in_clinit method room locals (top m.guest t)) [])
 on_enter_clinit s m t method room locals w has a b = guest s m _ [] w (guest_top _ _ m.guest t (in_clinit method room locals (top m.guest t)) [] has (frame_in_clinit (IsHeld m.heap) (WasThere s (kept_of m)) (top m.guest t) method room locals a b))

@@ -1,4 +1,5 @@
 mod Stacks
+mod Runs
 pub mod Strings
 pub mod Places
 pub mod UnderWay

@@ -1,7 +1,7 @@
 -- Places that hold references, before and after a change.
-use Rattle.std.proofs.Common.{◌≡◌, ℕ, zero, suc, ◌-◌, ◌<◌, ◌⊎◌, List, [], ◌∷◌, ◌++◌, length, get_or, set, Option, Contains, inl, inr, arith, refl, sym, ap, ◌∙◌, subst, take, drop, replicate, false, if◌then◌else◌, option_to_list, append-nil}
+use Rattle.std.proofs.Common.{◌≡◌, ℕ, zero, suc, ◌-◌, ◌<◌, ◌⊎◌, List, [], ◌∷◌, ◌++◌, length, get_or, set, Option, Contains, inl, inr, arith, refl, sym, ap, ◌∙◌, subst, take, drop, replicate, reverse, false, if◌then◌else◌, option_to_list, append-nil, append_assoc}
 use Rattle.std.specs.List.{flat_map}
-use Rattle.std.proofs.lemmas.List.{map-append}
+use Rattle.std.proofs.lemmas.List.{map-append, reverse-append, reverse-reverse, take-append-drop}
 use Rattle.std.proofs.lemmas.Grind.{flat_map-append}
 use Rattle.std.proofs.lemmas.List.Elements.{Contains-append_left, Contains-append_right, Contains-append_cases}
 use Rattle.et_base.specs.declared.value.Value.{Value}
@@ -12,6 +12,8 @@ use Rattle.et_heap.specs.Objects.{new_object}
 use Rattle.et_heap.specs.Queues.{first_value}
 use Rattle.et_state.specs.Threads.{FrameState, ThreadState, no_thread, with_top_of, without_top, first_frame, rest_of, pushed, popped, without_operands, with_local, operand_of, local_of, locals_with, in_clinit, entered_by, with_pending, as_entered, as_ended, ended_roots}
 use Rattle.et_state.specs.ThreadRoots.{frame_roots, thread_roots}
+use Rattle.et_state.specs.NewFrames.{arguments_on, entered_over, frame_with}
+use Rattle.et_state.specs.declared.new_frame.NewHead.{NewHead}
 use Rattle.et_state.specs.Interned.{interned_objects}
 use Rattle.et_state.specs.State.{GuestState}
 use Rattle.et_state.specs.Words.{thread_at, with_thread, with_new_thread, top, with_top, HasFrame, static_at, with_static, with_string}
@@ -161,6 +163,50 @@ leads-new class elements n = append-nil (refs_of (replicate n Unset)) ∙ refs_o
 pub refs_of-locals_with : (n : ℕ) (vs : List Value) → refs_of (locals_with n vs) ≡ refs_of vs ++ []
 refs_of-locals_with n vs = flat_map-append refs_of_value vs (replicate (n - length vs) Unset) ∙ ap (λ os. refs_of vs ++ os) (refs_of-unset (n - length vs))
 
+refs_append : (vs ws : List Value) → refs_of (vs ++ ws) ≡ refs_of vs ++ refs_of ws
+refs_append vs ws = flat_map-append refs_of_value vs ws
+
+pub refs_reversed : (vs : List Value) (o : ℕ) → Contains (refs_of (reverse vs)) o → Contains (refs_of vs) o
+refs_reversed [] o c = c
+refs_reversed (v ∷ vs) o c =
+    let c' : Contains (refs_of (reverse vs ++ v ∷ [])) o = subst (λ (ws : List Value). Contains (refs_of ws) o) (reverse-append (v ∷ []) vs) c in
+    elim (Contains-append_cases (refs_of (reverse vs)) (refs_of (v ∷ [])) o (subst (λ (os : List ℕ). Contains os o) (refs_append (reverse vs) (v ∷ [])) c')) [
+      | inl d ↦ Contains-append_right (refs_of_value v) (refs_of vs) o (refs_reversed vs o d)
+      | inr d ↦ Contains-append_left (refs_of_value v) (refs_of vs) o (subst (λ (os : List ℕ). Contains os o) (append-nil (refs_of_value v)) d)
+    ]
+
+-- what the arguments of a frame refer to was among the operands of its caller ..
+argument_root : (h : NewHead) (count : ℕ) (f : FrameState) (o : ℕ) → Contains (refs_of (locals_with h.max_locals (arguments_on count f))) o → Contains (frame_roots f) o
+argument_root h count f o c =
+    let vs : List Value = take count f.operands in
+    let d : Contains (refs_of (reverse vs)) o = subst (λ (os : List ℕ). Contains os o) (refs_of-locals_with h.max_locals (reverse vs) ∙ append-nil (refs_of (reverse vs))) c in
+    let parted : refs_of vs ++ refs_of (drop count f.operands) ≡ refs_of f.operands = sym (refs_append vs (drop count f.operands)) ∙ ap refs_of (take-append-drop count f.operands) in
+    Contains-append_right (refs_of f.locals) _ o (Contains-append_left (refs_of f.operands) _ o (subst (λ (os : List ℕ). Contains os o) parted (Contains-append_left (refs_of vs) (refs_of (drop count f.operands)) o (refs_reversed vs o d))))
+
+-- .. and what was among those stands in the frame
+root_argument : (h : NewHead) (count : ℕ) (f : FrameState) (o : ℕ) → Contains (refs_of (take count f.operands)) o → Contains (frame_roots (frame_with h (arguments_on count f))) o
+root_argument h count f o c =
+    let vs : List Value = take count f.operands in
+    let d : Contains (refs_of (reverse vs)) o = refs_reversed (reverse vs) o (subst (λ (ws : List Value). Contains (refs_of ws) o) (sym (reverse-reverse vs)) c) in
+    Contains-append_left (refs_of (locals_with h.max_locals (reverse vs))) _ o (subst (λ (os : List ℕ). Contains os o) (sym (refs_of-locals_with h.max_locals (reverse vs) ∙ append-nil (refs_of (reverse vs)))) d)
+
+-- operands of a frame become the arguments of another
+moves_over : (H R : ℕ → Type 0) (h : NewHead) (count : ℕ) (f : FrameState) → ((o : ℕ) → Contains (option_to_list h.lock) o → H o) → Moves H R (frame_roots f) (frame_roots (frame_with h (arguments_on count f)) ++ frame_roots (popped count f)) []
+moves_over H R h count f lock =
+    let g : FrameState = frame_with h (arguments_on count f) in
+    let m = frame_pops H (λ o. Contains (refs_of (take count f.operands)) o) f count (λ o c. c) in
+    record {
+      on = λ o c. elim (Contains-append_cases (frame_roots g) (frame_roots (popped count f)) o c) [
+        | inl d ↦ elim (Contains-append_cases (refs_of g.locals) (option_to_list h.lock) o d) [ inl e ↦ inl (argument_root h count f o e) | inr e ↦ inr (lock o e) ]
+        | inr d ↦ m.on o d
+      ];
+      off = λ o c. elim (m.off o c) [
+        | inl d ↦ inl (Contains-append_right (frame_roots g) (frame_roots (popped count f)) o d)
+        | inr d ↦ inl (Contains-append_left (frame_roots g) (frame_roots (popped count f)) o (root_argument h count f o d))
+      ];
+      was = λ o c. absurd (Contains-none o c);
+    }
+
 -- a frame that holds nothing but a lock enters <clinit>
 pub frame_in_clinit : (H R : ℕ → Type 0) (f : FrameState) (method room locals : ℕ) → f.locals ≡ [] → f.operands ≡ [] → Moves H R (frame_roots f) (frame_roots (in_clinit method room locals f)) []
 frame_in_clinit H R f method room locals noLocals noOperands =
@@ -177,6 +223,14 @@ first_moves H R (g ∷ fs) f l h m = moves_left H R (frame_roots g) (frame_roots
 first_dropped : (H R : ℕ → Type 0) (fs : List FrameState) → 0 < length fs → ((o : ℕ) → Contains (frame_roots (first_frame fs)) o → R o) → Moves H R (flat_map frame_roots fs) (flat_map frame_roots (rest_of fs)) (frame_roots (first_frame fs))
 first_dropped H R [] h r = absurd (omega arith)
 first_dropped H R (g ∷ fs) h r = moves_fewer H R (frame_roots g) (flat_map frame_roots fs) r
+
+first_over : (H R : ℕ → Type 0) (h : NewHead) (count : ℕ) (fs : List FrameState) → 0 < length fs → ((o : ℕ) → Contains (option_to_list h.lock) o → H o) → Moves H R (flat_map frame_roots fs) (flat_map frame_roots (frame_with h (arguments_on count (first_frame fs)) ∷ popped count (first_frame fs) ∷ rest_of fs)) []
+first_over H R h count [] some lock = absurd (omega (arith, some))
+first_over H R h count (f ∷ fs) some lock =
+    let g : List ℕ = frame_roots (frame_with h (arguments_on count f)) in
+    let rest : List ℕ = flat_map frame_roots fs in
+    subst (λ (os : List ℕ). Moves H R (frame_roots f ++ rest) os []) (append_assoc g (frame_roots (popped count f)) rest)
+    (moves_left H R (frame_roots f) (g ++ frame_roots (popped count f)) [] rest (moves_over H R h count f lock))
 
 pub thread_root : (g : GuestState) (t o : ℕ) → t < length g.threads → Contains (thread_roots (thread_at g t)) o → Contains (roots_of g) o
 thread_root g t o lt c = Contains-append_left (flat_map thread_roots g.threads) _ o (part_contained thread_roots no_thread g.threads t o lt c)
@@ -223,6 +277,10 @@ guest_interned H R g text o h =
 -- a frame is entered
 pub guest_entered : (H R : ℕ → Type 0) (g : GuestState) (t : ℕ) (f : FrameState) → t < length g.threads → ((o : ℕ) → Contains (frame_roots f) o → H o) → Moves H R (roots_of g) (roots_of (with_thread g t (entered_by f (thread_at g t)))) []
 guest_entered H R g t f lt h = guest_thread H R g t (entered_by f (thread_at g t)) [] lt (moves_left H R _ _ [] _ (moves_more H R (flat_map frame_roots (thread_at g t).frames) (frame_roots f) h))
+
+-- .. over operands of another
+pub guest_over : (H R : ℕ → Type 0) (g : GuestState) (t : ℕ) (h : NewHead) (count : ℕ) → HasFrame g t → ((o : ℕ) → Contains (option_to_list h.lock) o → H o) → Moves H R (roots_of g) (roots_of (with_thread g t (entered_over h count (thread_at g t)))) []
+guest_over H R g t h count has held = guest_thread H R g t (entered_over h count (thread_at g t)) [] has.thread (moves_left H R _ _ [] _ (first_over H R h count (thread_at g t).frames has.frame held))
 
 -- an exception is thrown, or taken
 pub guest_pending : (H R : ℕ → Type 0) (g : GuestState) (t : ℕ) (p : Option ℕ) → t < length g.threads → ((o : ℕ) → Contains (option_to_list p) o → H o) → ((o : ℕ) → Contains (option_to_list (thread_at g t).pending) o → R o) → Moves H R (roots_of g) (roots_of (with_thread g t (with_pending p (thread_at g t)))) (option_to_list (thread_at g t).pending)

@@ -18,7 +18,9 @@ pub mod Spoken
 pub mod Roots
 pub mod Sound
 pub mod Moves
+pub mod Running
 pub mod Enqueuing
 pub mod Past
+pub mod RunningInside
 pub mod MachineInside
 pub mod Start

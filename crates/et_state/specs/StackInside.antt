@@ -1,6 +1,6 @@
 -- What is kept of the frames of a thread: their heads with the topmost one last, and the values of all of them, with those
 -- of the topmost one last.
-use Rattle.std.specs.Prelude.{ℕ, ◌+◌, ◌≤◌, List, [], ◌∷◌, length, take, drop, reverse, vec_capacity}
+use Rattle.std.specs.Prelude.{ℕ, ◌+◌, ◌≤◌, List, [], ◌∷◌, length, take, drop, reverse}
 use Rattle.et_base.specs.declared.value.Value.{Value}
 use Rattle.et_state.specs.Threads.{FrameState}
 use Rattle.et_state.specs.declared.frame.FrameHead.{FrameHead}
@@ -22,8 +22,13 @@ abbrev pub AreFrames : ℕ → List FrameHead → List Value → Type 0
 AreFrames capacity [] vs = Unit {0}
 AreFrames capacity (h ∷ below) vs = IsTopmost capacity h vs × AreFrames capacity below (take h.base vs)
 
+-- so many of these values count, and they are those of the frames with these heads
+pub record IsStacked (heads : List FrameHead) (values : List Value) (top : ℕ) : Type 0 where
+  pub within : top ≤ length values
+  pub frames : AreFrames (length values) (reverse heads) (take top values)
+
 abbrev pub stack_in : Inside → List FrameState
-stack_in s = frames_in (reverse s.heads.items) s.values.items
+stack_in s = frames_in (reverse s.heads.items) (take s.top s.values.items)
 
 abbrev pub IsStack : Inside → Type 0
-IsStack s = AreFrames (vec_capacity s.values) (reverse s.heads.items) s.values.items
+IsStack s = IsStacked s.heads.items s.values.items s.top

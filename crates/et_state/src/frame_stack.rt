@@ -1,14 +1,17 @@
 //! The frames of one thread.
-ghost use Rattle.std.specs.Prelude.{◌≡◌, ◌<◌, ◌≤◌, ◌∷◌, [], ◌++◌, length, OnOk, OnErr};
+ghost use Rattle.std.specs.Prelude.{◌≡◌, ◌+◌, ◌-◌, ◌<◌, ◌≤◌, ◌∷◌, [], ◌++◌, length, replicate, take, OnOk, OnErr};
 ghost use Rattle.std.specs.List.{flat_map};
+ghost use Rattle.et_base.specs.declared.value.Value.TheVariants.{Unset};
 ghost use Rattle.et_state.specs.ThreadRoots.{frame_roots};
-ghost use Rattle.et_state.specs.Threads.{first_frame, rest_of, pushed, popped, at_pc, without_operands, with_local, in_clinit, clinit_stage};
-ghost use Rattle.et_state.specs.NewFrames.{frame_of};
+ghost use Rattle.et_state.specs.Threads.{first_frame, rest_of, pushed, popped, at_pc, without_operands, with_local, in_clinit, clinit_stage, locals_with};
+ghost use Rattle.et_state.specs.NewFrames.{arguments_on, frame_of, frame_with};
 
 use crate::frame::{Frame, FrameHead};
-use crate::new_frame::NewFrame;
+use crate::losses::Losses;
+use crate::new_frame::{NewFrame, NewHead};
+use crate::running::Running;
 use crate::stage::Stage;
-use et_base::{MethodId, NoMemory, Value, within};
+use et_base::{MethodId, NoMemory, Value};
 use et_heap::RootList;
 use std::alloc::Global;
 use std::marker::Model;
@@ -20,8 +23,11 @@ pub struct FrameStack {
     /// The topmost one stands last.
     heads: Vec<FrameHead>,
     /// Of each frame its locals and then its operands. Those of the topmost frame stand last, and of these the topmost
-    /// operand.
+    /// operand. There is a value for each local and operand that any frame had room for: those from `top` on count for
+    /// nothing.
     values: Vec<Value>,
+    /// How many of the values count.
+    top: usize,
 }
 
 impl Model for FrameStack {
@@ -47,6 +53,42 @@ fn in_clinit_stage(stage: Stage) -> Stage
     }
 }
 
+/// Makes the list at least so long. What stands in it stays.
+fn make_room(values: &mut Vec<Value>, count: usize) -> Result<(), NoMemory>
+    ensures ok { OnOk result (count ≤ length values.new.items) }
+    ensures grows { length values.old.items ≤ length values.new.items }
+    ensures kept { take (length values.old.items) values.new.items ≡ values.old.items }
+{
+    if values.len() < count {
+        values.resize(count, Value::Unset)?;
+    }
+    Ok(())
+}
+
+/// Writes so many locals behind the first `base` values: the arguments, and then nothing in the others.
+fn write_locals(values: &mut Vec<Value>, base: usize, arguments: &[Value], locals: u16)
+    requires arguments { length arguments.now ≤ locals }
+    requires room { base + locals ≤ length values.old.items }
+    ensures long { length values.new.items ≡ length values.old.items }
+    ensures items { take (base + locals) values.new.items
+        ≡ take base values.old.items ++ locals_with locals arguments.now }
+{
+    let written = base + arguments.len();
+    values[base..written].copy_from_slice(arguments);
+    values[written..base + locals as usize].fill(Value::Unset);
+}
+
+/// Empties the values from one place up to another.
+fn clear_values(values: &mut Vec<Value>, from: usize, to: usize)
+    requires order { from ≤ to }
+    requires room { to ≤ length values.old.items }
+    ensures long { length values.new.items ≡ length values.old.items }
+    ensures items { take to values.new.items
+        ≡ take from values.old.items ++ replicate (to - from) Unset }
+{
+    values[from..to].fill(Value::Unset);
+}
+
 impl FrameStack {
     /// No frames yet.
     pub fn new(alloc: Global) -> Self
@@ -55,6 +97,7 @@ impl FrameStack {
         FrameStack {
             heads: Vec::new(alloc),
             values: Vec::new(alloc),
+            top: 0,
         }
     }
 
@@ -73,7 +116,7 @@ impl FrameStack {
         ensures { result ≡ first_frame self.now }
     {
         let head = &self.heads[self.heads.len() - 1];
-        Frame::of(head, &self.values[head.base..])
+        Frame::of(head, &self.values[head.base..self.top])
     }
 
     /// Puts a frame on top. After `NoMemory` the frames are as before.
@@ -82,9 +125,9 @@ impl FrameStack {
         ensures ok { OnOk result (self.new ≡ frame_of frame.now ∷ self.old) }
         ensures err { OnErr result (self.new ≡ self.old) }
     {
-        let base = self.values.len();
+        let base = self.top;
         let split = base + frame.max_locals as usize;
-        within::reserve(&mut self.values, split + frame.max_stack as usize)?;
+        make_room(&mut self.values, split + frame.max_stack as usize)?;
         self.heads.push(FrameHead {
             method: frame.method,
             stage: frame.stage,
@@ -94,8 +137,41 @@ impl FrameStack {
             locals: frame.max_locals,
             base,
         })?;
-        within::extend(&mut self.values, frame.arguments.as_slice());
-        within::resize(&mut self.values, split, Value::Unset);
+        write_locals(
+            &mut self.values,
+            base,
+            frame.arguments.as_slice(),
+            frame.max_locals,
+        );
+        self.top = split;
+        Ok(())
+    }
+
+    /// Puts a frame on top whose first locals are so many of the topmost operands, where they stand. After `NoMemory` the frames
+    /// are as before.
+    pub fn enter_over(&mut self, head: &NewHead, count: u32) -> Result<(), NoMemory>
+        requires frame { 0 < length self.old }
+        requires operands { count ≤ length (first_frame self.old).operands }
+        requires arguments { count ≤ head.now.max_locals }
+        ensures ok { OnOk result (self.new
+            ≡ frame_with head.now (arguments_on count (first_frame self.old))
+            ∷ popped count (first_frame self.old) ∷ rest_of self.old) }
+        ensures err { OnErr result (self.new ≡ self.old) }
+    {
+        let base = self.top - count as usize;
+        let split = base + head.max_locals as usize;
+        make_room(&mut self.values, split + head.max_stack as usize)?;
+        self.heads.push(FrameHead {
+            method: Some(head.method),
+            stage: Stage::Plain,
+            lock: head.lock,
+            pc: 0,
+            room: head.max_stack,
+            locals: head.max_locals,
+            base,
+        })?;
+        clear_values(&mut self.values, self.top, split);
+        self.top = split;
         Ok(())
     }
 
@@ -107,7 +183,7 @@ impl FrameStack {
         let last = self.heads.len() - 1;
         let head = self.heads[last];
         self.heads.truncate(last);
-        self.values.truncate(head.base);
+        self.top = head.base;
     }
 
     #[inline(always)]
@@ -126,7 +202,8 @@ impl FrameStack {
         requires room { length (first_frame self.old).operands < (first_frame self.old).room }
         ensures { self.new ≡ pushed v (first_frame self.old) ∷ rest_of self.old }
     {
-        within::push(&mut self.values, v);
+        self.values[self.top] = v;
+        self.top += 1;
     }
 
     /// Takes the topmost operand away.
@@ -136,7 +213,7 @@ impl FrameStack {
         requires operand { 0 < length (first_frame self.old).operands }
         ensures { self.new ≡ popped 1 (first_frame self.old) ∷ rest_of self.old }
     {
-        let _ = self.values.pop();
+        self.top -= 1;
     }
 
     /// Takes all operands away.
@@ -145,7 +222,7 @@ impl FrameStack {
         ensures { self.new ≡ without_operands (first_frame self.old) ∷ rest_of self.old }
     {
         let head = self.heads[self.heads.len() - 1];
-        self.values.truncate(head.base + head.locals as usize);
+        self.top = head.base + head.locals as usize;
     }
 
     #[inline(always)]
@@ -173,9 +250,9 @@ impl FrameStack {
         let last = self.heads.len() - 1;
         let head = self.heads[last];
         let split = head.base + max_locals as usize;
-        within::reserve(&mut self.values, split + max_stack as usize)?;
-        self.values.truncate(head.base);
-        within::resize(&mut self.values, split, Value::Unset);
+        make_room(&mut self.values, split + max_stack as usize)?;
+        write_locals(&mut self.values, head.base, &[], max_locals);
+        self.top = split;
         self.heads[last] = FrameHead {
             method: Some(method),
             stage: in_clinit_stage(head.stage),
@@ -194,7 +271,7 @@ impl FrameStack {
         ensures { OnOk result (room.new ≡ room.old ++ flat_map frame_roots self.now) }
     {
         let mut left = self.heads.len();
-        let mut values = self.values.as_slice();
+        let mut values = &self.values[..self.top];
         while left > 0 {
             left -= 1;
             let head = &self.heads[left];
@@ -203,5 +280,45 @@ impl FrameStack {
             values = below;
         }
         Ok(())
+    }
+
+    /// The frames, of which the topmost one runs from now on.
+    #[inline(always)]
+    pub fn lift(self) -> Running
+        requires { 0 < length self }
+        ensures frame { result.frame ≡ first_frame self }
+        ensures below { result.below ≡ rest_of self }
+        ensures lost { result.lost ≡ [] }
+    {
+        let head = self.heads[self.heads.len() - 1];
+        let floor = head.base + head.locals as usize;
+        Running {
+            heads: self.heads,
+            values: self.values,
+            base: head.base,
+            floor,
+            top: self.top,
+            limit: floor + head.room as usize,
+            pc: head.pc,
+            lost: Losses::new(),
+        }
+    }
+
+    /// The frames, of which none runs any more.
+    #[inline(always)]
+    pub fn land(running: Running) -> Self
+        ensures { result ≡ running.frame ∷ running.below }
+    {
+        let Running {
+            mut heads,
+            values,
+            top,
+            pc,
+            ..
+        } = running;
+        let last = heads.len() - 1;
+        let head = heads[last];
+        heads[last] = FrameHead { pc, ..head };
+        FrameStack { heads, values, top }
     }
 }

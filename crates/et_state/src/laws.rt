@@ -15,6 +15,8 @@ ghost use Rattle.et_heap.specs.Queues.{polled, first_value};
 ghost use Rattle.et_heap.specs.Refs.{refs_of_value, refs_of, leads_to};
 ghost use Rattle.et_state.specs.Threads.{FrameState, at_pc, pushed, popped, without_operands, with_local, operand_of, local_of, in_clinit, without_top, entered_by, with_pending, as_entered, as_ended, ended_roots, new_thread};
 ghost use Rattle.et_state.specs.ThreadRoots.{frame_roots};
+ghost use Rattle.et_state.specs.NewFrames.{entered_over};
+ghost use Rattle.et_state.specs.declared.new_frame.NewHead.{NewHead};
 ghost use Rattle.et_state.specs.declared.class_state.ClassState.{ClassState};
 ghost use Rattle.et_state.specs.State.{GuestState, Kept, State, MachineState, kept_of};
 ghost use Rattle.et_state.specs.Words.{thread_at, with_new_thread, top, HasFrame, IsUnended, static_at, with_static, with_class_state, with_class_monitor, with_string, with_guest, begun, losing, steps_guest, steps_thread, steps_top, steps_object, with_new_object, with_object};
@@ -106,6 +108,13 @@ pub fn enter_frame()
     ensures { (s : Kept) (m : MachineState) (t : ℕ) (f : FrameState) →
         IsOnWay s m → t < length m.guest.threads → AreInHeap m (frame_roots f) →
         IsOnWay s (steps_thread m t (entered_by f (thread_at m.guest t)) []) }
+{}
+
+/// `Machine::enter_over`, with a lock that is held.
+pub fn enter_over()
+    ensures { (s : Kept) (m : MachineState) (t : ℕ) (h : NewHead) (count : ℕ) →
+        IsOnWay s m → HasFrame m.guest t → AreInHeap m (option_to_list h.lock) →
+        IsOnWay s (steps_thread m t (entered_over h count (thread_at m.guest t)) []) }
 {}
 
 /// `Machine::enter_clinit`.

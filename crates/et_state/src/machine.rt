@@ -3,19 +3,21 @@ ghost use Rattle.std.specs.Prelude.{◌≡◌, ◌+◌, ◌<◌, ◌≤◌, ◌^
 ghost use Rattle.std.specs.Option.{option_copied};
 ghost use Rattle.et_heap.specs.Objects.{IsHeld, object_at, with_object_at, with_slot, slot_of};
 ghost use Rattle.et_heap.specs.Refs.{refs_of, refs_of_value};
-ghost use Rattle.et_state.specs.Threads.{at_pc, pushed, popped, without_operands, with_local, operand_of, local_of, in_clinit, is_before_class, without_top, entered_by, with_pending, as_entered, as_ended, ended_roots, new_thread, turn_of, unended_of, thread_with, most_frames, most_threads, lost_room};
-ghost use Rattle.et_state.specs.NewFrames.{frame_of};
+ghost use Rattle.et_state.specs.Threads.{at_pc, pushed, popped, without_operands, with_local, operand_of, local_of, in_clinit, is_before_class, without_top, entered_by, with_pending, as_entered, as_ended, ended_roots, new_thread, turn_of, unended_of, thread_with, rest_of, most_frames, most_threads, lost_room};
+ghost use Rattle.et_state.specs.NewFrames.{entered_over, frame_of};
 ghost use Rattle.et_state.specs.Texts.{no_texts};
 ghost use Rattle.et_state.specs.ThreadRoots.{frame_roots};
 ghost use Rattle.et_state.specs.Interned.{object_of, interned_text as text_in};
 ghost use Rattle.et_state.specs.Roots.{roots_of};
+ghost use Rattle.et_state.specs.Running.{passed, with_frames};
 ghost use Rattle.et_state.specs.Words.{thread_at, with_new_thread, top, HasFrame, IsUnended, static_at, with_static, class_state_at, with_class_state, class_monitor_at, with_class_monitor, with_string, first_state, with_guest, begun, losing, steps_guest, steps_thread, steps_top, steps_object};
 
 use crate::class_state::ClassState;
 use crate::interned::Interned;
 use crate::listing::list_values;
 use crate::lost::Lost;
-use crate::new_frame::NewFrame;
+use crate::new_frame::{NewFrame, NewHead};
+use crate::running::Running;
 use crate::stage::{Stage, Turn};
 use crate::thread::Thread;
 use crate::threads;
@@ -122,6 +124,46 @@ impl Machine {
     {
         self.clock += 1;
         self.lost.clear();
+    }
+
+    /// Goes on by so many events, of which the newest has lost nothing.
+    #[inline(always)]
+    pub fn pass_events(&mut self, events: u64)
+        requires { self.old.guest.clock + events ≤ 2 ^ 40 }
+        ensures { self.new ≡ record self.old { guest = passed events self.old.guest; lost = [] } }
+    {
+        self.clock += events;
+        self.lost.clear();
+    }
+
+    /// Takes the frames of a thread out of it, while the topmost one runs. The thread has none until they are put back by
+    /// [`land`](Machine::land).
+    #[tactic(auto, using(crate::proofs::Unended::stays))]
+    #[inline(always)]
+    pub fn lift(&mut self, thread: ThreadId) -> Running
+        requires { HasFrame self.old.guest thread }
+        ensures frame { result.frame ≡ top self.old.guest thread }
+        ensures below { result.below ≡ rest_of (thread_at self.old.guest thread).frames }
+        ensures lost { result.lost ≡ [] }
+        ensures new { self.new ≡ steps_thread self.old thread
+            (with_frames [] (thread_at self.old.guest thread)) [] }
+    {
+        let alloc = self.alloc;
+        let t = &mut self.threads[thread.number() as usize];
+        t.lift(alloc)
+    }
+
+    /// Puts the frames of a thread back.
+    #[tactic(auto, using(crate::proofs::Unended::stays))]
+    #[inline(always)]
+    pub fn land(&mut self, thread: ThreadId, running: Running)
+        requires thread { thread < length self.old.guest.threads }
+        requires few { length running.below < most_frames }
+        ensures { self.new ≡ steps_thread self.old thread
+            (with_frames (running.frame ∷ running.below) (thread_at self.old.guest thread)) [] }
+    {
+        let t = &mut self.threads[thread.number() as usize];
+        t.land(running);
     }
 
     /// The objects that this event has taken a reference away from, in order. There is room for 16 of them, and for all
@@ -438,6 +480,29 @@ impl Machine {
     {
         let t = &mut self.threads[thread.number() as usize];
         t.enter_frame(&frame)?;
+        Ok(())
+    }
+
+    /// Puts a frame on top whose arguments are so many of the topmost operands: they become its first locals where they stand, so
+    /// that no reference is lost. After `NoMemory` the machine is as before.
+    #[tactic(auto, using(crate::proofs::Unended::stays))]
+    #[inline(always)]
+    pub fn enter_over(
+        &mut self,
+        thread: ThreadId,
+        head: &NewHead,
+        count: u32,
+    ) -> Result<(), NoMemory>
+        requires frame { HasFrame self.old.guest thread }
+        requires few { length (thread_at self.old.guest thread).frames < most_frames }
+        requires operands { count ≤ length (top self.old.guest thread).operands }
+        requires arguments { count ≤ head.now.max_locals }
+        ensures ok { OnOk result (self.new ≡ steps_thread self.old thread
+            (entered_over head.now count (thread_at self.old.guest thread)) []) }
+        ensures err { OnErr result (self.new ≡ self.old) }
+    {
+        let t = &mut self.threads[thread.number() as usize];
+        t.enter_over(head, count)?;
         Ok(())
     }
 

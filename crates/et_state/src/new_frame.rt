@@ -17,3 +17,15 @@ pub struct NewFrame {
     pub max_locals: u16,
     pub arguments: SmallVec<Value, 8>,
 }
+
+/// What the frame of a method begins with whose arguments stand among the operands of its caller.
+#[derive(Clone, Copy)]
+pub struct NewHead {
+    pub method: MethodId,
+    /// The object whose monitor the frame holds.
+    pub lock: Option<ObjectId>,
+    /// The most operands that the frame may have.
+    pub max_stack: u16,
+    /// The number of its locals.
+    pub max_locals: u16,
+}

@@ -1,18 +1,21 @@
 //! One thread.
-ghost use Rattle.std.specs.Prelude.{◌≡◌, ◌+◌, ◌<◌, ◌≤◌, ◌++◌, length, OnOk, OnErr};
+ghost use Rattle.std.specs.Prelude.{◌≡◌, ◌+◌, ◌<◌, ◌≤◌, ◌∷◌, ◌++◌, [], length, OnOk, OnErr};
 ghost use Rattle.et_state.specs.ThreadRoots.{thread_roots};
-ghost use Rattle.et_state.specs.NewFrames.{frame_of};
-ghost use Rattle.et_state.specs.Threads.{top_of, with_top_of, without_top, pushed, popped, at_pc, without_operands, with_local, in_clinit, entered_by, with_pending, as_entered, as_ended, new_thread, turn_of, most_frames};
+ghost use Rattle.et_state.specs.NewFrames.{entered_over, frame_of};
+ghost use Rattle.et_state.specs.Running.{with_frames};
+ghost use Rattle.et_state.specs.Threads.{top_of, rest_of, with_top_of, without_top, pushed, popped, at_pc, without_operands, with_local, in_clinit, entered_by, with_pending, as_entered, as_ended, new_thread, turn_of, most_frames};
 
 use crate::frame::Frame;
 use crate::frame_stack::FrameStack;
 use crate::listing::list_option;
-use crate::new_frame::NewFrame;
+use crate::new_frame::{NewFrame, NewHead};
+use crate::running::Running;
 use crate::stage::{Stage, Turn};
 use et_base::{MethodId, NoMemory, ObjectId, Value};
 use et_heap::RootList;
 use std::alloc::Global;
 use std::marker::Model;
+use std::mem;
 
 /// A thread.
 #[derive(Drop)]
@@ -150,6 +153,19 @@ impl Thread {
         self.frames.enter(frame)
     }
 
+    /// Puts a frame on top that takes so many of the topmost operands as its arguments. After `NoMemory` the thread is as before.
+    #[inline(always)]
+    pub fn enter_over(&mut self, head: &NewHead, count: u32) -> Result<(), NoMemory>
+        requires frame { 0 < length self.old.frames }
+        requires few { length self.old.frames < most_frames }
+        requires operands { count ≤ length (top_of self.old).operands }
+        requires arguments { count ≤ head.now.max_locals }
+        ensures ok { OnOk result (self.new ≡ entered_over head.now count self.old) }
+        ensures err { OnErr result (self.new ≡ self.old) }
+    {
+        self.frames.enter_over(head, count)
+    }
+
     /// Takes the topmost frame away.
     pub fn drop_frame(&mut self)
         requires { 0 < length self.old.frames }
@@ -200,6 +216,27 @@ impl Thread {
         ensures { self.new ≡ with_top_of self.old (with_local i v (top_of self.old)) }
     {
         self.frames.set_local(i, v);
+    }
+
+    /// Takes the frames out of the thread, while the topmost one runs. It takes no memory.
+    #[inline(always)]
+    pub fn lift(&mut self, alloc: Global) -> Running
+        requires { 0 < length self.old.frames }
+        ensures frame { result.frame ≡ top_of self.old }
+        ensures below { result.below ≡ rest_of self.old.frames }
+        ensures lost { result.lost ≡ [] }
+        ensures new { self.new ≡ with_frames [] self.old }
+    {
+        mem::replace(&mut self.frames, FrameStack::new(alloc)).lift()
+    }
+
+    /// Puts the frames of the thread back.
+    #[inline(always)]
+    pub fn land(&mut self, running: Running)
+        requires { length running.below < most_frames }
+        ensures { self.new ≡ with_frames (running.frame ∷ running.below) self.old }
+    {
+        self.frames = FrameStack::land(running);
     }
 
     /// Lets the topmost frame, which initializes a class, enter its `<clinit>`. After `NoMemory` the thread is as before.

@@ -5,17 +5,20 @@ use Rattle.std.proofs.lemmas.Bool.Decides.{nat_tests}
 use Rattle.et_base.specs.declared.line.TraceLine.{TraceLine}
 use Rattle.et_base.specs.declared.line.TraceLine.TheVariants.{Finish}
 use Rattle.et_graph.specs.Graph.{Graph}
+use Rattle.et_io.specs.Sink.{Log, taken_bytes, with_more}
+use Rattle.et_io.proofs.Taking.{bytes_of_taken}
 use Rattle.et_top.specs.Faults.{Fault, BadEvent}
 use Rattle.et_top.specs.Loaded.{file_bytes, IsTraceOf}
 use Rattle.et_top.specs.Top.{Defined, Writes, defined_text, event_of_end, last_event, reaching}
 
-bytes_or : Option (List ℕ) → List ℕ
-bytes_or (Some bytes) = bytes
-bytes_or _ = []
+bytes_in : Log → List ℕ
+bytes_in (Some marks) = taken_bytes marks
+bytes_in _ = []
 
-pub some_same : (a b : List ℕ) → Some a ≡ Some b → a ≡ b
-unfolding bytes_or
-some_same a b e = ap bytes_or e
+-- what an output took that began empty is one text
+pub one_text : (a b : List ℕ) → with_more (Some []) a ≡ with_more (Some []) b → a ≡ b
+unfolding bytes_in
+one_text a b e = sym (bytes_of_taken a) ∙ (ap bytes_in e ∙ bytes_of_taken b)
 
 -- the bytes of a file that is not too long
 pub bytes_there : (most : ℕ) (file : Option (List ℕ)) (bytes : List ℕ) → file ≡ Some bytes → length bytes ≤ most → file_bytes most file ≡ Ok bytes

@@ -5,6 +5,7 @@ use Rattle.et_base.specs.declared.line.TraceLine.{TraceLine}
 use Rattle.et_base.specs.declared.value.End.{End}
 use Rattle.et_graph.specs.Graph.{Graph, Decides}
 use Rattle.et_io.specs.Files.{Held}
+use Rattle.et_io.specs.Sink.{with_more}
 use Rattle.et_program.specs.Entries.{Linked}
 use Rattle.et_state.specs.History.{Setting, IsLastEvent, deaths, is_flush_point, picked_turn, trace_of}
 use Rattle.et_state.specs.Options.{pick_of}
@@ -70,7 +71,7 @@ pub record IsWritten (r : Run) (later : Held) (path bytes : List ℕ) : Type 0 w
   pub answer : Status
   pub old : ℕ
   pub new : ℕ
-  pub wrote : WritesHistory r.reached (Some []) (Some bytes) old new r.program r.options answer
+  pub wrote : WritesHistory r.reached (Some []) (with_more (Some []) bytes) old new r.program r.options answer
   pub held : later path ≡ Some bytes
   pub short : length bytes ≤ most_of_trace
 

@@ -2,7 +2,7 @@
 //! program. All of them speak of one history, the one in which nothing is freed. Each is a function that calls the laws that
 //! it stands on: what it promises is its contract.
 
-ghost use Rattle.std.specs.Prelude.{◌≡◌, ◌≢◌, ◌↔◌, Bool, true, false, ℕ, ◌+◌, ◌-◌, ◌^◌, ◌<◌, ◌≤◌, List, length, Contains, filter, Result, Ok, Option, Some};
+ghost use Rattle.std.specs.Prelude.{◌≡◌, ◌≢◌, ◌↔◌, Bool, true, false, ℕ, ◌+◌, ◌-◌, ◌^◌, ◌<◌, ◌≤◌, List, length, Contains, filter, Result, Ok, Some};
 ghost use Rattle.et_base.specs.Numbers.{AreBytes};
 ghost use Rattle.et_base.specs.declared.line.TraceLine.{TraceLine};
 ghost use Rattle.et_base.specs.declared.line.TraceLine.TheVariants.{Death};
@@ -20,7 +20,7 @@ ghost use Rattle.et_history.specs.Deaths.{DiesBy};
 ghost use Rattle.et_history.specs.Histories.{times_held};
 ghost use Rattle.et_history.specs.Whole.{whole_start, whole_visits_of};
 ghost use Rattle.et_io.specs.Files.{Held};
-ghost use Rattle.et_io.specs.Sink.{with_more};
+ghost use Rattle.et_io.specs.Sink.{Log, with_more};
 ghost use Rattle.et_loop.specs.Visits.{allowed_visits};
 ghost use Rattle.et_program.specs.Entries.{Linked};
 ghost use Rattle.et_program.specs.Linking.{IsLinked};
@@ -100,13 +100,13 @@ pub fn programs_are_linked()
 /// pack as the options say; the answer is by the end of the history; and no more visits of objects were counted than that
 /// allows.
 pub fn whole_outputs_are_traces()
-    ensures bytes { (r : Run) (before after : Option (List ℕ)) (old new : ℕ) (answer : Status) →
+    ensures bytes { (r : Run) (before after : Log) (old new : ℕ) (answer : Status) →
         IsTraced r → WritesHistory r.reached before after old new r.program r.options answer →
         after ≡ with_more before (trace_bytes r.options.format (lines_of r)) }
-    ensures answer { (r : Run) (before after : Option (List ℕ)) (old new : ℕ) (answer : Status) →
+    ensures answer { (r : Run) (before after : Log) (old new : ℕ) (answer : Status) →
         IsTraced r → WritesHistory r.reached before after old new r.program r.options answer →
         answer ≡ status_of_end r.end }
-    ensures visits { (r : Run) (before after : Option (List ℕ)) (old new : ℕ) (answer : Status) →
+    ensures visits { (r : Run) (before after : Log) (old new : ℕ) (answer : Status) →
         IsTraced r → WritesHistory r.reached before after old new r.program r.options answer →
         new ≤ old + allowed_visits r.reached (setting_of r) whole_visits_of
         (whole_start r.program) (start_records r.program) r.last }

@@ -1,12 +1,13 @@
 -- A history that was run into memory, and what is answered of it.
-use Rattle.std.proofs.Common.{◌≡◌, ◌≤◌, ◌+◌, ◌++◌, ℕ, Bool, inl, inr, List, [], Option, Some, Result, Ok, Err, refl, sym, ◌∙◌, ap, subst}
+use Rattle.std.proofs.Common.{◌≡◌, ◌≤◌, ◌+◌, ◌++◌, ℕ, Bool, inl, inr, List, [], map, Option, Some, Result, Ok, Err, refl, sym, ◌∙◌, ap, subst}
 use Rattle.et_base.specs.declared.format.Format.TheVariants.{Text}
 use Rattle.et_base.specs.declared.line.TraceLine.{TraceLine}
 use Rattle.et_base.specs.declared.value.End.{End}
 use Rattle.et_base.specs.declared.value.End.TheVariants as ends
 use Rattle.et_class.specs.Layout.{ClassOf}
 use Rattle.et_graph.specs.Graph.{Graph}
-use Rattle.et_io.specs.Sink.{with_more, TakesPrefix}
+use Rattle.et_io.specs.Sink.{Mark, Taken, Log, taken_bytes, with_more, TakesPrefix}
+use Rattle.et_io.proofs.Taking.{bytes_of_taken}
 use Rattle.et_io.specs.declared.putting.RunFault.{RunFault}
 use Rattle.et_io.specs.declared.putting.RunFault.TheVariants as write
 use Rattle.et_program.specs.Entries.{Linked}
@@ -32,17 +33,17 @@ use Rattle.et_top.specs.declared.status.Status.TheVariants as status
 -- THE RUN
 
 -- what a sink in memory has taken, from nothing on
-taken_is : (before taken text : List ℕ) → before ≡ [] → ◌≡◌ {A = Option (List ℕ)} (Some taken) (with_more (Some before) text) → taken ≡ text
+taken_is : (before taken : List Mark) (text : List ℕ) → before ≡ [] → ◌≡◌ {A = Log} (Some taken) (with_more (Some before) text) → taken_bytes taken ≡ text
 taken_is before taken text none is =
-    let more : taken ≡ before ++ text = cc in
-    more ∙ ap (λ (t : List ℕ). t ++ text) none
+    let more : taken ≡ before ++ map Taken text = cc in
+    ap taken_bytes (more ∙ ap (λ (t : List Mark). t ++ map Taken text) none) ∙ bytes_of_taken text
 
-module _ (reached : Graph → ℕ → Bool) (program : Linked) (old new : ℕ) (options : Options) (is : options ≡ bench_options) (before taken : List ℕ) (none : before ≡ []) where
+module _ (reached : Graph → ℕ → Bool) (program : Linked) (old new : ℕ) (options : Options) (is : options ≡ bench_options) (before taken : List Mark) (none : before ≡ []) where
   -- a run that memory ran out in
   pub cut_off : IsCut reached (whole_setting program options) whole_visits_of (whole_start program) (start_records program) (Some before) (Some taken) old new → IsNotReadBack reached program old new faults.NoMemory
   cut_off cut =
       let cut' = subst (λ (o : Options). IsCut reached (whole_setting program o) whole_visits_of (whole_start program) (start_records program) (Some before) (Some taken) old new) is cut in
-      inl (taken, subst (λ (b : List ℕ). IsCut reached (whole_setting program bench_options) whole_visits_of (whole_start program) (start_records program) (Some b) (Some taken) old new) none cut')
+      inl (taken, subst (λ (b : List Mark). IsCut reached (whole_setting program bench_options) whole_visits_of (whole_start program) (start_records program) (Some b) (Some taken) old new) none cut')
 
   module _ (ran : Ran) (wrote : WritesTrace reached (whole_setting program options) (whole_start program) (start_records program) ran (Some before) (Some taken)) (visits : new ≤ old + allowed_visits reached (whole_setting program options) whole_visits_of (whole_start program) (start_records program) ran.event) where
     wrote_bench : WritesTrace reached (whole_setting program bench_options) (whole_start program) (start_records program) ran (Some before) (Some taken)
@@ -54,19 +55,19 @@ module _ (reached : Graph → ℕ → Bool) (program : Linked) (old new : ℕ) (
       visits = subst (λ (o : Options). new ≤ old + allowed_visits reached (whole_setting program o) whole_visits_of (whole_start program) (start_records program) ran.event) is visits;
     }
 
-    trace_is : taken ≡ bench_trace reached program ran.event ran.end
+    trace_is : taken_bytes taken ≡ bench_trace reached program ran.event ran.end
     trace_is = taken_is before taken (bench_trace reached program ran.event ran.end) none wrote_bench.taken
 
-    pub back : (lines : List TraceLine) → IsTextOf lines taken → IsReadBack reached program old new ran.event ran.end lines
+    pub back : (lines : List TraceLine) → IsTextOf lines (taken_bytes taken) → IsReadBack reached program old new ran.event ran.end lines
     back lines read = record { run = ran_bench; read = subst (λ (bytes : List ℕ). IsTextOf lines bytes) trace_is read }
 
-    pub not_back : (fault : TraceFault) → IsAnswerIn Text taken fault → IsNotReadBack reached program old new fault
+    pub not_back : (fault : TraceFault) → IsAnswerIn Text (taken_bytes taken) fault → IsNotReadBack reached program old new fault
     not_back (faults.At kind line) shows = (ran.event, ran.end, ran_bench, subst (λ (bytes : List ℕ). IsTraceFault bytes kind line) trace_is shows)
     not_back faults.NoMemory shows = inr (ran.event, ran.end, ran_bench)
 
 -- THE ANSWER
 
-module _ (reached : Graph → ℕ → Bool) (before after : Option (List ℕ)) (old new : ℕ) (written : Type 0) (program : Linked) where
+module _ (reached : Graph → ℕ → Bool) (before after : Log) (old new : ℕ) (written : Type 0) (program : Linked) where
   module _ (event : ℕ) (end : End) (lines : List TraceLine) (back : IsReadBack reached program old new event end lines) (bytes : List ℕ) (is : bytes ≡ summary_text reached lines) where
     wrote : (how : End) → end ≡ how → after ≡ with_more before bytes → WritesSummary reached before after old new program (status_of_end how)
     wrote how e took = record { event = event; end = end; lines = lines; back = back; ended = ap status_of_end (sym e); wrote = took ∙ ap (with_more before) is }
@@ -89,7 +90,7 @@ module _ (reached : Graph → ℕ → Bool) (before after : Option (List ℕ)) (
     cut_gives write.Write answer how prefix rose = subst (GivesBench reached before after old new written program) (sym how) (rose refl, cut prefix)
     cut_gives write.NoMemory answer how prefix rose = subst (GivesBench reached before after old new written program) (sym how) (inr (cut prefix))
 
-module _ (reached : Graph → ℕ → Bool) (taken : Option (List ℕ)) (old new : ℕ) (written : Type 0) (program : Linked) (answer : Status) where
+module _ (reached : Graph → ℕ → Bool) (taken : Log) (old new : ℕ) (written : Type 0) (program : Linked) (answer : Status) where
   -- there is no summary
   pub bad_gives : (kind line : ℕ) → answer ≡ status.BadTrace → IsNotReadBack reached program old new (faults.At kind line) → GivesBench reached taken taken old new written program answer
   bad_gives kind line is bad = subst (GivesBench reached taken taken old new written program) (sym is) (refl, (kind, line, bad))
@@ -98,7 +99,7 @@ module _ (reached : Graph → ℕ → Bool) (taken : Option (List ℕ)) (old new
   want_gives is wants = subst (GivesBench reached taken taken old new written program) (sym is) (inl (refl, wants))
 
 -- what is given where no read can fail is given where one can
-pub bench_more : (reached : Graph → ℕ → Bool) (before after : Option (List ℕ)) (old new : ℕ) (read written : Type 0) (found : Result Linked Fault) (answer : Status)
+pub bench_more : (reached : Graph → ℕ → Bool) (before after : Log) (old new : ℕ) (read written : Type 0) (found : Result Linked Fault) (answer : Status)
     → GivesDefined reached before after old new ⊥ written (benches found) answer → GivesDefined reached before after old new read written (benches found) answer
 bench_more reached before after old new read written (Ok program) answer h = h
 bench_more reached before after old new read written (Err fault) answer (same, inl e) = (same, inl e)

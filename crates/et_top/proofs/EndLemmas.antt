@@ -1,10 +1,11 @@
 -- What a process gives once its output is handed on, or isn't.
-use Rattle.std.proofs.Common.{◌≡◌, ℕ, ◌+◌, ◌≤◌, ◌∙◌, arith, Bool, true, false, List, [], append-nil, Option, Result, Ok, Err, inl, inr, refl, sym, ap, subst}
+use Rattle.std.proofs.Common.{◌≡◌, ℕ, ◌+◌, ◌≤◌, ◌∙◌, arith, Bool, true, false, List, [], append-nil, Result, Ok, Err, inl, inr, refl, sym, ap, subst}
 use Rattle.std.specs.Prelude.{IfOk}
 use Rattle.et_graph.specs.Graph.{Graph}
-use Rattle.et_run.proofs.OneTrace.{whole_front, whole_trace, whole_said_front}
+use Rattle.et_run.proofs.OneTrace.{whole_trace, whole_said_front}
 use Rattle.et_io.specs.Faults.{Rose, count_after}
-use Rattle.et_io.specs.Sink.{with_more}
+use Rattle.et_io.specs.Sink.{Log, with_more}
+use Rattle.et_io.proofs.Taking.{whole_prefix}
 use Rattle.et_loop.specs.Said.{Says}
 use Rattle.et_loop.specs.declared.options.Ran.{Ran}
 use Rattle.et_run.specs.Settings.{said_by}
@@ -53,14 +54,14 @@ never_whole (BadEvent event) e = absurd (cc e)
 least : (n : ℕ) → 0 ≤ 0 + n
 least n = omega arith
 
-module _ (reached : Graph → ℕ → Bool) (before after : Option (List ℕ)) (old new : ℕ) (read written later : Type 0) where
+module _ (reached : Graph → ℕ → Bool) (before after : Log) (old new : ℕ) (read written later : Type 0) where
   cut_summary : (program : Linked) (answer : Status) → WritesSummary reached before after old new program answer → CutsSummary reached before after 0 0 program
   cut_summary program answer w = record {
     event = w.event;
     end = w.end;
     lines = w.lines;
     back = record { run = record { last = w.back.run.last; visits = least _ }; read = w.back.read };
-    wrote = whole_front before after (summary_text reached w.lines) w.wrote;
+    wrote = whole_prefix before after (summary_text reached w.lines) w.wrote;
   }
 
   cut_prints : (program : Linked) (options : Options) (ran : Ran) → Says reached (whole_setting program options) (whole_said (said_by program)) (whole_start program) (start_records program) ran before after → PrintsCut reached before after 0 0 program options
@@ -71,7 +72,10 @@ module _ (reached : Graph → ℕ → Bool) (before after : Option (List ℕ)) (
       record {
         goes = says.ends.first;
         rest = [];
+        mid = after;
         taken = says.taken ∙ ap (λ (bytes : List ℕ). with_more before bytes) (sym (append-nil _));
+        left = [];
+        stops = inl refl;
         visits = least _;
       },
     );
@@ -87,10 +91,10 @@ module _ (reached : Graph → ℕ → Bool) (before after : Option (List ℕ)) (
   cut_gives (Refused fault) came whole rose (same, inr (inr e)) = absurd (cc (whole, e))
   cut_gives (Writes text) came whole rose h =
       of_whole (λ s. GivesDefined reached before after old new read written (Writes text) s → GivesDefined reached before after 0 0 read later (Writes text) status.WriteFault)
-      (λ is. (rose, whole_front before after (text reached) is)) (λ none. absurd none) (λ none. absurd none) came whole h
+      (λ is. (rose, whole_prefix before after (text reached) is)) (λ none. absurd none) (λ none. absurd none) came whole h
   cut_gives (Verifies program) came whole rose h =
       of_whole (λ s. GivesDefined reached before after old new read written (Verifies program) s → GivesDefined reached before after 0 0 read later (Verifies program) status.WriteFault)
-      (λ is. (rose, (is.0, whole_front before after (verified_text (verified_count program)) is.1))) (λ none. absurd none) (λ none. absurd none) came whole h
+      (λ is. (rose, (is.0, whole_prefix before after (verified_text (verified_count program)) is.1))) (λ none. absurd none) (λ none. absurd none) came whole h
   cut_gives (Traces program options) came whole rose h =
       of_whole (λ s. GivesDefined reached before after old new read written (Traces program options) s → GivesDefined reached before after 0 0 read later (Traces program options) status.WriteFault)
       (λ is. (rose, record { wrote = whole_trace _ _ _ _ is.ran before after is.wrote; visits = inl refl }))
@@ -110,7 +114,7 @@ failed_rose came old mid new whole was is =
     rose_one old new (is ∙ ap (count_after true) kept)
 
 -- so what is given before the output is handed on is given then, with another counter where that failed
-pub ends_gives : (reached : Graph → ℕ → Bool) (before after : Option (List ℕ)) (visits : ℕ) (read : Type 0) (d : Defined) (came end : Status) (old mid new : ℕ)
+pub ends_gives : (reached : Graph → ℕ → Bool) (before after : Log) (visits : ℕ) (read : Type 0) (d : Defined) (came end : Status) (old mid new : ℕ)
     → mid ≡ count_after (is_write_status came) old → EndsAs came end mid new → GivesDefined reached before after 0 visits read (Rose old mid) d came → (n : ℕ) × GivesDefined reached before after 0 n read (Rose old new) d end
 ends_gives reached before after visits read d came end old mid new was (inl (same, kept)) h =
     (visits, subst (λ n. GivesDefined reached before after 0 visits read (Rose old n) d end) (sym kept) (subst (GivesDefined reached before after 0 visits read (Rose old mid) d) (sym same) h))

@@ -1,8 +1,9 @@
 -- A history whose prints were written.
-use Rattle.std.proofs.Common.{◌≡◌, ℕ, ◌+◌, ◌≤◌, Bool, List, Option, refl, sym, ap, subst}
+use Rattle.std.proofs.Common.{◌≡◌, ℕ, ◌+◌, ◌≤◌, Bool, List, refl, sym, ap, subst}
 use Rattle.et_base.specs.declared.value.End.{End}
 use Rattle.et_base.specs.declared.value.End.TheVariants as ends
 use Rattle.et_graph.specs.Graph.{Graph}
+use Rattle.et_io.specs.Sink.{Log}
 use Rattle.et_io.specs.declared.putting.RunFault.{RunFault}
 use Rattle.et_io.specs.declared.putting.RunFault.TheVariants as write
 use Rattle.et_state.specs.declared.options.Options.{Options}
@@ -19,7 +20,7 @@ use Rattle.et_top.specs.Top.{Prints, status_of_end, PrintsHistory, GivesDefined}
 use Rattle.et_top.specs.declared.status.Status.{Status}
 use Rattle.et_top.specs.declared.status.Status.TheVariants as status
 
-module _ (reached : Graph → ℕ → Bool) (before after : Option (List ℕ)) (old new : ℕ) (read written : Type 0) (program : Linked) (options : Options) where
+module _ (reached : Graph → ℕ → Bool) (before after : Log) (old new : ℕ) (read written : Type 0) (program : Linked) (options : Options) where
   -- the counter allows for the visits of a history that ended so
   abbrev Counts : Ran → Type 0
   Counts ran = new ≤ old + allowed_visits reached (whole_setting program options) whole_visits_of (whole_start program) (start_records program) ran.event

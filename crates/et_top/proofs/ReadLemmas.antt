@@ -1,21 +1,21 @@
 -- Files read one by one.
-use Rattle.std.proofs.Common.{◌≡◌, ℕ, ◌+◌, ◌-◌, ◌<◌, ◌≤◌, zero, suc, inr, true, false, List, [], ◌∷◌, ◌++◌, map, length, take, get_or, string_bytes, Option, Some, None, Result, Ok, Err, refl, sym, ◌∙◌, ap, subst, append-nil, append_assoc, add-one, arith, rules}
+use Rattle.std.proofs.Common.{◌≡◌, ℕ, ◌+◌, ◌-◌, ◌<◌, ◌≤◌, zero, suc, inr, true, false, List, [], ◌∷◌, ◌++◌, map, length, length-append, take, get_or, string_bytes, Option, Some, None, Result, Ok, Err, refl, sym, ◌∙◌, ap, subst, append-nil, append_assoc, add-one, arith, rules}
 use Rattle.std.specs.Prelude.{All, IfOk, IfErr, OnOk}
 use Rattle.std.proofs.lemmas.Bool.Decides.{nat_tests}
-use Rattle.std.proofs.lemmas.List.{length-map}
-use Rattle.std.proofs.lemmas.List.Elements.{All-nil, All-cons, All-head, All-tail}
+use Rattle.std.proofs.lemmas.List.{length-map, length-take-le, map-append, take_at}
+use Rattle.std.proofs.lemmas.List.Elements.{All-nil, All-cons, All-head, All-tail, All-push, All-take}
 use Rattle.std.specs.declared.string.String.{String}
 use Rattle.std.specs.declared.vec.Vec.{Vec}
 use Rattle.std.specs.declared.alloc.Global.{Global}
 use Rattle.et_class.specs.Classes.{IsClassFile, class_of}
 use Rattle.et_class.specs.declared.class.ClassFile.{ClassFile}
 use Rattle.et_io.specs.Faults.{Rose, count_after}
-use Rattle.et_io.specs.Files.{Held, Finds, IsWithin, is_read_failed}
+use Rattle.et_io.specs.Files.{Held, Answer, Reading as Read, Finds, IsWithin, is_failed, is_read_failed}
 use Rattle.et_io.specs.declared.files.Found.{Found}
 use Rattle.et_io.specs.declared.files.Found.TheVariants as finds
 use Rattle.et_top.specs.Faults.{Fault, Absent, TooLong, BadClass, BadText, BadTrace, LinkFault, BadEvent}
 use Rattle.et_top.specs.Loaded.{file_bytes, most_of_class, IsClassOf}
-use Rattle.et_top.specs.Reads.{HoldsClass, ReadsInOrder, is_early}
+use Rattle.et_top.specs.Reads.{Asks, HoldsClass, ReadsInOrder, asking, asking_of, is_early}
 use Rattle.et_top.specs.Told.{Cause, File, Reading, Memory, Other, Tells, TellsFound, IsCause, IsFileRefusal, cause_of, is_read_cause, is_reading}
 use Rattle.et_top.specs.Refusals.{status_of}
 use Rattle.et_top.specs.declared.refusal.Refusal.{Refusal}
@@ -118,6 +118,9 @@ holds_class held path bytes (Err r) is file = tt
 
 -- FILES IN ORDER
 
+abbrev IsFine : Read → Type 0
+IsFine r = is_failed r.answer ≡ false
+
 take_more : (paths : List (String Global)) (i : ℕ) (d : String Global) → i < length paths → take (suc i) (map string_bytes paths) ≡ take i (map string_bytes paths) ++ string_bytes (get_or paths i d) ∷ []
 take_more [] i d lt = absurd (omega arith)
 take_more (p ∷ ps) zero d lt = refl
@@ -127,10 +130,37 @@ take_more (p ∷ ps) (suc i) d lt = ap (λ xs. string_bytes p ∷ xs) (take_more
 pub next_taken : (paths : List (String Global)) (i : ℕ) (item d : String Global) (path : List ℕ) → i < length paths → item ≡ get_or paths i d → path ≡ string_bytes item → take (i + 1) (map string_bytes paths) ≡ take i (map string_bytes paths) ++ path ∷ []
 next_taken paths i item d path lt is value = rw add-one (take_more paths i d lt ∙ ap (λ p. take i (map string_bytes paths) ++ p ∷ []) (sym (value ∙ ap string_bytes is)))
 
--- .. was read
-pub next_asked : (old mid new : List (List ℕ)) (paths : List (String Global)) (i : ℕ) (path : List ℕ) → take (i + 1) (map string_bytes paths) ≡ take i (map string_bytes paths) ++ path ∷ [] → mid ≡ old ++ take i (map string_bytes paths) → new ≡ mid ++ path ∷ []
-    → new ≡ old ++ take (i + 1) (map string_bytes paths)
-next_asked old mid new paths i path more was is = is ∙ (ap (λ xs. xs ++ path ∷ []) was ∙ (append_assoc old (take i (map string_bytes paths)) (path ∷ []) ∙ ap (λ xs. old ++ xs) (sym more)))
+-- so many paths were read, and no read failed
+pub record ReadSoFar (old new : List Read) (most : ℕ) (paths : List (List ℕ)) : Type 0 where
+  pub made : List Read
+  pub asked : new ≡ old ++ made
+  pub each : map asking made ≡ map (asking_of most) paths
+  pub fine : All IsFine made
+
+pub begin_reads : (old : List Read) (most : ℕ) → ReadSoFar old old most []
+begin_reads old most = record { made = []; asked = sym (append-nil old); each = refl; fine = All-nil IsFine }
+
+-- as many reads as paths
+count_made : (made : List Read) (most : ℕ) (paths : List (List ℕ)) → map asking made ≡ map (asking_of most) paths → length made ≡ length paths
+count_made made most paths e = sym (length-map made asking) ∙ (ap length e ∙ length-map paths (asking_of most))
+
+-- the reads so far stand behind those before
+pub not_before : (old new : List Read) (most : ℕ) (paths : List (List ℕ)) → ReadSoFar old new most paths → length old ≤ length new
+not_before old new most paths h = omega (arith, ap length h.asked, length-append old h.made)
+
+module _ (old mid new : List Read) (most : ℕ) (paths : List (List ℕ)) (path : List ℕ) (a : Answer) (h : ReadSoFar old mid most paths) (asks : Asks mid new path most a) where
+  abbrev last : Read
+  last = record { path = path; most = most; answer = a }
+
+  more_asked : new ≡ old ++ (h.made ++ last ∷ [])
+  more_asked = asks ∙ (ap (λ (xs : List Read). xs ++ last ∷ []) h.asked ∙ append_assoc old h.made (last ∷ []))
+
+  more_each : map asking (h.made ++ last ∷ []) ≡ map (asking_of most) (paths ++ path ∷ [])
+  more_each = map-append asking h.made (last ∷ []) ∙ (ap (λ (xs : List (List ℕ × ℕ)). xs ++ (path, most) ∷ []) h.each ∙ sym (map-append (asking_of most) paths (path ∷ [])))
+
+  -- one path more
+  pub next_read : is_failed a ≡ false → ReadSoFar old new most (paths ++ path ∷ [])
+  next_read fine = record { made = h.made ++ last ∷ []; asked = more_asked; each = more_each; fine = All-push IsFine h.made last h.fine fine }
 
 all_fewer : (P : List ℕ → Type 0) (xs : List (List ℕ)) (m n : ℕ) → m ≤ n → All P (take n xs) → All P (take m xs)
 all_fewer P xs zero n le all = All-nil P
@@ -138,37 +168,71 @@ all_fewer P [] (suc m) n le all = All-nil P
 all_fewer P (x ∷ xs) (suc m) zero le all = absurd (omega arith)
 all_fewer P (x ∷ xs) (suc m) (suc n) le all = All-cons P x (take m xs) (All-head P x (take n xs) all) (all_fewer P xs m n (omega arith) (All-tail P x (take n xs) all))
 
-module _ (told : Option Held) (old : List (List ℕ)) where
+module _ (Agrees : Held → Type 0) (old : List Read) where
   -- all are read, and all are good
-  pub read_whole : (new : List (List ℕ)) (paths : List (String Global)) (i : ℕ) (answer : Status) → i ≡ length paths → new ≡ old ++ take i (map string_bytes paths) → ((held : Held) → told ≡ Some held → All (HoldsClass held) (take i (map string_bytes paths)))
-      → ReadsInOrder told old new (map string_bytes paths) answer
-  read_whole new paths i answer end asked good = record {
+  pub read_whole : (new : List Read) (most : ℕ) (paths : List (String Global)) (i : ℕ) (answer : Status) → i ≡ length paths → ReadSoFar old new most (take i (map string_bytes paths))
+      → ((held : Held) → Agrees held → All (HoldsClass held) (take i (map string_bytes paths))) → ReadsInOrder Agrees old new most (map string_bytes paths) answer
+  read_whole new most paths i answer end h good = record {
     count = i;
     few = omega (arith, end, length-map paths string_bytes);
-    asked = asked;
+    made = h.made;
+    asked = h.asked;
+    each = h.each;
+    first = All-take IsFine (i - 1) h.made h.fine;
     good = λ held is. all_fewer (HoldsClass held) (map string_bytes paths) (i - 1) i (omega arith) (good held is);
     whole = λ late. end ∙ sym (length-map paths string_bytes);
   }
 
   -- the last one that was read isn't
-  pub read_up_to : (new : List (List ℕ)) (paths : List (String Global)) (i : ℕ) (answer : Status) → i < length paths → is_early answer ≡ true → new ≡ old ++ take (i + 1) (map string_bytes paths)
-      → ((held : Held) → told ≡ Some held → All (HoldsClass held) (take i (map string_bytes paths))) → ReadsInOrder told old new (map string_bytes paths) answer
-  read_up_to new paths i answer lt early asked good = record {
-    count = i + 1;
-    few = omega (arith, lt, length-map paths string_bytes);
-    asked = asked;
-    good = λ held is. all_fewer (HoldsClass held) (map string_bytes paths) (i + 1 - 1) i (omega arith) (good held is);
-    whole = λ late. absurd (cc (early, late));
-  }
+  pub read_up_to : (mid new : List Read) (most : ℕ) (paths : List (String Global)) (i : ℕ) (path : List ℕ) (a : Answer) (answer : Status) → i < length paths → is_early answer ≡ true
+      → take (i + 1) (map string_bytes paths) ≡ take i (map string_bytes paths) ++ path ∷ [] → ReadSoFar old mid most (take i (map string_bytes paths)) → Asks mid new path most a
+      → ((held : Held) → Agrees held → All (HoldsClass held) (take i (map string_bytes paths))) → ReadsInOrder Agrees old new most (map string_bytes paths) answer
+  read_up_to mid new most paths i path a answer lt early more h asks good =
+      let long : i ≤ length (map string_bytes paths) = omega (arith, lt, length-map paths string_bytes) in
+      let count : length h.made ≡ i = count_made h.made most (take i (map string_bytes paths)) h.each ∙ length-take-le i (map string_bytes paths) long in
+      let at : take (i + 1 - 1) (h.made ++ last old mid new most (take i (map string_bytes paths)) path a h asks ∷ []) ≡ h.made = take_at h.made (last old mid new most (take i (map string_bytes paths)) path a h asks ∷ []) (i + 1 - 1) (omega (arith, count)) in
+      record {
+        count = i + 1;
+        few = omega (arith, lt, length-map paths string_bytes);
+        made = h.made ++ last old mid new most (take i (map string_bytes paths)) path a h asks ∷ [];
+        asked = more_asked old mid new most (take i (map string_bytes paths)) path a h asks;
+        each = more_each old mid new most (take i (map string_bytes paths)) path a h asks ∙ ap (λ (xs : List (List ℕ)). map (asking_of most) xs) (sym more);
+        first = subst (All IsFine) (sym at) h.fine;
+        good = λ held is. all_fewer (HoldsClass held) (map string_bytes paths) (i + 1 - 1) i (omega arith) (good held is);
+        whole = λ late. absurd (cc (early, late));
+      }
 
   -- all were read, whatever is answered then
-  pub reads_whole : (new paths : List (List ℕ)) (before answer : Status) → is_early before ≡ false → ReadsInOrder told old new paths before → ReadsInOrder told old new paths answer
-  reads_whole new paths before answer late h = record { count = h.count; few = h.few; asked = h.asked; good = h.good; whole = λ e. h.whole late }
+  pub reads_whole : (new : List Read) (most : ℕ) (paths : List (List ℕ)) (before answer : Status) → is_early before ≡ false → ReadsInOrder Agrees old new most paths before → ReadsInOrder Agrees old new most paths answer
+  reads_whole new most paths before answer late h = record { count = h.count; few = h.few; made = h.made; asked = h.asked; each = h.each; first = h.first; good = h.good; whole = λ e. h.whole late }
 
   -- the one file was read
-  pub one_read : (new : List (List ℕ)) (path : List ℕ) (answer : Status) → new ≡ old ++ path ∷ [] → ReadsInOrder told old new (path ∷ []) answer
-  one_read new path answer asked = record { count = 1; few = search rules; asked = asked; good = λ held is. All-nil (HoldsClass held); whole = λ e. refl }
+  pub one_read : (new : List Read) (path : List ℕ) (most : ℕ) (answer : Status) → (a : Answer) × Asks old new path most a → ReadsInOrder Agrees old new most (path ∷ []) answer
+  one_read new path most answer asks = record {
+    count = 1;
+    few = search rules;
+    made = record { path = path; most = most; answer = asks.0 } ∷ [];
+    asked = asks.1;
+    each = refl;
+    first = All-nil IsFine;
+    good = λ held is. All-nil (HoldsClass held);
+    whole = λ e. refl;
+  }
 
   -- none was read
-  pub none_read : (paths : List (List ℕ)) (answer : Status) → (is_early answer ≡ false → paths ≡ []) → ReadsInOrder told old old paths answer
-  none_read paths answer none = record { count = 0; few = search rules; asked = sym (append-nil old); good = λ held is. All-nil (HoldsClass held); whole = λ e. sym (ap length (none e)) }
+  pub none_read : (most : ℕ) (paths : List (List ℕ)) (answer : Status) → (is_early answer ≡ false → paths ≡ []) → ReadsInOrder Agrees old old most paths answer
+  none_read most paths answer none = record {
+    count = 0;
+    few = search rules;
+    made = [];
+    asked = sym (append-nil old);
+    each = refl;
+    first = All-nil IsFine;
+    good = λ held is. All-nil (HoldsClass held);
+    whole = λ e. sym (ap length (none e));
+  }
+
+-- as many reads were made as are counted
+pub reads_counted : (Agrees : Held → Type 0) (old new : List Read) (most : ℕ) (paths : List (List ℕ)) (answer : Status) (h : ReadsInOrder Agrees old new most paths answer) → length new ≡ length old + h.count
+reads_counted Agrees old new most paths answer h =
+    ap length h.asked ∙ (length-append old h.made ∙ ap (λ (n : ℕ). length old + n) (count_made h.made most (take h.count paths) h.each ∙ length-take-le h.count paths h.few))

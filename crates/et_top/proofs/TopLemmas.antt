@@ -4,7 +4,8 @@ use Rattle.std.specs.Prelude.{OnErr, OnOk}
 use Rattle.et_base.specs.declared.value.End.{End}
 use Rattle.et_base.specs.declared.value.End.TheVariants as ends
 use Rattle.et_graph.specs.Graph.{Graph}
-use Rattle.et_io.specs.Sink.{TakesPrefix, with_more}
+use Rattle.et_io.specs.Sink.{Log, TakesPrefix, with_more}
+use Rattle.et_io.proofs.Taking.{none_put}
 use Rattle.et_io.specs.declared.putting.RunFault.{RunFault}
 use Rattle.et_io.specs.declared.putting.RunFault.TheVariants as write
 use Rattle.et_state.specs.declared.options.Options.{Options}
@@ -36,14 +37,9 @@ use Rattle.et_top.specs.Told.{TellsVerdict}
 use Rattle.et_top.specs.Top.{verified_text}
 use Rattle.et_top.specs.Told.{Cause, File, Reading, Other, IsCause, cause_of, refusal_of, status_of_writing}
 
--- nothing of a piece was taken
-pub front_nothing : (taken : Option (List ℕ)) (piece : List ℕ) → TakesPrefix taken taken piece
-front_nothing None piece = (piece, record { prefix = []; parts = refl; taken = refl })
-front_nothing (Some xs) piece = (piece, record { prefix = []; parts = refl; taken = ap (λ ys. Some ys) (sym (append-nil xs)) })
-
 -- A HISTORY THAT WAS RUN
 
-module _ (reached : Graph → ℕ → Bool) (before after : Option (List ℕ)) (old new : ℕ) (read written : Type 0) (program : Linked) (options : Options) where
+module _ (reached : Graph → ℕ → Bool) (before after : Log) (old new : ℕ) (read written : Type 0) (program : Linked) (options : Options) where
   -- the counter allows for the visits of a history that ended so
   abbrev Counts : Ran → Type 0
   Counts ran = new ≤ old + allowed_visits reached (whole_setting program options) whole_visits_of (whole_start program) (start_records program) ran.event
@@ -84,7 +80,7 @@ module _ (reached : Graph → ℕ → Bool) (before after : Option (List ℕ)) (
   history_more status.BadEvent h = absurd h
 
 -- .. and so of a verdict
-pub verdict_more : (reached : Graph → ℕ → Bool) (before after : Option (List ℕ)) (old new : ℕ) (read written : Type 0) (program : Linked) (answer : Status) → GivesDefined reached before after old new ⊥ written (Verifies program) answer → GivesDefined reached before after old new read written (Verifies program) answer
+pub verdict_more : (reached : Graph → ℕ → Bool) (before after : Log) (old new : ℕ) (read written : Type 0) (program : Linked) (answer : Status) → GivesDefined reached before after old new ⊥ written (Verifies program) answer → GivesDefined reached before after old new read written (Verifies program) answer
 verdict_more reached before after old new read written program status.Done h = h
 verdict_more reached before after old new read written program status.Rejected h = h
 verdict_more reached before after old new read written program status.WriteFault h = h
@@ -102,7 +98,7 @@ verdict_more reached before after old new read written program status.LinkFault 
 verdict_more reached before after old new read written program status.BadEvent h = absurd h
 
 -- A LINE THAT WAS WRITTEN of a program that is verified
-pub verified_gives : (reached : Graph → ℕ → Bool) (before after : Option (List ℕ)) (old new : ℕ) (read written : Type 0) (p : Linked) (wrote : Result (Unit {0}) RunFault)
+pub verified_gives : (reached : Graph → ℕ → Bool) (before after : Log) (old new : ℕ) (read written : Type 0) (p : Linked) (wrote : Result (Unit {0}) RunFault)
     → IsVerified p → OnOk wrote (after ≡ with_more before (verified_text (verified_count p))) → OnErr wrote (TakesPrefix before after (verified_text (verified_count p))) → ((wrote ≡ Err write.Write) → written)
     → GivesDefined reached before after old new read written (Verifies p) (status_of_writing wrote)
 verified_gives reached before after old new read written p (Ok done) verified ok err rose = (verified, ok)
@@ -111,7 +107,7 @@ verified_gives reached before after old new read written p (Err write.NoMemory) 
 
 -- A TEXT THAT WAS WRITTEN
 
-pub writing_gives : (reached : Graph → ℕ → Bool) (before after : Option (List ℕ)) (old new : ℕ) (read written : Type 0) (text : (Graph → ℕ → Bool) → List ℕ) (wrote : Result (Unit {0}) RunFault)
+pub writing_gives : (reached : Graph → ℕ → Bool) (before after : Log) (old new : ℕ) (read written : Type 0) (text : (Graph → ℕ → Bool) → List ℕ) (wrote : Result (Unit {0}) RunFault)
     → OnOk wrote (after ≡ with_more before (text reached)) → OnErr wrote (TakesPrefix before after (text reached)) → ((wrote ≡ Err write.Write) → written)
     → GivesDefined reached before after old new read written (Writes text) (status_of_writing wrote)
 writing_gives reached before after old new read written text (Ok done) ok err rose = ok
@@ -119,7 +115,7 @@ writing_gives reached before after old new read written text (Err write.Write) o
 writing_gives reached before after old new read written text (Err write.NoMemory) ok err rose = err
 
 -- .. where that is what is defined
-pub text_gives : {A : Type 0} (reached : Graph → ℕ → Bool) (before after : Option (List ℕ)) (old new : ℕ) (read written : Type 0) (text : (Graph → ℕ → Bool) → A → List ℕ) (found : Result A Fault) (a : A) (d : Defined) (wrote : Result (Unit {0}) RunFault) (answer : Status)
+pub text_gives : {A : Type 0} (reached : Graph → ℕ → Bool) (before after : Log) (old new : ℕ) (read written : Type 0) (text : (Graph → ℕ → Bool) → A → List ℕ) (found : Result A Fault) (a : A) (d : Defined) (wrote : Result (Unit {0}) RunFault) (answer : Status)
     → d ≡ defined_text text found → found ≡ Ok a → answer ≡ status_of_writing wrote
     → OnOk wrote (after ≡ with_more before (text reached a)) → OnErr wrote (TakesPrefix before after (text reached a)) → ((wrote ≡ Err write.Write) → written)
     → GivesDefined reached before after old new read written d answer
@@ -129,7 +125,7 @@ text_gives reached before after old new read written text found a d wrote answer
     (writing_gives reached before after old new read written (λ test. text test a) wrote ok err rose))
 
 -- .. and of one that isn't
-pub unverified_gives : (reached : Graph → ℕ → Bool) (taken : Option (List ℕ)) (old new : ℕ) (read written : Type 0) (p : Linked) (fault : VerifyFault) (r : Refusal) (answer : Status)
+pub unverified_gives : (reached : Graph → ℕ → Bool) (taken : Log) (old new : ℕ) (read written : Type 0) (p : Linked) (fault : VerifyFault) (r : Refusal) (answer : Status)
     → Verdict p (Err fault) → TellsVerdict p fault r → answer ≡ status_of r → GivesDefined reached taken taken old new read written (Verifies p) answer
 unverified_gives reached taken old new read written p (verdict.Rejected m) r answer is told how = subst (GivesDefined reached taken taken old new read written (Verifies p)) (sym (how ∙ told.1)) (refl, (m, is))
 unverified_gives reached taken old new read written p verdict.NoMemory r answer is told how = subst (GivesDefined reached taken taken old new read written (Verifies p)) (sym (how ∙ ap status_of told)) (inl refl)
@@ -177,7 +173,7 @@ still visits (Traces program options) = refl
 still visits (Prints program options) = refl
 still visits (Benches program) = refl
 
-module _ (reached : Graph → ℕ → Bool) (taken : Option (List ℕ)) (old new : ℕ) (read written : Type 0) where
+module _ (reached : Graph → ℕ → Bool) (taken : Log) (old new : ℕ) (read written : Type 0) where
   reading_gives : (d : Defined) → IsLoaded read d → read → GivesDefined reached taken taken old new read written d status.ReadFault
   reading_gives Usage loaded h = absurd loaded
   reading_gives (Refused fault) loaded h = (refl, inr (inl (refl, h)))
@@ -190,10 +186,10 @@ module _ (reached : Graph → ℕ → Bool) (taken : Option (List ℕ)) (old new
   pub memory_gives : (d : Defined) → IsStill old new d → GivesDefined reached taken taken old new read written d status.NoMemory
   memory_gives Usage none = (refl, inr refl)
   memory_gives (Refused fault) none = (refl, inr (inr refl))
-  memory_gives (Writes text) none = front_nothing taken (text reached)
+  memory_gives (Writes text) none = none_put taken (text reached)
   memory_gives (Verifies program) none = inl refl
-  memory_gives (Traces program options) none = record { wrote = λ e end last. front_nothing taken _; visits = inl none }
-  memory_gives (Prints program options) none = record { printed = λ e end last. front_nothing taken _; visits = inl (none, refl) }
+  memory_gives (Traces program options) none = record { wrote = λ e end last. none_put taken _; visits = inl none }
+  memory_gives (Prints program options) none = record { printed = λ e end last. none_put taken _; visits = inl (none, refl) }
   memory_gives (Benches program) none = inl (refl, inl ([], inl none))
 
   file_gives : (fault : Fault) (answer : Status) → answer ≡ status_of_fault fault → GivesDefined reached taken taken old new read written (Refused fault) answer

@@ -1,9 +1,8 @@
 -- Lemmas on what is answered before a run.
-use Rattle.std.proofs.Common.{◌≡◌, ℕ, ◌+◌, List, length, take, Option, refl, ap, ◌∙◌, arith, length-append}
-use Rattle.std.proofs.lemmas.List.{length-take-le}
+use Rattle.std.proofs.Common.{◌≡◌, ℕ, List, refl, arith}
 use Rattle.et_base.specs.declared.value.End.{End}
 use Rattle.et_base.specs.declared.value.End.TheVariants as ends
-use Rattle.et_io.specs.Files.{Held}
+use Rattle.et_io.specs.Files.{Held, Reading}
 use Rattle.et_io.specs.declared.putting.RunFault.{RunFault}
 use Rattle.et_io.specs.declared.putting.RunFault.TheVariants as write
 use Rattle.et_top.specs.Refusals.{status_of}
@@ -12,6 +11,7 @@ use Rattle.et_top.specs.Top.{status_of_end}
 use Rattle.et_top.specs.Reads.{ReadsInOrder}
 use Rattle.et_top.specs.Visits.{IsBeforeRun, HasUnread}
 use Rattle.et_top.specs.declared.status.Status.TheVariants as status
+use Rattle.et_top.proofs.ReadLemmas.{reads_counted}
 
 -- a history that was run to its end is not answered so
 pub end_of_run : (end : End) → IsBeforeRun (status_of_end end) → ⊥
@@ -26,7 +26,7 @@ fault_of_run write.Write before = before
 fault_of_run write.NoMemory before = before
 
 -- where a program was read, each path was asked for
-pub none_unread : (told : Option Held) (old new paths : List (List ℕ)) → ReadsInOrder told old new paths status.Done → HasUnread old new paths → ⊥
-none_unread told old new paths reads few =
-    let many : length new ≡ length old + reads.count = ap length reads.asked ∙ (length-append old (take reads.count paths) ∙ ap (λ n. length old + n) (length-take-le reads.count paths reads.few)) in
+pub none_unread : (Agrees : Held → Type 0) (old new : List Reading) (most : ℕ) (paths : List (List ℕ)) → ReadsInOrder Agrees old new most paths status.Done → HasUnread old new paths → ⊥
+none_unread Agrees old new most paths reads few =
+    let many = reads_counted Agrees old new most paths status.Done reads in
     omega (arith, few, many, reads.whole refl)

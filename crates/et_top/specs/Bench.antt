@@ -12,6 +12,7 @@ use Rattle.et_text.specs.declared.fault.TraceFault.{TraceFault}
 use Rattle.et_text.specs.declared.fault.TraceFault.TheVariants as faults
 use Rattle.et_class.specs.Layout.{ClassOf}
 use Rattle.et_program.specs.Entries.{Linked}
+use Rattle.et_io.specs.Sink.{Mark}
 use Rattle.et_state.specs.History.{IsLastEvent, trace_of}
 use Rattle.et_state.specs.declared.options.Options.{Options}
 use Rattle.et_state.specs.declared.options.Schedule.TheVariants.{Quantum}
@@ -168,7 +169,7 @@ module _ (reached : Graph → ℕ → Bool) (program : Linked) where
 
     -- .. or it was cut off: the counter allows for the turns up to the one in which that was
     abbrev pub IsBenchCut : Type 0
-    IsBenchCut = (taken : List ℕ) × IsCut reached (whole_setting program bench_options) whole_visits_of (whole_start program) (start_records program) (Some []) (Some taken) old new
+    IsBenchCut = (taken : List Mark) × IsCut reached (whole_setting program bench_options) whole_visits_of (whole_start program) (start_records program) (Some []) (Some taken) old new
 
     -- the trace of the history that was run was read back to these lines, of which it is the text
     pub record IsReadBack (event : ℕ) (end : End) (lines : List TraceLine) : Type 0 where

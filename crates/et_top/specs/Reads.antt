@@ -1,10 +1,10 @@
 -- WHICH FILES ARE READ: those that a command names, one by one in their order, each once, and each only where those before it
--- were found good. So a read that fails is never answered in the place of an earlier file's fault.
-use Rattle.std.specs.Prelude.{◌≡◌, ℕ, ◌-◌, ◌≤◌, Bool, true, false, List, [], ◌∷◌, ◌++◌, length, take, All, Option, None, Some, Ok}
+-- were found good. So a read that fails is never answered in the place of an earlier file's fault, and none follows it.
+use Rattle.std.specs.Prelude.{◌≡◌, ℕ, ◌-◌, ◌≤◌, Bool, true, false, List, [], ◌∷◌, ◌++◌, length, map, take, All, Option, None, Some, Ok}
 use Rattle.et_class.specs.Layout.{ClassOf}
-use Rattle.et_io.specs.Files.{Held}
+use Rattle.et_io.specs.Files.{Held, Answer, Reading, is_failed}
 use Rattle.et_top.specs.Command.{Asked, Trace, Run, Assemble, Verify, Replay, Convert, Curve, Bench, Snapshot}
-use Rattle.et_top.specs.Loaded.{file_bytes, most_of_class, IsClassOf}
+use Rattle.et_top.specs.Loaded.{file_bytes, most_of_class, most_of_trace, IsClassOf}
 use Rattle.et_top.specs.declared.status.Status.{Status}
 use Rattle.et_top.specs.declared.status.Status.TheVariants as status
 
@@ -43,11 +43,40 @@ is_early status.WriteFault = false
 is_early status.Rejected = false
 is_early status.BadEvent = false
 
--- the first so many of the paths were read, in order and each once; where the files tell what they hold, each of these but
--- the last holds a class file (only `trace`, `run` and `verify` name several files); and by every answer that isn't early all were read
-pub record ReadsInOrder (told : Option Held) (old new paths : List (List ℕ)) (answer : Status) : Type 0 where
+-- the most bytes that are asked for of each file that the words name
+abbrev pub most_of : Option Asked → ℕ
+most_of None = 0
+most_of (Some (Trace options paths)) = most_of_class
+most_of (Some (Run options paths)) = most_of_class
+most_of (Some (Assemble path)) = most_of_class
+most_of (Some (Verify paths)) = most_of_class
+most_of (Some (Replay models path)) = most_of_trace
+most_of (Some (Convert path)) = most_of_trace
+most_of (Some (Curve path)) = most_of_trace
+most_of (Some (Snapshot path event)) = most_of_trace
+most_of (Some (Bench number)) = 0
+
+-- one read was made: of the file at the path, of at most so many bytes
+abbrev pub Asks : (old new : List Reading) → (path : List ℕ) → (most : ℕ) → Answer → Type 0
+Asks old new path most answer = new ≡ old ++ record { path = path; most = most; answer = answer } ∷ []
+
+-- what a read asks for
+abbrev pub asking : Reading → List ℕ × ℕ
+asking r = (r.path, r.most)
+
+-- .. of the file at a path
+abbrev pub asking_of : ℕ → List ℕ → List ℕ × ℕ
+asking_of most path = (path, most)
+
+-- the first so many of the paths were read, in order and each once, and of each at most so many bytes; a read that failed is
+-- the last one; where `Agrees` says which files agree with what was read, each of these but the last holds a class file there (only
+-- `trace`, `run` and `verify` name several files); and by every answer that isn't early all were read
+pub record ReadsInOrder (Agrees : Held → Type 0) (old new : List Reading) (most : ℕ) (paths : List (List ℕ)) (answer : Status) : Type 0 where
   pub count : ℕ
   pub few : count ≤ length paths
-  pub asked : new ≡ old ++ take count paths
-  pub good : (held : Held) → told ≡ Some held → All (HoldsClass held) (take (count - 1) paths)
+  pub made : List Reading
+  pub asked : new ≡ old ++ made
+  pub each : map asking made ≡ map (asking_of most) (take count paths)
+  pub first : All (λ r. is_failed r.answer ≡ false) (take (count - 1) made)
+  pub good : (held : Held) → Agrees held → All (HoldsClass held) (take (count - 1) paths)
   pub whole : is_early answer ≡ false → count ≡ length paths

@@ -7,7 +7,7 @@ use Rattle.et_base.specs.declared.value.End.{End}
 use Rattle.et_base.specs.declared.value.End.TheVariants as ends
 use Rattle.et_graph.specs.Graph.{Graph}
 use Rattle.et_io.specs.Files.{Held}
-use Rattle.et_io.specs.Sink.{with_more, TakesPrefix}
+use Rattle.et_io.specs.Sink.{Log, with_more, TakesPrefix}
 use Rattle.et_state.specs.declared.options.Options.{Options}
 use Rattle.et_text.specs.declared.fault.TraceFault.TheVariants as faults
 use Rattle.et_loop.specs.declared.options.Ran.{Ran}
@@ -130,7 +130,7 @@ status_of_end ends.EventLimit = status.Done
 status_of_end (ends.IllTyped thread method pc) = status.IllTyped
 status_of_end ends.ObjectLimit = status.ObjectLimit
 
-module _ (reached : Graph → ℕ → Bool) (before after : Option (List ℕ)) (old new : ℕ) where
+module _ (reached : Graph → ℕ → Bool) (before after : Log) (old new : ℕ) where
   -- the history of the program ended so, and out took its trace, no more and no less; and objects were visited no more often
   -- than the history allows, by a counter that was old and is new
   pub record WritesHistory (program : Linked) (options : Options) (answer : Status) : Type 0 where

@@ -1,5 +1,6 @@
 -- WHERE OBJECTS ARE VISITED: only in the run of a program, for its trace or for what it prints, and in that of a bench.
 use Rattle.std.specs.Prelude.{ℕ, ◌+◌, ◌<◌, List, length, Option, Some}
+use Rattle.et_io.specs.Files.{Reading}
 use Rattle.et_top.specs.Command.{Asked, Trace, Run, Bench}
 use Rattle.et_top.specs.Top.{Defined, Usage, Refused, Writes, Verifies, Traces, Prints, Benches}
 use Rattle.et_top.specs.declared.status.Status.{Status}
@@ -36,6 +37,6 @@ IsNoTrace (Refused fault) = Unit {0}
 IsNoTrace (Writes text) = Unit {0}
 IsNoTrace (Verifies program) = Unit {0}
 
--- one of these paths was not asked for; old and new are the paths that were asked for before and after
-abbrev pub HasUnread : (old new paths : List (List ℕ)) → Type 0
+-- one of these paths was not asked for; old and new are the reads that were made before and after
+abbrev pub HasUnread : (old new : List Reading) → (paths : List (List ℕ)) → Type 0
 HasUnread old new paths = length new < length old + length paths

@@ -227,9 +227,10 @@ pub fn bench<O: Sink, E: Sink, L: Ledger>(
 /// Writes the summary of `bench` for the listing with these numbers: it is assembled, read, linked and run with a flush
 /// each 100,000 events, a quantum of 100 and at most 1,000,000,000 events into memory; the trace is read back, and
 /// replayed by a mark-sweep heap. The answer is that of the history's end. A fault of the listing, its class or its
-/// linking, or of the trace, is answered as it is for a file.
+/// linking, or of the trace, is answered as it is for a file. After `WriteFault` and `NoMemory` out took a prefix of the two
+/// lines, or nothing.
 ///
-/// Bytes are put only once both lines are there; after `WriteFault` and `NoMemory` out took a prefix of them.
+/// As it is written, and by no clause: bytes are put only once both lines are there.
 pub fn bench_run<O: Sink, L: Ledger>(
     alloc: Global,
     number: u64,

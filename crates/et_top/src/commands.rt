@@ -1,12 +1,13 @@
 //! The commands.
 ghost use Rattle.std.specs.Prelude.{◌≡◌, ◌<◌, ◌++◌, ◌∷◌, ℕ, Bool, List, [], Some, All, length, map, string_bytes};
 ghost use Rattle.et_io.specs.Faults.{Rose, count_after};
-ghost use Rattle.et_io.specs.Files.{Held};
+ghost use Rattle.et_io.specs.Files.{Held, Answer};
 ghost use Rattle.et_graph.specs.Graph.{Graph, Decides};
 ghost use Rattle.et_state.specs.Options.{AreOptions};
 ghost use Rattle.et_replay.specs.declared.model.Kind.{Kind};
 ghost use Rattle.et_top.specs.Command as words;
-ghost use Rattle.et_top.specs.Reads.{ReadsInOrder};
+ghost use Rattle.et_top.specs.Loaded.{most_of_class, most_of_trace};
+ghost use Rattle.et_top.specs.Reads.{ReadsInOrder, Asks};
 ghost use Rattle.et_top.specs.Status.{is_read_status, is_write_status};
 ghost use Rattle.et_top.specs.Top.{Defined, IsAskedDefined, GivesDefined};
 ghost use Rattle.et_top.specs.Visits.{IsBeforeRun, IsNoTrace, HasUnread};
@@ -42,9 +43,9 @@ pub fn trace<F: Files, O: Sink, E: Sink, L: Ledger>(
 ) -> Status
     requires options { AreOptions options.now }
     requires some { 0 < length paths.now }
-    ensures gives { (held : Held) →
-        F.holds files.old ≡ Some held → (kinds : List Kind) (d : Defined) →
-        IsAskedDefined kinds (Some (words.Trace options.now (map string_bytes paths.now))) held d →
+    ensures gives { (held : Held) → F.agrees files.new (F.asked files.old) held →
+        (kinds : List Kind) (d : Defined) → IsAskedDefined kinds
+        (Some (words.Trace options.now (map string_bytes paths.now))) held d →
         (reached : Graph → ℕ → Bool) → Decides reached → GivesDefined reached (O.taken out.old)
         (O.taken out.new) visits.old visits.new (Rose (F.faults files.old) (F.faults files.new))
         (Rose (O.faults out.old) (O.faults out.new)) d result }
@@ -53,13 +54,13 @@ pub fn trace<F: Files, O: Sink, E: Sink, L: Ledger>(
         ≡ count_after (is_read_status result) (F.faults files.old) }
     ensures write_fault { O.faults out.new
         ≡ count_after (is_write_status result) (O.faults out.old) }
-    ensures reads { ReadsInOrder (F.holds files.old) (F.asked files.old) (F.asked files.new)
-        (map string_bytes paths.now) result }
+    ensures reads { ReadsInOrder (F.agrees files.new (F.asked files.old)) (F.asked files.old)
+        (F.asked files.new) most_of_class (map string_bytes paths.now) result }
     ensures no_visits { IsBeforeRun result → visits.new ≡ visits.old }
-    ensures no_trace { (held : Held) → F.holds files.old ≡ Some held → (kinds : List Kind)
-        (d : Defined) →
-        IsAskedDefined kinds (Some (words.Trace options.now (map string_bytes paths.now))) held d →
-        IsNoTrace d → visits.new ≡ visits.old }
+    ensures no_trace { (held : Held) → F.agrees files.new (F.asked files.old) held →
+        (kinds : List Kind) (d : Defined) → IsAskedDefined kinds
+        (Some (words.Trace options.now (map string_bytes paths.now))) held d → IsNoTrace d →
+        visits.new ≡ visits.old }
     ensures unread { HasUnread (F.asked files.old) (F.asked files.new)
         (map string_bytes paths.now) → visits.new ≡ visits.old }
 {
@@ -81,9 +82,9 @@ pub fn run<F: Files, O: Sink, E: Sink, L: Ledger>(
 ) -> Status
     requires options { AreOptions options.now }
     requires some { 0 < length paths.now }
-    ensures gives { (held : Held) →
-        F.holds files.old ≡ Some held → (kinds : List Kind) (d : Defined) →
-        IsAskedDefined kinds (Some (words.Run options.now (map string_bytes paths.now))) held d →
+    ensures gives { (held : Held) → F.agrees files.new (F.asked files.old) held →
+        (kinds : List Kind) (d : Defined) → IsAskedDefined kinds
+        (Some (words.Run options.now (map string_bytes paths.now))) held d →
         (reached : Graph → ℕ → Bool) → Decides reached → GivesDefined reached (O.taken out.old)
         (O.taken out.new) visits.old visits.new (Rose (F.faults files.old) (F.faults files.new))
         (Rose (O.faults out.old) (O.faults out.new)) d result }
@@ -92,13 +93,13 @@ pub fn run<F: Files, O: Sink, E: Sink, L: Ledger>(
         ≡ count_after (is_read_status result) (F.faults files.old) }
     ensures write_fault { O.faults out.new
         ≡ count_after (is_write_status result) (O.faults out.old) }
-    ensures reads { ReadsInOrder (F.holds files.old) (F.asked files.old) (F.asked files.new)
-        (map string_bytes paths.now) result }
+    ensures reads { ReadsInOrder (F.agrees files.new (F.asked files.old)) (F.asked files.old)
+        (F.asked files.new) most_of_class (map string_bytes paths.now) result }
     ensures no_visits { IsBeforeRun result → visits.new ≡ visits.old }
-    ensures no_trace { (held : Held) → F.holds files.old ≡ Some held → (kinds : List Kind)
-        (d : Defined) →
-        IsAskedDefined kinds (Some (words.Run options.now (map string_bytes paths.now))) held d →
-        IsNoTrace d → visits.new ≡ visits.old }
+    ensures no_trace { (held : Held) → F.agrees files.new (F.asked files.old) held →
+        (kinds : List Kind) (d : Defined) → IsAskedDefined kinds
+        (Some (words.Run options.now (map string_bytes paths.now))) held d → IsNoTrace d →
+        visits.new ≡ visits.old }
     ensures unread { HasUnread (F.asked files.old) (F.asked files.new)
         (map string_bytes paths.now) → visits.new ≡ visits.old }
 {
@@ -116,17 +117,19 @@ pub fn assemble<F: Files, O: Sink, E: Sink>(
     out: &mut O,
     err: &mut E,
 ) -> Status
-    ensures gives { (held : Held) → F.holds files.old ≡ Some held → (kinds : List Kind)
-        (d : Defined) → IsAskedDefined kinds (Some (words.Assemble path.now)) held d →
-        (reached : Graph → ℕ → Bool) → Decides reached → (old new : ℕ) → GivesDefined reached
-        (O.taken out.old) (O.taken out.new) old new (Rose (F.faults files.old) (F.faults files.new))
+    ensures gives { (held : Held) → F.agrees files.new (F.asked files.old) held →
+        (kinds : List Kind) (d : Defined) → IsAskedDefined kinds (Some (words.Assemble path.now))
+        held d → (reached : Graph → ℕ → Bool) → Decides reached → (old new : ℕ) → GivesDefined
+        reached (O.taken out.old) (O.taken out.new) old new
+        (Rose (F.faults files.old) (F.faults files.new))
         (Rose (O.faults out.old) (O.faults out.new)) d result }
     ensures usage { result ≡ Status.Usage → ⊥ }
     ensures read_fault { F.faults files.new
         ≡ count_after (is_read_status result) (F.faults files.old) }
     ensures write_fault { O.faults out.new
         ≡ count_after (is_write_status result) (O.faults out.old) }
-    ensures asked { F.asked files.new ≡ F.asked files.old ++ path.now ∷ [] }
+    ensures asked { (answer : Answer) × Asks (F.asked files.old) (F.asked files.new) path.now
+        most_of_class answer }
 {
     match load_listing(alloc, path, files) {
         Ok(bytes) => written(alloc, put_all(out, bytes.as_slice()), err),
@@ -143,19 +146,19 @@ pub fn verify<F: Files, O: Sink, E: Sink>(
     err: &mut E,
 ) -> Status
     requires some { 0 < length paths.now }
-    ensures gives { (held : Held) → F.holds files.old ≡ Some held → (kinds : List Kind)
-        (d : Defined) →
-        IsAskedDefined kinds (Some (words.Verify (map string_bytes paths.now))) held d →
-        (reached : Graph → ℕ → Bool) → Decides reached → (old new : ℕ) → GivesDefined reached
-        (O.taken out.old) (O.taken out.new) old new (Rose (F.faults files.old) (F.faults files.new))
+    ensures gives { (held : Held) → F.agrees files.new (F.asked files.old) held →
+        (kinds : List Kind) (d : Defined) → IsAskedDefined kinds
+        (Some (words.Verify (map string_bytes paths.now))) held d → (reached : Graph → ℕ → Bool) →
+        Decides reached → (old new : ℕ) → GivesDefined reached (O.taken out.old) (O.taken out.new)
+        old new (Rose (F.faults files.old) (F.faults files.new))
         (Rose (O.faults out.old) (O.faults out.new)) d result }
     ensures usage { result ≡ Status.Usage → ⊥ }
     ensures read_fault { F.faults files.new
         ≡ count_after (is_read_status result) (F.faults files.old) }
     ensures write_fault { O.faults out.new
         ≡ count_after (is_write_status result) (O.faults out.old) }
-    ensures reads { ReadsInOrder (F.holds files.old) (F.asked files.old) (F.asked files.new)
-        (map string_bytes paths.now) result }
+    ensures reads { ReadsInOrder (F.agrees files.new (F.asked files.old)) (F.asked files.old)
+        (F.asked files.new) most_of_class (map string_bytes paths.now) result }
 {
     match load_program(alloc, paths, files) {
         Ok(program) => tell_verdict(alloc, &program, out, err),
@@ -171,17 +174,19 @@ pub fn convert<F: Files, O: Sink, E: Sink>(
     out: &mut O,
     err: &mut E,
 ) -> Status
-    ensures gives { (held : Held) → F.holds files.old ≡ Some held → (kinds : List Kind)
-        (d : Defined) → IsAskedDefined kinds (Some (words.Convert path.now)) held d →
-        (reached : Graph → ℕ → Bool) → Decides reached → (old new : ℕ) → GivesDefined reached
-        (O.taken out.old) (O.taken out.new) old new (Rose (F.faults files.old) (F.faults files.new))
+    ensures gives { (held : Held) → F.agrees files.new (F.asked files.old) held →
+        (kinds : List Kind) (d : Defined) → IsAskedDefined kinds (Some (words.Convert path.now))
+        held d → (reached : Graph → ℕ → Bool) → Decides reached → (old new : ℕ) → GivesDefined
+        reached (O.taken out.old) (O.taken out.new) old new
+        (Rose (F.faults files.old) (F.faults files.new))
         (Rose (O.faults out.old) (O.faults out.new)) d result }
     ensures usage { result ≡ Status.Usage → ⊥ }
     ensures read_fault { F.faults files.new
         ≡ count_after (is_read_status result) (F.faults files.old) }
     ensures write_fault { O.faults out.new
         ≡ count_after (is_write_status result) (O.faults out.old) }
-    ensures asked { F.asked files.new ≡ F.asked files.old ++ path.now ∷ [] }
+    ensures asked { (answer : Answer) × Asks (F.asked files.old) (F.asked files.new) path.now
+        most_of_trace answer }
 {
     match load_bytes(alloc, path, files) {
         Ok(bytes) => written(alloc, convert_bytes(alloc, &bytes, out), err),
@@ -197,9 +202,9 @@ pub fn curve<F: Files, O: Sink, E: Sink>(
     out: &mut O,
     err: &mut E,
 ) -> Status
-    ensures gives { (held : Held) → F.holds files.old ≡ Some held → (kinds : List Kind)
-        (d : Defined) → IsAskedDefined kinds (Some (words.Curve path.now)) held d →
-        (reached : Graph → ℕ → Bool) → Decides reached → (old new : ℕ) → GivesDefined reached
+    ensures gives { (held : Held) → F.agrees files.new (F.asked files.old) held →
+        (kinds : List Kind) (d : Defined) → IsAskedDefined kinds (Some (words.Curve path.now)) held
+        d → (reached : Graph → ℕ → Bool) → Decides reached → (old new : ℕ) → GivesDefined reached
         (O.taken out.old) (O.taken out.new) old new (Rose (F.faults files.old) (F.faults files.new))
         (Rose (O.faults out.old) (O.faults out.new)) d result }
     ensures usage { result ≡ Status.Usage → ⊥ }
@@ -207,7 +212,8 @@ pub fn curve<F: Files, O: Sink, E: Sink>(
         ≡ count_after (is_read_status result) (F.faults files.old) }
     ensures write_fault { O.faults out.new
         ≡ count_after (is_write_status result) (O.faults out.old) }
-    ensures asked { F.asked files.new ≡ F.asked files.old ++ path.now ∷ [] }
+    ensures asked { (answer : Answer) × Asks (F.asked files.old) (F.asked files.new) path.now
+        most_of_trace answer }
 {
     match follow_file(alloc, path, files, Curve::begin(alloc)) {
         Ok(curve) => written(alloc, curve.put(alloc, out), err),
@@ -224,17 +230,19 @@ pub fn snapshot<F: Files, O: Sink, E: Sink>(
     out: &mut O,
     err: &mut E,
 ) -> Status
-    ensures gives { (held : Held) → F.holds files.old ≡ Some held → (kinds : List Kind)
-        (d : Defined) → IsAskedDefined kinds (Some (words.Snapshot path.now event)) held d →
-        (reached : Graph → ℕ → Bool) → Decides reached → (old new : ℕ) → GivesDefined reached
-        (O.taken out.old) (O.taken out.new) old new (Rose (F.faults files.old) (F.faults files.new))
+    ensures gives { (held : Held) → F.agrees files.new (F.asked files.old) held →
+        (kinds : List Kind) (d : Defined) → IsAskedDefined kinds
+        (Some (words.Snapshot path.now event)) held d → (reached : Graph → ℕ → Bool) → Decides
+        reached → (old new : ℕ) → GivesDefined reached (O.taken out.old) (O.taken out.new) old new
+        (Rose (F.faults files.old) (F.faults files.new))
         (Rose (O.faults out.old) (O.faults out.new)) d result }
     ensures usage { result ≡ Status.Usage → ⊥ }
     ensures read_fault { F.faults files.new
         ≡ count_after (is_read_status result) (F.faults files.old) }
     ensures write_fault { O.faults out.new
         ≡ count_after (is_write_status result) (O.faults out.old) }
-    ensures asked { F.asked files.new ≡ F.asked files.old ++ path.now ∷ [] }
+    ensures asked { (answer : Answer) × Asks (F.asked files.old) (F.asked files.new) path.now
+        most_of_trace answer }
 {
     match load_trace_to(alloc, path, event, files) {
         Ok(trace) => written(alloc, snapshot_lines(alloc, &trace, event, out), err),
@@ -253,17 +261,19 @@ pub fn replay<F: Files, O: Sink, E: Sink>(
     models: Vec<Box<dyn HeapModel>>,
 ) -> Status
     requires new { All (λ b. is_new b) models.items }
-    ensures gives { (held : Held) → F.holds files.old ≡ Some held → (d : Defined) → IsAskedDefined
-        (map (λ b. kind_of b) models.items) (Some (words.Replay asked.now path.now)) held d →
-        (reached : Graph → ℕ → Bool) → Decides reached → (old new : ℕ) → GivesDefined reached
-        (O.taken out.old) (O.taken out.new) old new (Rose (F.faults files.old) (F.faults files.new))
+    ensures gives { (held : Held) → F.agrees files.new (F.asked files.old) held → (d : Defined) →
+        IsAskedDefined (map (λ b. kind_of b) models.items) (Some (words.Replay asked.now path.now))
+        held d → (reached : Graph → ℕ → Bool) → Decides reached → (old new : ℕ) → GivesDefined
+        reached (O.taken out.old) (O.taken out.new) old new
+        (Rose (F.faults files.old) (F.faults files.new))
         (Rose (O.faults out.old) (O.faults out.new)) d result }
     ensures usage { result ≡ Status.Usage → ⊥ }
     ensures read_fault { F.faults files.new
         ≡ count_after (is_read_status result) (F.faults files.old) }
     ensures write_fault { O.faults out.new
         ≡ count_after (is_write_status result) (O.faults out.old) }
-    ensures asked { F.asked files.new ≡ F.asked files.old ++ path.now ∷ [] }
+    ensures asked { (answer : Answer) × Asks (F.asked files.old) (F.asked files.new) path.now
+        most_of_trace answer }
 {
     match follow_file(alloc, path, files, Happenings::begin(alloc)) {
         Ok(happenings) => written(

@@ -3,11 +3,12 @@ ghost use Rattle.std.specs.Prelude.{◌≡◌, ◌≤◌, ◌<◌, ◌^◌, ◌+
 ghost use Rattle.et_base.specs.declared.line.TraceLine.{TraceLine};
 ghost use Rattle.et_convert.specs.Spellings.{SpellsTrace};
 ghost use Rattle.et_io.specs.Faults.{Rose, count_after};
-ghost use Rattle.et_io.specs.Files.{Held};
+ghost use Rattle.et_io.specs.Files.{Held, Answer};
 ghost use Rattle.et_text.specs.Ranges.{HasShortNames};
 ghost use Rattle.et_top.specs.Faults.{Fault};
 ghost use Rattle.et_top.specs.Following.{FollowsBytes, FollowsTrace, TellsOf};
 ghost use Rattle.et_top.specs.Loaded.{file_bytes, most_of_trace, IsTraceOf};
+ghost use Rattle.et_top.specs.Reads.{Asks};
 ghost use Rattle.et_top.specs.Told.{IsFileRefusal, IsOfBytes, cause_of, is_reading};
 
 use crate::files::read_file;
@@ -55,14 +56,15 @@ pub fn follow_file<'a, F: Follower, S: Files>(
     follower: F,
 ) -> Result<F, Refusal<'a>>
     requires new { F.follows follower [] }
-    ensures tells { (held : Held) → S.holds files.old ≡ Some held → (trace : Result
-        (List TraceLine) Fault) → IsTraceOf (file_bytes most_of_trace (held path.now)) trace →
-        TellsOf (Rose (S.faults files.old) (S.faults files.new)) (FollowsTrace F.follows)
-        trace result }
+    ensures tells { (held : Held) → S.agrees files.new (S.asked files.old) held →
+        (trace : Result (List TraceLine) Fault) → IsTraceOf
+        (file_bytes most_of_trace (held path.now)) trace → TellsOf
+        (Rose (S.faults files.old) (S.faults files.new)) (FollowsTrace F.follows) trace result }
     ensures trace { IfOk result (λ follower. (lines : List TraceLine)
         × FollowsTrace F.follows lines follower) }
     ensures faults { S.faults files.new ≡ count_after (is_reading result) (S.faults files.old) }
-    ensures asked { S.asked files.new ≡ S.asked files.old ++ path.now ∷ [] }
+    ensures asked { (answer : Answer) × Asks (S.asked files.old) (S.asked files.new) path.now
+        most_of_trace answer }
     ensures file { IfErr result (λ refusal. IsFileRefusal (cause_of refusal)) }
     ensures never_falls { S.faults files.old ≤ S.faults files.new }
 {
@@ -95,14 +97,16 @@ pub fn load_bytes<'a, S: Files>(
     path: &'a str,
     files: &mut S,
 ) -> Result<Vec<u8>, Refusal<'a>>
-    ensures tells { (held : Held) → S.holds files.old ≡ Some held → (trace : Result
-        (List TraceLine) Fault) → IsTraceOf (file_bytes most_of_trace (held path.now)) trace →
-        TellsOf (Rose (S.faults files.old) (S.faults files.new))
+    ensures tells { (held : Held) → S.agrees files.new (S.asked files.old) held →
+        (trace : Result (List TraceLine) Fault) → IsTraceOf
+        (file_bytes most_of_trace (held path.now)) trace → TellsOf
+        (Rose (S.faults files.old) (S.faults files.new))
         (λ lines bytes. SpellsTrace lines bytes.items) trace result }
     ensures trace { IfOk result (λ bytes. (lines : List TraceLine)
         × SpellsTrace lines bytes.items × All HasShortNames lines) }
     ensures faults { S.faults files.new ≡ count_after (is_reading result) (S.faults files.old) }
-    ensures asked { S.asked files.new ≡ S.asked files.old ++ path.now ∷ [] }
+    ensures asked { (answer : Answer) × Asks (S.asked files.old) (S.asked files.new) path.now
+        most_of_trace answer }
     ensures file { IfErr result (λ refusal. IsFileRefusal (cause_of refusal)) }
     ensures never_falls { S.faults files.old ≤ S.faults files.new }
 {

@@ -1,13 +1,13 @@
 //! The classes of the files that a command names.
 ghost use Rattle.std.specs.Prelude.{◌≡◌, ◌≤◌, ◌++◌, ◌∷◌, [], true, List, Result, Ok, Some, All, IfOk, IfErr, OnOk, length, map, string_bytes};
 ghost use Rattle.et_io.specs.Faults.{Rose, count_after};
-ghost use Rattle.et_io.specs.Files.{Held};
+ghost use Rattle.et_io.specs.Files.{Held, Answer, Reading, is_failed};
 ghost use Rattle.et_class.specs.Layout.{ClassOf};
 ghost use Rattle.et_class.specs.Classes.{IsClassFile, class_of, HasItsParts};
 ghost use Rattle.et_top.specs.Faults.{Fault};
 ghost use Rattle.et_link.specs.Declaring.{HasItsFile};
 ghost use Rattle.et_top.specs.Loaded.{file_bytes, most_of_class, IsClassOf, AreClassesOf};
-ghost use Rattle.et_top.specs.Reads.{ReadsInOrder, HoldsClass, is_early};
+ghost use Rattle.et_top.specs.Reads.{ReadsInOrder, HoldsClass, is_early, Asks};
 ghost use Rattle.et_top.specs.Refusals.{status_of};
 ghost use Rattle.et_top.specs.Told.{Tells, IsFileRefusal, IsOfBytes, cause_of, classes_read, is_reading, status_of_result};
 
@@ -46,20 +46,21 @@ fn load_class<'a, F: Files>(
     path: &'a str,
     files: &mut F,
 ) -> Result<ClassFile, Refusal<'a>>
-    ensures tells { (held : Held) → F.holds files.old ≡ Some held →
-        (class : Result ClassOf Fault) → IsClassOf (file_bytes most_of_class (held path.now)) class
-        →
-        Tells (Rose (F.faults files.old) (F.faults files.new)) class_of class result }
+    ensures tells { (first : List Reading) (held : Held) → length first ≤ length (F.asked files.old) →
+        F.agrees files.new first held → (class : Result ClassOf Fault) → IsClassOf (file_bytes most_of_class (held path.now))
+        class → Tells (Rose (F.faults files.old) (F.faults files.new)) class_of class result }
     ensures parts { IfOk result HasItsParts }
     ensures of_file { IfOk result HasItsFile }
     ensures faults { F.faults files.new ≡ count_after (is_reading result) (F.faults files.old) }
-    ensures asked { F.asked files.new ≡ F.asked files.old ++ path.now ∷ [] }
+    ensures asked { (answer : Answer) × Asks (F.asked files.old) (F.asked files.new) path.now
+        most_of_class answer × (is_failed answer ≡ is_reading result) }
     ensures early { IfErr result (λ refusal. is_early (status_of refusal) ≡ true) }
-    ensures good { (held : Held) →
-        F.holds files.old ≡ Some held → OnOk result (HoldsClass held path.now) }
+    ensures good { (first : List Reading) (held : Held) → length first ≤ length (F.asked files.old) →
+        F.agrees files.new first held → OnOk result (HoldsClass held path.now) }
     ensures file { IfErr result (λ refusal. IsFileRefusal (cause_of refusal)) }
     ensures never_falls { F.faults files.old ≤ F.faults files.new }
-    ensures kept { F.holds files.new ≡ F.holds files.old }
+    ensures kept { (first : List Reading) (held : Held) → F.agrees files.new first held →
+        F.agrees files.old first held }
 {
     match read_file(alloc, path, MOST_CLASS_BYTES, files) {
         Ok(bytes) => class_in(alloc, path, &bytes),
@@ -73,15 +74,16 @@ pub fn load_classes<'a, F: Files>(
     paths: &'a [String],
     files: &mut F,
 ) -> Result<Vec<ClassFile>, Refusal<'a>>
-    ensures tells { (held : Held) → F.holds files.old ≡ Some held → (classes : Result
-        (List ClassOf) Fault) → AreClassesOf (map held (map string_bytes paths.now)) classes →
-        Tells (Rose (F.faults files.old) (F.faults files.new)) classes_read classes result }
+    ensures tells { (held : Held) → F.agrees files.new (F.asked files.old) held →
+        (classes : Result (List ClassOf) Fault) → AreClassesOf
+        (map held (map string_bytes paths.now)) classes → Tells
+        (Rose (F.faults files.old) (F.faults files.new)) classes_read classes result }
     ensures parts { IfOk result (λ classes. All HasItsParts classes.items) }
     ensures of_files { IfOk result (λ classes. All HasItsFile classes.items) }
     ensures count { IfOk result (λ classes. length classes.items ≡ length paths.now) }
     ensures faults { F.faults files.new ≡ count_after (is_reading result) (F.faults files.old) }
-    ensures reads { ReadsInOrder (F.holds files.old) (F.asked files.old) (F.asked files.new)
-        (map string_bytes paths.now) (status_of_result result) }
+    ensures reads { ReadsInOrder (F.agrees files.new (F.asked files.old)) (F.asked files.old)
+        (F.asked files.new) most_of_class (map string_bytes paths.now) (status_of_result result) }
     ensures file { IfErr result (λ refusal. IsFileRefusal (cause_of refusal)) }
     ensures never_falls { F.faults files.old ≤ F.faults files.new }
 {

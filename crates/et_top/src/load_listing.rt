@@ -1,9 +1,10 @@
 //! The class file of the listing that a command names.
 ghost use Rattle.std.specs.Prelude.{◌≡◌, ◌≤◌, ◌++◌, ◌∷◌, [], ℕ, List, Result, Ok, Some, IfErr};
 ghost use Rattle.et_io.specs.Faults.{Rose, count_after};
-ghost use Rattle.et_io.specs.Files.{Held};
+ghost use Rattle.et_io.specs.Files.{Held, Answer};
 ghost use Rattle.et_top.specs.Faults.{Fault};
 ghost use Rattle.et_top.specs.Loaded.{file_bytes, most_of_class, IsListingOf};
+ghost use Rattle.et_top.specs.Reads.{Asks};
 ghost use Rattle.et_top.specs.Told.{Tells, IsFileRefusal, IsOfBytes, cause_of, is_reading};
 
 use crate::files::read_file;
@@ -37,11 +38,13 @@ pub fn load_listing<'a, F: Files>(
     path: &'a str,
     files: &mut F,
 ) -> Result<Vec<u8>, Refusal<'a>>
-    ensures tells { (held : Held) → F.holds files.old ≡ Some held → (class : Result
-        (List ℕ) Fault) → IsListingOf (file_bytes most_of_class (held path.now)) class →
-        Tells (Rose (F.faults files.old) (F.faults files.new)) (λ bytes. bytes.items) class result }
+    ensures tells { (held : Held) → F.agrees files.new (F.asked files.old) held →
+        (class : Result (List ℕ) Fault) → IsListingOf (file_bytes most_of_class (held path.now))
+        class → Tells (Rose (F.faults files.old) (F.faults files.new)) (λ bytes. bytes.items) class
+        result }
     ensures faults { F.faults files.new ≡ count_after (is_reading result) (F.faults files.old) }
-    ensures asked { F.asked files.new ≡ F.asked files.old ++ path.now ∷ [] }
+    ensures asked { (answer : Answer) × Asks (F.asked files.old) (F.asked files.new) path.now
+        most_of_class answer }
     ensures file { IfErr result (λ refusal. IsFileRefusal (cause_of refusal)) }
     ensures never_falls { F.faults files.old ≤ F.faults files.new }
 {

@@ -2,10 +2,11 @@
 ghost use Rattle.std.specs.Prelude.{◌≡◌, ◌≤◌, ◌<◌, ◌^◌, ◌++◌, ◌∷◌, [], List, Result, Ok, Some, All, length, IfOk, IfErr};
 ghost use Rattle.et_base.specs.declared.line.TraceLine.{TraceLine};
 ghost use Rattle.et_io.specs.Faults.{Rose, count_after};
-ghost use Rattle.et_io.specs.Files.{Held};
+ghost use Rattle.et_io.specs.Files.{Held, Answer};
 ghost use Rattle.et_text.specs.Ranges.{HasShortNames};
 ghost use Rattle.et_top.specs.Faults.{Fault};
 ghost use Rattle.et_top.specs.Loaded.{file_bytes, most_of_trace, IsTraceOf};
+ghost use Rattle.et_top.specs.Reads.{Asks};
 ghost use Rattle.et_top.specs.Top.{last_event, reaching};
 ghost use Rattle.et_top.specs.Told.{Tells, IsFileRefusal, IsOfBytes, cause_of, is_reading};
 
@@ -49,12 +50,14 @@ pub fn load_trace<'a, F: Files>(
     path: &'a str,
     files: &mut F,
 ) -> Result<Trace, Refusal<'a>>
-    ensures tells { (held : Held) → F.holds files.old ≡ Some held → (trace : Result
-        (List TraceLine) Fault) → IsTraceOf (file_bytes most_of_trace (held path.now)) trace →
-        Tells (Rose (F.faults files.old) (F.faults files.new)) (λ lines. lines) trace result }
+    ensures tells { (held : Held) → F.agrees files.new (F.asked files.old) held →
+        (trace : Result (List TraceLine) Fault) → IsTraceOf
+        (file_bytes most_of_trace (held path.now)) trace → Tells
+        (Rose (F.faults files.old) (F.faults files.new)) (λ lines. lines) trace result }
     ensures short { IfOk result (λ trace. All HasShortNames trace) }
     ensures faults { F.faults files.new ≡ count_after (is_reading result) (F.faults files.old) }
-    ensures asked { F.asked files.new ≡ F.asked files.old ++ path.now ∷ [] }
+    ensures asked { (answer : Answer) × Asks (F.asked files.old) (F.asked files.new) path.now
+        most_of_trace answer }
     ensures file { IfErr result (λ refusal. IsFileRefusal (cause_of refusal)) }
     ensures never_falls { F.faults files.old ≤ F.faults files.new }
 {
@@ -81,12 +84,14 @@ pub fn load_trace_to<'a, F: Files>(
     event: u64,
     files: &mut F,
 ) -> Result<Trace, Refusal<'a>>
-    ensures tells { (held : Held) → F.holds files.old ≡ Some held → (trace : Result
-        (List TraceLine) Fault) → IsTraceOf (file_bytes most_of_trace (held path.now)) trace →
-        Tells (Rose (F.faults files.old) (F.faults files.new)) (λ lines. lines)
-        (reaching event trace) result }
+    ensures tells { (held : Held) → F.agrees files.new (F.asked files.old) held →
+        (trace : Result (List TraceLine) Fault) → IsTraceOf
+        (file_bytes most_of_trace (held path.now)) trace → Tells
+        (Rose (F.faults files.old) (F.faults files.new)) (λ lines. lines) (reaching event trace)
+        result }
     ensures faults { F.faults files.new ≡ count_after (is_reading result) (F.faults files.old) }
-    ensures asked { F.asked files.new ≡ F.asked files.old ++ path.now ∷ [] }
+    ensures asked { (answer : Answer) × Asks (F.asked files.old) (F.asked files.new) path.now
+        most_of_trace answer }
     ensures file { IfErr result (λ refusal. IsFileRefusal (cause_of refusal)) }
 {
     match load_trace(alloc, path, files) {

@@ -1,13 +1,14 @@
 //! What a process does: its words, the top call with the four models and a counter of its own, and its output handed
 //! on.
-ghost use Rattle.std.specs.Prelude.{◌≡◌, ◌⊎◌, ◌<◌, ℕ, Bool, Some, None, IsTrue, IfOk, IfErr, OnErr, false, map, drop, string_bytes};
+ghost use Rattle.std.specs.Prelude.{◌≡◌, ◌⊎◌, ◌<◌, ℕ, Bool, Some, None, IsTrue, IfOk, IfErr, OnErr, false, map, drop, option_map, string_bytes};
 ghost use Rattle.std.specs.Vec.Iter.{into_iter_items};
 ghost use Rattle.et_io.specs.Faults.{Rose, count_after};
 ghost use Rattle.et_io.specs.Files.{Held};
+ghost use Rattle.et_io.specs.Sink.{taken_bytes};
 ghost use Rattle.et_graph.specs.Graph.{Graph, Decides};
 ghost use Rattle.et_top.specs.Command.{command};
 ghost use Rattle.et_top.specs.Process.{model_kinds, status_of_words, EndsAs};
-ghost use Rattle.et_top.specs.Reads.{ReadsInOrder, paths_of};
+ghost use Rattle.et_top.specs.Reads.{ReadsInOrder, paths_of, most_of};
 ghost use Rattle.et_top.specs.Status.{is_read_status, is_write_status, is_whole};
 ghost use Rattle.et_top.specs.Top.{Defined, IsDefined, GivesDefined};
 
@@ -68,11 +69,12 @@ fn with_models<F: Files, O: Sink, E: Sink, L: Ledger>(
     requires name { blank.name ≡ L.name }
     requires parts { blank.parts ≡ L.parts }
     requires counts { 0 < L.parts }
-    ensures answers { IfOk result (λ status. (held : Held) → F.holds files.old ≡ Some held →
-        (d : Defined) → IsDefined model_kinds (map string_bytes words.now) held d →
+    ensures answers { IfOk result (λ status. (held : Held) → F.agrees files.new (F.asked files.old)
+        held → (d : Defined) → IsDefined model_kinds (map string_bytes words.now) held d →
         (reached : Graph → ℕ → Bool) → Decides reached → (visits : ℕ) × GivesDefined reached
-        (O.taken out.old) (O.taken out.new) 0 visits (Rose (F.faults files.old)
-        (F.faults files.new)) (Rose (O.faults out.old) (O.faults out.new)) d status) }
+        (O.taken out.old) (O.taken out.new) 0 visits
+        (Rose (F.faults files.old) (F.faults files.new))
+        (Rose (O.faults out.old) (O.faults out.new)) d status) }
     ensures usage { IfOk result
         (λ status. status ≡ Status.Usage → command (map string_bytes words.now) ≡ None) }
     ensures no_command { IfOk result (λ status. command (map string_bytes words.now) ≡ None →
@@ -81,8 +83,9 @@ fn with_models<F: Files, O: Sink, E: Sink, L: Ledger>(
         ≡ count_after (is_read_status status) (F.faults files.old)) }
     ensures write_fault { IfOk result (λ status. O.faults out.new
         ≡ count_after (is_write_status status) (O.faults out.old)) }
-    ensures reads { IfOk result (λ status. ReadsInOrder (F.holds files.old) (F.asked files.old)
-        (F.asked files.new) (paths_of (command (map string_bytes words.now))) status) }
+    ensures reads { IfOk result (λ status. ReadsInOrder (F.agrees files.new (F.asked files.old))
+        (F.asked files.old) (F.asked files.new) (most_of (command (map string_bytes words.now)))
+        (paths_of (command (map string_bytes words.now))) status) }
     ensures files { OnErr result (files.new ≡ files.old) }
     ensures out { OnErr result (out.new ≡ out.old) }
 {
@@ -108,11 +111,12 @@ pub fn run_elephant<F: Files, O: Sink, E: Sink>(
     out: &mut O,
     err: &mut E,
 ) -> Status
-    ensures answers { IfOk words (λ some. (held : Held) → F.holds files.old ≡ Some held →
-        (d : Defined) → IsDefined model_kinds (map string_bytes some.items) held d →
+    ensures answers { IfOk words (λ some. (held : Held) → F.agrees files.new (F.asked files.old)
+        held → (d : Defined) → IsDefined model_kinds (map string_bytes some.items) held d →
         (reached : Graph → ℕ → Bool) → Decides reached → (visits : ℕ) × GivesDefined reached
-        (O.taken out.old) (O.taken out.new) 0 visits (Rose (F.faults files.old)
-        (F.faults files.new)) (Rose (O.faults out.old) (O.faults out.new)) d result) }
+        (O.taken out.old) (O.taken out.new) 0 visits
+        (Rose (F.faults files.old) (F.faults files.new))
+        (Rose (O.faults out.old) (O.faults out.new)) d result) }
     ensures usage { IfOk words
         (λ some. result ≡ Status.Usage → command (map string_bytes some.items) ≡ None) }
     ensures no_command { IfOk words (λ some. command (map string_bytes some.items) ≡ None →
@@ -121,8 +125,9 @@ pub fn run_elephant<F: Files, O: Sink, E: Sink>(
         ≡ count_after (is_read_status result) (F.faults files.old) }
     ensures write_fault { O.faults out.new
         ≡ count_after (is_write_status result) (O.faults out.old) }
-    ensures reads { IfOk words (λ some. ReadsInOrder (F.holds files.old) (F.asked files.old)
-        (F.asked files.new) (paths_of (command (map string_bytes some.items))) result) }
+    ensures reads { IfOk words (λ some. ReadsInOrder (F.agrees files.new (F.asked files.old))
+        (F.asked files.old) (F.asked files.new) (most_of (command (map string_bytes some.items)))
+        (paths_of (command (map string_bytes some.items))) result) }
     ensures no_words { IfErr words (λ fault. result ≡ status_of_words fault) }
     ensures no_file { OnErr words (files.new ≡ files.old) }
     ensures nothing { OnErr words (out.new ≡ out.old) }
@@ -149,7 +154,8 @@ fn hand_on_whole<O: GatheringSink, E: Sink>(
 ) -> Status
     ensures ends { EndsAs status result (O.faults out.old) (O.faults out.new) }
     ensures taken { O.taken out.new ≡ O.taken out.old }
-    ensures handed { IsTrue (is_whole result) → O.handed out.new ≡ O.taken out.new }
+    ensures handed { IsTrue (is_whole result) →
+        O.handed out.new ≡ option_map taken_bytes (O.taken out.new) }
     ensures refused { is_whole status ≡ false → out.new ≡ out.old }
 {
     if !status.is_whole() {
@@ -172,12 +178,14 @@ pub fn run_process<F: Files, O: GatheringSink, E: Sink>(
     out: &mut O,
     err: &mut E,
 ) -> Status
-    ensures answers { IfOk words (λ some. (held : Held) → F.holds files.old ≡ Some held →
-        (d : Defined) → IsDefined model_kinds (map string_bytes some.items) held d →
+    ensures answers { IfOk words (λ some. (held : Held) → F.agrees files.new (F.asked files.old)
+        held → (d : Defined) → IsDefined model_kinds (map string_bytes some.items) held d →
         (reached : Graph → ℕ → Bool) → Decides reached → (visits : ℕ) × GivesDefined reached
-        (O.taken out.old) (O.taken out.new) 0 visits (Rose (F.faults files.old)
-        (F.faults files.new)) (Rose (O.faults out.old) (O.faults out.new)) d result) }
-    ensures handed { IsTrue (is_whole result) → O.handed out.new ≡ O.taken out.new }
+        (O.taken out.old) (O.taken out.new) 0 visits
+        (Rose (F.faults files.old) (F.faults files.new))
+        (Rose (O.faults out.old) (O.faults out.new)) d result) }
+    ensures handed { IsTrue (is_whole result) →
+        O.handed out.new ≡ option_map taken_bytes (O.taken out.new) }
     ensures usage { IfOk words
         (λ some. result ≡ Status.Usage → command (map string_bytes some.items) ≡ None) }
     ensures no_command { IfOk words (λ some. command (map string_bytes some.items) ≡ None →
@@ -186,8 +194,9 @@ pub fn run_process<F: Files, O: GatheringSink, E: Sink>(
         ≡ count_after (is_read_status result) (F.faults files.old) }
     ensures write_fault { O.faults out.new
         ≡ count_after (is_write_status result) (O.faults out.old) }
-    ensures reads { IfOk words (λ some. ReadsInOrder (F.holds files.old) (F.asked files.old)
-        (F.asked files.new) (paths_of (command (map string_bytes some.items))) result) }
+    ensures reads { IfOk words (λ some. ReadsInOrder (F.agrees files.new (F.asked files.old))
+        (F.asked files.old) (F.asked files.new) (most_of (command (map string_bytes some.items)))
+        (paths_of (command (map string_bytes some.items))) result) }
     ensures no_words { IfErr words (λ fault. result ≡ status_of_words fault) }
     ensures no_file { OnErr words (files.new ≡ files.old) }
     ensures nothing { OnErr words (out.new ≡ out.old) }

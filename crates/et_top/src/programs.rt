@@ -8,7 +8,7 @@ ghost use Rattle.et_class.specs.Classes.{class_of, HasItsParts};
 ghost use Rattle.et_program.specs.Entries.{Linked, method_at};
 ghost use Rattle.et_top.specs.Faults.{Fault};
 ghost use Rattle.et_link.specs.Declaring.{HasItsFile};
-ghost use Rattle.et_top.specs.Loaded.{IsLinkedOf, IsProgramOfFiles};
+ghost use Rattle.et_top.specs.Loaded.{IsLinkedOf, IsProgramOfFiles, most_of_class};
 ghost use Rattle.et_top.specs.Reads.{ReadsInOrder};
 ghost use Rattle.et_top.specs.Status.{is_read_status, is_write_status};
 ghost use Rattle.et_top.specs.Told.{Tells, IsFileRefusal, IsOfBytes, cause_of, is_reading, status_of_result};
@@ -55,13 +55,12 @@ pub fn load_program<'a, F: Files>(
     files: &mut F,
 ) -> Result<Program, Refusal<'a>>
     requires some { 0 < length paths.now }
-    ensures tells { (held : Held) →
-        F.holds files.old ≡ Some held → (program : Result Linked Fault) →
-        IsProgramOfFiles (map held (map string_bytes paths.now)) program →
-        Tells (Rose (F.faults files.old) (F.faults files.new)) (λ p. p) program result }
+    ensures tells { (held : Held) → F.agrees files.new (F.asked files.old) held →
+        (program : Result Linked Fault) → IsProgramOfFiles (map held (map string_bytes paths.now))
+        program → Tells (Rose (F.faults files.old) (F.faults files.new)) (λ p. p) program result }
     ensures faults { F.faults files.new ≡ count_after (is_reading result) (F.faults files.old) }
-    ensures reads { ReadsInOrder (F.holds files.old) (F.asked files.old) (F.asked files.new)
-        (map string_bytes paths.now) (status_of_result result) }
+    ensures reads { ReadsInOrder (F.agrees files.new (F.asked files.old)) (F.asked files.old)
+        (F.asked files.new) most_of_class (map string_bytes paths.now) (status_of_result result) }
     ensures file { IfErr result (λ refusal. IsFileRefusal (cause_of refusal)) }
     ensures never_falls { F.faults files.old ≤ F.faults files.new }
 {

@@ -5,7 +5,7 @@ ghost use Rattle.et_io.specs.Files.{Held};
 ghost use Rattle.et_graph.specs.Graph.{Graph, Decides};
 ghost use Rattle.et_top.specs.Command.{command};
 ghost use Rattle.et_top.specs.Asked.{asked_by, AreInRange};
-ghost use Rattle.et_top.specs.Reads.{ReadsInOrder, paths_of};
+ghost use Rattle.et_top.specs.Reads.{ReadsInOrder, paths_of, most_of};
 ghost use Rattle.et_top.specs.Status.{is_read_status, is_write_status};
 ghost use Rattle.et_top.specs.Top.{Defined, IsAskedDefined, IsDefined, GivesDefined};
 ghost use Rattle.et_top.specs.Visits.{IsWithoutRun, IsNoTrace, HasUnread};
@@ -34,7 +34,7 @@ fn perform<F: Files, O: Sink, E: Sink, L: Ledger>(
 ) -> Status
     requires new { All (λ b. is_new b) models.items }
     requires range { AreInRange command.now }
-    ensures gives { (held : Held) → F.holds files.old ≡ Some held → (d : Defined) →
+    ensures gives { (held : Held) → F.agrees files.new (F.asked files.old) held → (d : Defined) →
         IsAskedDefined (map (λ b. kind_of b) models.items) (Some (asked_by command.now)) held d →
         (reached : Graph → ℕ → Bool) → Decides reached → GivesDefined reached (O.taken out.old)
         (O.taken out.new) visits.old visits.new (Rose (F.faults files.old) (F.faults files.new))
@@ -44,11 +44,12 @@ fn perform<F: Files, O: Sink, E: Sink, L: Ledger>(
         ≡ count_after (is_read_status result) (F.faults files.old) }
     ensures write_fault { O.faults out.new
         ≡ count_after (is_write_status result) (O.faults out.old) }
-    ensures reads { ReadsInOrder (F.holds files.old) (F.asked files.old) (F.asked files.new)
+    ensures reads { ReadsInOrder (F.agrees files.new (F.asked files.old)) (F.asked files.old)
+        (F.asked files.new) (most_of (Some (asked_by command.now)))
         (paths_of (Some (asked_by command.now))) result }
     ensures no_visits { IsWithoutRun (Some (asked_by command.now)) result →
         visits.new ≡ visits.old }
-    ensures no_trace { (held : Held) → F.holds files.old ≡ Some held → (d : Defined) →
+    ensures no_trace { (held : Held) → F.agrees files.new (F.asked files.old) held → (d : Defined) →
         IsAskedDefined (map (λ b. kind_of b) models.items) (Some (asked_by command.now)) held d →
         IsNoTrace d → visits.new ≡ visits.old }
     ensures unread { HasUnread (F.asked files.old) (F.asked files.new)
@@ -94,11 +95,14 @@ fn perform<F: Files, O: Sink, E: Sink, L: Ledger>(
 /// A trace is written in the format that the options name. It is read in either spelling: bytes that begin with FE are
 /// binary, and all others a text.
 ///
+/// What is defined is said for all files that agree with what was read in this call, and of what out took by its log.
+///
 /// Refusals come in this order: the words; of each file the read, the length and what it holds; the event of a snapshot;
-/// linking; a method that is rejected; the run. Each file is read once, and only when the one before it was found good. A
-/// read that fails counts one fault and is answered so, and so does a put; no other answer changes these counts. Until all
-/// that is read is known to be good, and to link, nothing is put to out; after `WriteFault` and `NoMemory` out took a prefix
-/// of the output. A fault of err changes nothing. Only the run of a program or of a bench visits objects: no other answer
+/// linking; a method that is rejected; the run. Each file is read once, for no more bytes than the limit of its kind, and only
+/// when the one before it was found good. A read that fails counts one fault and is answered so, and so does a put; no other
+/// answer changes these counts. A read that failed is the last one, and so is a put. Until all that is read is known to be good,
+/// and to link, nothing is put to out; after `WriteFault` and `NoMemory` out took a prefix of the output. A fault of err changes
+/// nothing. Only the run of a program or of a bench visits objects: no other answer
 /// changes the counter, nor does `NoMemory` where neither is defined or a file was not read.
 pub fn elephant<F: Files, O: Sink, E: Sink, L: Ledger>(
     alloc: Global,
@@ -110,7 +114,7 @@ pub fn elephant<F: Files, O: Sink, E: Sink, L: Ledger>(
     visits: &mut Steps<L>,
 ) -> Status
     requires new { All (λ b. is_new b) models.items }
-    ensures answers { (held : Held) → F.holds files.old ≡ Some held → (d : Defined) →
+    ensures answers { (held : Held) → F.agrees files.new (F.asked files.old) held → (d : Defined) →
         IsDefined (map (λ b. kind_of b) models.items) (map string_bytes words.now) held d →
         (reached : Graph → ℕ → Bool) → Decides reached → GivesDefined reached (O.taken out.old)
         (O.taken out.new) visits.old visits.new (Rose (F.faults files.old) (F.faults files.new))
@@ -122,11 +126,12 @@ pub fn elephant<F: Files, O: Sink, E: Sink, L: Ledger>(
         ≡ count_after (is_read_status result) (F.faults files.old) }
     ensures write_fault { O.faults out.new
         ≡ count_after (is_write_status result) (O.faults out.old) }
-    ensures reads { ReadsInOrder (F.holds files.old) (F.asked files.old) (F.asked files.new)
+    ensures reads { ReadsInOrder (F.agrees files.new (F.asked files.old)) (F.asked files.old)
+        (F.asked files.new) (most_of (command (map string_bytes words.now)))
         (paths_of (command (map string_bytes words.now))) result }
     ensures no_visits { IsWithoutRun (command (map string_bytes words.now)) result →
         visits.new ≡ visits.old }
-    ensures no_trace { (held : Held) → F.holds files.old ≡ Some held → (d : Defined) →
+    ensures no_trace { (held : Held) → F.agrees files.new (F.asked files.old) held → (d : Defined) →
         IsDefined (map (λ b. kind_of b) models.items) (map string_bytes words.now) held d →
         IsNoTrace d → visits.new ≡ visits.old }
     ensures unread { HasUnread (F.asked files.old) (F.asked files.new)

@@ -13,9 +13,9 @@ use Rattle.et_binary.proofs.whole.follow_pack.Goals as goal
 pub returns-then-not-may_open-clause-err : goal.returns-then-not-may_open-clause-err
 returns-then-not-may_open-clause-err g c = inl (wrong_opening c.args.bytes.now (sym c.if-not-may_open.ensures))
 
-pub returns-then-bytes-lt-OPENING-clause-err : goal.returns-then-bytes-lt-OPENING-clause-err
-returns-then-bytes-lt-OPENING-clause-err g c =
-    let p = part_opening c.args.bytes.now (sym c.if-not-may_open.ensures) c.if-bytes-lt-OPENING.true in
+pub returns-then-bytes-lt4-clause-err : goal.returns-then-bytes-lt4-clause-err
+returns-then-bytes-lt4-clause-err g c =
+    let p = part_opening c.args.bytes.now (sym c.if-not-may_open.ensures) c.if-bytes-lt4.true in
     inr (refl, EndsInOpening p.0 p.1 p.2)
 
 pub records-init : goal.records-init
@@ -25,7 +25,7 @@ records-init g c =
     record {
       past = [];
       followed = c.begin-lines.ensures 2 c.requires.new;
-      read = record { fine = tt; parts = whole_opening all (sym c.if-not-may_open.ensures) c.if-bytes-lt-OPENING.false ∙ ap (λ (t : List ℕ). opening ++ t) rest };
+      read = record { fine = tt; parts = whole_opening all (sym c.if-not-may_open.ensures) c.if-bytes-lt4.false ∙ ap (λ (t : List ℕ). opening ++ t) rest };
     }
 
 pub records-preserved : goal.records-preserved

@@ -4,8 +4,6 @@ use Rattle.et_state.specs.Words.{thread_at}
 use Rattle.et_state.specs.declared.ends.EventEnd.TheVariants as ends
 use Rattle.et_event.specs.Moments.{moment}
 use Rattle.et_parts.proofs.Answering.{if_ok}
-use Rattle.et_initialize.proofs.Counting.{room_fits}
-use Rattle.et_initialize.proofs.Stepping.{after}
 use Rattle.et_calls.specs.Entering.{pushed_event}
 use Rattle.et_calls.proofs.EnteredFrames.{fits_few, fits_full, full_frame, unfit}
 use Rattle.et_calls.proofs.entering.fitting_frame_event.Goals as goal
@@ -22,7 +20,7 @@ push_event-requires-clause-few g c = omega (arith, c.if-frames-ge-MOST_FRAMES.fa
 
 pub push_event-requires-clause-fits : goal.push_event-requires-clause-fits
 push_event-requires-clause-fits g c =
-    sym (room_fits (after c.args.program.now c.args.machine.now c.args.thread c.args.entered.now.classes.now).state.heap) ∙ (sym (c.in_ok-prepared_fit.ensures c.args.thread c.requires.entered.ready) ∙ c.if-not-branch.false)
+    sym c.in_ok-classes_fit.ensures ∙ c.if-not-branch.false
 
 pub returns-then-not-branch-clause-ok : goal.returns-then-not-branch-clause-ok
 returns-then-not-branch-clause-ok g c =
@@ -32,8 +30,8 @@ returns-then-not-branch-clause-ok g c =
     let x = c.args.entered.now in
     let lt : length (thread_at m.guest t).frames < most_frames = omega (arith, c.if-frames-ge-MOST_FRAMES.false, c.frames.ensures.value) in
     fits_few p t x.classes.now (pushed_event (moment p m t) x) m m c.args.out.now c.args.out.now ends.ObjectLimit lt
-    (unfit p t x m c.args.out.now c.requires.order c.requires.sound c.requires.entered
-    (sym (room_fits (after p m t x.classes.now).state.heap) ∙ (sym (c.in_ok-prepared_fit.ensures t c.requires.entered.ready) ∙ c.if-not-branch.true)))
+    (unfit p t x m c.args.out.now c.requires.sound c.requires.entered
+    (sym c.in_ok-classes_fit.ensures ∙ c.if-not-branch.true))
 
 pub returns-clause-ok : goal.returns-clause-ok
 returns-clause-ok g c =

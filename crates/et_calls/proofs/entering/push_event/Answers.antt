@@ -1,14 +1,14 @@
-use Rattle.std.proofs.Common.{◌≡◌, ℕ, List, Option, ◌∷◌, ◌++◌, [], sym, ◌∙◌, ap}
+use Rattle.std.proofs.Common.{◌≡◌, ℕ, List, Option, ◌∷◌, ◌++◌, [], length, sym, ◌∙◌, ap, arith}
 use Rattle.std.specs.Prelude.{unwrap_or}
 use Rattle.et_base.specs.declared.value.Value.{Value}
-use Rattle.et_state.specs.NewFrames.{frame_of}
+use Rattle.et_state.specs.NewFrames.{frame_with}
 use Rattle.et_state.specs.Threads.{FrameState}
 use Rattle.et_state.specs.Words.{top}
 use Rattle.et_state.specs.declared.records.Record.TheVariants.{Enter}
 use Rattle.et_event.specs.Frames.{method_frame, receiver_of}
 use Rattle.et_parts.specs.Locks.{entering_some, locks_of}
 use Rattle.et_calls.specs.Entering.{arguments_passed, pushed_by}
-use Rattle.et_calls.proofs.EnteredFrames.{base_few, base_lock, base_passed, entered_lock, method_entered}
+use Rattle.et_calls.proofs.EnteredFrames.{base_arguments, base_few, base_lock, base_passed, entered_lock, method_entered}
 use Rattle.et_calls.proofs.entering.push_event.Goals as goal
 
 pub push_frame-requires-clause-passed : goal.push_frame-requires-clause-passed
@@ -18,6 +18,11 @@ push_frame-requires-clause-passed g c =
 pub push_frame-requires-clause-few : goal.push_frame-requires-clause-few
 push_frame-requires-clause-few g c =
     base_few c.args.program.now c.args.thread c.args.entered.now.classes.now c.args.machine.now c.begin_prepared.new.machine c.in_ok-begin_prepared.ensures.0 c.requires.few
+
+pub push_frame-requires-clause-arguments : goal.push_frame-requires-clause-arguments
+push_frame-requires-clause-arguments g c =
+    let same = base_arguments c.args.program.now c.args.thread c.args.entered.now.classes.now c.args.entered.now.passed c.args.machine.now c.begin_prepared.new.machine c.in_ok-begin_prepared.ensures.0 in
+    omega (arith, ap length same, c.passed_count-count.ensures, c.new_head-head.ensures.arguments)
 
 pub push_frame-requires-clause-lock : goal.push_frame-requires-clause-lock
 push_frame-requires-clause-lock g c =
@@ -48,11 +53,11 @@ returns-clause-ok g c =
     let body = x.code.now in
     let lock = locks_of c.lock_for-lock.result in
     let vs = arguments_passed (top m.guest t) x.passed in
-    let items : c.in_ok-arguments.arguments.items ≡ vs = c.in_ok-arguments.ensures.items in
     let received : c.receiver_of-receiver.result ≡ receiver_of p method vs = c.receiver_of-receiver.ensures.value p c.requires.entered.info in
     let locked = entered_lock p t x m c.receiver_of-receiver.result lock c.requires.sound c.requires.entered received c.receiver_of-receiver.ensures.held c.lock_for-lock.ensures in
-    let frame : frame_of c.new_frame-frame.result ≡ method_frame p method body vs =
-    c.new_frame-frame.ensures.frame p c.requires.entered.info (received ∙ ap (λ (us : List Value). receiver_of p method us) (sym items)) ∙ ap (λ (us : List Value). method_frame p method body us) items in
+    let same : arguments_passed (top m₂.guest t) x.passed ≡ vs = base_arguments p t x.classes.now x.passed m m₂ c.in_ok-begin_prepared.ensures.0 in
+    let frame : frame_with c.new_head-head.result (arguments_passed (top m₂.guest t) x.passed) ≡ method_frame p method body vs =
+    ap (λ (us : List Value). frame_with c.new_head-head.result us) same ∙ c.new_head-head.ensures.frame p vs c.requires.entered.info received (sym c.passed_count-count.ensures) in
     let is = c.in_ok-push_frame.ensures.ok ∙ ap (λ (f : FrameState). entering_some t lock (pushed_by m₂ t x.passed f)) frame in
     let number = c.number_of.ensures ∙ ap (λ (r : Option ℕ). unwrap_or r 0) received in
     let told = c.in_ok-push.ensures.ok

@@ -3,10 +3,11 @@ use Rattle.et_base.specs.declared.format.Format.{Format}
 use Rattle.et_base.specs.declared.line.TraceLine.TheVariants.{Finish}
 use Rattle.et_graph.proofs.Walks.{is_reached, is_reached_decides}
 use Rattle.et_io.specs.Sink.{TakesUpTo, TakesPrefix}
+use Rattle.et_io.proofs.Taking.{gathers, takes_no_more}
 use Rattle.et_state.specs.History.{flush_lines, how_of}
 use Rattle.et_binary.specs.Formats.{written_in}
 use Rattle.et_loop.proofs.Counts.{undo_not, last_flush}
-use Rattle.et_loop.proofs.Putting.{gathers, last_written, flush_stops}
+use Rattle.et_loop.proofs.Putting.{last_written, flush_stops}
 use Rattle.et_loop.proofs.RunLemmas.{on_any}
 use Rattle.et_loop.proofs.flushes.conclude.Goals as goal
 
@@ -43,7 +44,7 @@ returns-in_default-clause-err g c deaths listed =
     let puts = c.in_ok-settle.ensures.lines in
     let same = puts.lines deaths (λ is. listed (undo_not c.args.due is)) in
     flush_stops f c.args.due ran.end ran.event c.args.tracer.now.buffer.items (taken c.args.sink.now) (taken c.settle.new.sink) (flush_lines ran.event deaths)
-    (subst (λ (t : List ℕ). TakesPrefix (taken c.args.sink.now) (taken c.settle.new.sink) (c.args.tracer.now.buffer.items ++ t)) same (c.settle.new.tracer.buffer.items, puts.put))
+    (subst (λ (t : List ℕ). TakesPrefix (taken c.args.sink.now) (taken c.settle.new.sink) (c.args.tracer.now.buffer.items ++ t)) same (takes_no_more (taken c.args.sink.now) (taken c.settle.new.sink) (c.args.tracer.now.buffer.items ++ puts.bytes) c.settle.new.tracer.buffer.items puts.put))
 
 pub returns-clause-lines : goal.returns-clause-lines
 returns-clause-lines g c =

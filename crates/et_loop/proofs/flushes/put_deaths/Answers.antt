@@ -2,7 +2,8 @@ use Rattle.std.proofs.Common.{◌++◌, ◌∙◌, ℕ, ap}
 use Rattle.et_base.specs.declared.line.TraceLine.TheVariants.{Death}
 use Rattle.et_binary.specs.Formats.{written_in}
 use Rattle.et_graph.specs.declared.objects.Death as graph
-use Rattle.et_loop.proofs.Putting.{death_put, deaths_stop, death_fails, none_put}
+use Rattle.et_io.proofs.Taking.{none_put}
+use Rattle.et_loop.proofs.Putting.{death_put, deaths_stop, death_fails}
 use Rattle.et_loop.proofs.RunLemmas.{on_any}
 use Rattle.et_loop.proofs.flushes.put_deaths.Goals as goal
 

@@ -2,13 +2,13 @@ use Rattle.std.proofs.Common.{◌≡◌, ℕ, ◌++◌, List, length, get_or, On
 use Rattle.std.proofs.lemmas.List.{length-map}
 use Rattle.std.proofs.lemmas.Result.{on_ok_weaker}
 use Rattle.et_io.specs.Sink.{TakesUpTo, TakesPrefix}
+use Rattle.et_io.proofs.Taking.{none_put}
 use Rattle.et_graph.specs.declared.objects.Death.{Death}
 use Rattle.et_graph.specs.Listing.{death_pairs}
 use Rattle.et_state.specs.History.{flush_lines}
 use Rattle.et_binary.specs.Formats.{lines_written_in}
 use Rattle.et_graph.proofs.ListedOnce.{list_one}
 use Rattle.et_loop.proofs.Marking.{few_listed}
-use Rattle.et_loop.proofs.Putting.{none_put}
 use Rattle.et_loop.proofs.flushes.report.Goals as goal
 
 pub put_deaths-requires : goal.put_deaths-requires

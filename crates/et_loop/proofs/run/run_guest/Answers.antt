@@ -2,6 +2,7 @@ use Rattle.std.proofs.Common.{◌≡◌, ℕ, ◌+◌, ◌*◌, ◌<◌, Option,
 use Rattle.et_base.specs.declared.value.End.{End}
 use Rattle.et_io.specs.Faults.{count_after, is_write_fault}
 use Rattle.et_io.specs.Sink.{with_more, TakesPrefix}
+use Rattle.et_io.proofs.Taking.{all_put, part_put, whole_prefix}
 use Rattle.et_graph.proofs.Walks.{is_reached, is_reached_decides}
 use Rattle.et_state.specs.History.{is_flush_point}
 use Rattle.et_loop.specs.Options.{setting_of}
@@ -13,9 +14,8 @@ use Rattle.et_loop.proofs.Turns.{told_first}
 use Rattle.et_loop.proofs.Quiets.{told_there}
 use Rattle.et_loop.proofs.Standing.{stands_on}
 use Rattle.et_loop.proofs.Counts.{none_so_far, more_so_far, last_allowed, cut_allowed, passes_grow, going_few, ending_few}
-use Rattle.et_loop.proofs.Putting.{part_put, all_put}
 use Rattle.et_loop.proofs.Cuts.{cut_first, cut_putting, cut_broken}
-use Rattle.et_loop.proofs.Talking.{whole_prefix, talking_start, talking_on, talking_end, say_nothing, say_now, say_turn, said_here, said_putting}
+use Rattle.et_loop.proofs.Talking.{talking_start, talking_on, talking_end, say_nothing, say_now, say_turn, said_here, said_putting}
 use Rattle.et_loop.proofs.Joins.{graphs, graph_first, running_as, listed_here, next_runs, next_told}
 use Rattle.et_loop.proofs.run.run_guest.Goals as goal
 

@@ -6,4 +6,4 @@ use Rattle.et_ops.proofs.plain.frame_row_event.Goals as goal
 
 pub ill_typed-requires : goal.ill_typed-requires
 ill_typed-requires c =
-    subst (λ (m : MachineState). HasFrame m.guest c.args.thread) (sym (steps_same _ c.args.thread c.args.machine.now c.frame_event.new.machine (c.if-frame_event.ensures [] 0))) c.requires.frame
+    subst (λ (m : MachineState). HasFrame m.guest c.args.thread) (sym (steps_same _ c.args.thread c.args.machine.now c.frame_done.new.machine (c.if-frame_done.ensures [] 0))) c.requires.frame

@@ -3,10 +3,7 @@ use Rattle.std.specs.Int.{w32}
 use Rattle.et_base.specs.declared.value.Value.{Value}
 use Rattle.et_code.specs.Switches.{target_of}
 use Rattle.et_state.specs.Threads.{FrameState}
-use Rattle.et_state.specs.State.{kept_of}
-use Rattle.et_state.specs.Words.{top, with_top, ticked}
-use Rattle.et_state.specs.Moves.{Led}
-use Rattle.et_event.specs.Answered.{StepsFrame}
+use Rattle.et_event.specs.FrameSteps.{StepsRunning}
 use Rattle.et_event.specs.Sites.{target}
 use Rattle.et_ops.specs.Tops.{jumped}
 use Rattle.et_ops.proofs.Switching.{int_on_top}
@@ -14,14 +11,13 @@ use Rattle.et_ops.proofs.switches.switch.Goals as goal
 
 pub returns : goal.returns
 returns c =
-    let m = c.args.machine.now in
-    let t = c.args.thread in
-    let f = top m.guest t in
+    let r = c.args.running.now in
+    let f = r.frame in
     let code = c.args.code.now in
     let instr = c.args.instr.now in
     let key = c.in-Some.key in
     let go : ℤ → List Value → Option FrameState = λ k below. Some (record f { pc = target f.pc (target_of code instr k); operands = below }) in
     let place : to_z w32 (of_z w32 c.switch_target-offset.result) ≡ target_of code instr key = search rules in
-    let led : Led (kept_of m) (record { heap = m.heap; guest = with_top (ticked m.guest) t (jumped (target_of code instr key) 0 f (true, drop 1 f.operands)) }) c.jump.new.machine =
-    subst (λ (z : ℤ). Led (kept_of m) (record { heap = m.heap; guest = with_top (ticked m.guest) t (jumped z 0 f (true, drop 1 f.operands)) }) c.jump.new.machine) place c.jump.ensures in
-    subst (λ (o : Option FrameState). StepsFrame o true t m c.jump.new.machine) (sym (int_on_top f.operands key go (sym c.int_at.ensures ∙ c.in-Some.is))) led
+    let steps : StepsRunning (Some (jumped (target_of code instr key) 0 f (true, drop 1 f.operands))) true r c.jump.new.running =
+    subst (λ (z : ℤ). StepsRunning (Some (jumped z 0 f (true, drop 1 f.operands))) true r c.jump.new.running) place c.jump.ensures in
+    subst (λ (o : Option FrameState). StepsRunning o true r c.jump.new.running) (sym (int_on_top f.operands key go (sym c.int_at.ensures ∙ c.in-Some.is))) steps

@@ -2,10 +2,11 @@ use Rattle.std.proofs.Common.{◌≡◌, ◌∙◌, List, ℕ, Result, Ok, Err, 
 use Rattle.std.specs.Prelude.{OnErr}
 use Rattle.std.specs.List.{flat_map}
 use Rattle.et_io.specs.Sink.{with_more, TakesPrefix}
+use Rattle.et_io.proofs.Taking.{none_put}
 use Rattle.et_replay.specs.Items.{made_objects}
 use Rattle.et_replay.specs.Replay.{replay_text}
 use Rattle.et_replay.specs.Seats.{told_line}
-use Rattle.et_replay.proofs.Seating.{told_of, told_many, text_is, none_taken}
+use Rattle.et_replay.proofs.Seating.{told_of, told_many, text_is}
 use Rattle.et_replay.proofs.replaying.replay.Goals as goal
 
 pub lines_of-requires-clause-told : goal.lines_of-requires-clause-told
@@ -14,10 +15,10 @@ lines_of-requires-clause-told g c =
     rw c.items.ensures.value (t.told, t.zip, t.many)
 
 pub returns-in_default-clause-err : goal.returns-in_default-clause-err
-returns-in_default-clause-err g c = λ reached decides policies z. none_taken (g.O.Sink.taken c.args.sink.now) (replay_text reached c.args.timeline.now policies)
+returns-in_default-clause-err g c = λ reached decides policies z. none_put (g.O.Sink.taken c.args.sink.now) (replay_text reached c.args.timeline.now policies)
 
 pub returns-in_default-lines_of-clause-err : goal.returns-in_default-lines_of-clause-err
-returns-in_default-lines_of-clause-err g c = λ reached decides policies z. none_taken (g.O.Sink.taken c.args.sink.now) (replay_text reached c.args.timeline.now policies)
+returns-in_default-lines_of-clause-err g c = λ reached decides policies z. none_put (g.O.Sink.taken c.args.sink.now) (replay_text reached c.args.timeline.now policies)
 
 on_err : {T E : Type 0} {P : Type 0} (r : Result T E) → P → OnErr r P
 on_err (Ok x) p = tt

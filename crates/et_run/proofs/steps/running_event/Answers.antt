@@ -1,9 +1,11 @@
-use Rattle.std.proofs.Common.{arith}
+use Rattle.std.proofs.Common.{arith, refl}
 use Rattle.et_state.specs.State.{Kept}
 use Rattle.et_event.specs.Told.{event_with_texts}
+use Rattle.et_walk.specs.Changing.{KeepsMonitors}
 use Rattle.et_walk.specs.Telling.{IsToldOf}
 use Rattle.et_run.specs.WithTexts.{state_of}
 use Rattle.et_run.proofs.Flushing.{on_ok_both}
+use Rattle.et_run.proofs.Waiting.{has_waited}
 use Rattle.et_run.proofs.Answering.{on_ok, if_ok, answers, steps, ticks, named}
 use Rattle.et_history.proofs.Unended.{unended_thread}
 use Rattle.et_run.proofs.steps.running_event.Goals as goal
@@ -42,3 +44,11 @@ returns-clause-named g c =
     let s : Kept = state_of c.args.running.now in
     let told : IsToldOf p s (event_with_texts p s c.args.thread) = c.events_are_told.ensures p s c.args.thread c.requires.sound.state (unended_thread s.guest c.args.thread c.requires.thread) c.requires.sound.runnable in
     on_ok c.turn_event.result _ _ c.turn_event.ensures.event (λ end h. named p (event_with_texts p s c.args.thread) end c.args.running.now.machine c.turn_event.new.running.machine c.args.running.now.texts c.turn_event.new.running.texts c.args.out.now.records c.turn_event.new.out.records told h)
+
+pub returns-clause-waited : goal.returns-clause-waited
+returns-clause-waited g c =
+    let p = c.args.program.now in
+    let s : Kept = state_of c.args.running.now in
+    let keeps : KeepsMonitors (record { program = p; before = s; thread = c.args.thread }) (event_with_texts p s c.args.thread) = c.events_keep_monitors.ensures p s c.args.thread c.requires.sound.state (unended_thread s.guest c.args.thread c.requires.thread) c.requires.sound.runnable in
+    if_ok c.turn_event.result _ _ c.turn_event.ensures.event (λ end h is. has_waited p s (state_of c.turn_event.new.running) c.args.thread (event_with_texts p s c.args.thread) end c.args.out.now.records c.turn_event.new.out.records refl keeps
+    (answers (event_with_texts p s c.args.thread) end c.args.running.now.machine c.turn_event.new.running.machine c.args.running.now.texts c.turn_event.new.running.texts c.args.out.now.records c.turn_event.new.out.records h) is)

@@ -26,8 +26,8 @@ few_visits : (r : Option ℕ) (old new a b n : ℕ) → (r ≡ None → a ≡ b)
 few_visits None old new a b n same few visits = let e : a ≡ b = same refl in omega (arith, e, visits)
 few_visits (Some k) old new a b n same few visits = let le : new ≤ old + 2 = few refl in omega (arith, le)
 
-pub event_by_turn-requires : goal.event_by_turn-requires
-event_by_turn-requires g c =
+pub event_by_family-requires : goal.event_by_family-requires
+event_by_family-requires g c =
     record {
       begins = record {
         program = c.requires.program;
@@ -43,7 +43,7 @@ returns-in_err-end-clause-visits g c =
     let m = c.args.running.now.machine in
     let x = c.args.running.now.texts in
     let s : Kept = kept_of m in
-    few_visits (text_turn p s c.args.thread) c.args.visits.now c.event_by_turn.new.visits (length (state_after (spoken x s) (event_with_texts p (spoken x s) c.args.thread)).heap) (length (state_after s (event p s c.args.thread)).heap) (length m.heap)
+    few_visits (text_turn p s c.args.thread) c.args.visits.now c.event_by_family.new.visits (length (state_after (spoken x s) (event_with_texts p (spoken x s) c.args.thread)).heap) (length (state_after s (event p s c.args.thread)).heap) (length m.heap)
     (λ none. tabled_grown p x m c.args.thread c.has_no_texts.ensures none) c.in_err-end.ensures.deferred c.in_err-end.ensures.visits
 
 pub strings_event-requires-clause-begins : goal.strings_event-requires-clause-begins
@@ -51,7 +51,7 @@ strings_event-requires-clause-begins g c =
     let p = c.args.program.now in
     let m = c.args.running.now.machine in
     let s : Kept = kept_of m in
-    let is = left (text_turn p s c.args.thread) (event p s c.args.thread) c.in_ok-end.end c.in-Native.method m c.event_by_turn.new.machine c.args.out.now.records c.event_by_turn.new.out c.in-Native.is c.in_ok-end.ensures.event in
+    let is = left (text_turn p s c.args.thread) (event p s c.args.thread) c.in_ok-end.end c.in-Native.method m c.event_by_family.new.machine c.args.out.now.records c.event_by_family.new.out c.in-Native.is c.in_ok-end.ensures.event in
     subst (λ (x : MachineState). BeginsEvent p x c.args.thread) (sym is.1) (record {
       program = c.requires.program;
       sound = machine_sound p c.args.running.now.texts m c.has_no_texts.ensures c.requires.sound;
@@ -64,7 +64,7 @@ strings_event-requires-clause-texts g c =
     let p = c.args.program.now in
     let m = c.args.running.now.machine in
     let s : Kept = kept_of m in
-    let is = left (text_turn p s c.args.thread) (event p s c.args.thread) c.in_ok-end.end c.in-Native.method m c.event_by_turn.new.machine c.args.out.now.records c.event_by_turn.new.out c.in-Native.is c.in_ok-end.ensures.event in
+    let is = left (text_turn p s c.args.thread) (event p s c.args.thread) c.in_ok-end.end c.in-Native.method m c.event_by_family.new.machine c.args.out.now.records c.event_by_family.new.out c.in-Native.is c.in_ok-end.ensures.event in
     subst (λ (x : MachineState). HasSoundTexts p (spoken c.args.running.now.texts (kept_of x))) (sym is.1) c.requires.texts
 
 pub strings_event-requires-clause-turn : goal.strings_event-requires-clause-turn
@@ -72,7 +72,7 @@ strings_event-requires-clause-turn g c =
     let p = c.args.program.now in
     let m = c.args.running.now.machine in
     let s : Kept = kept_of m in
-    let is = left (text_turn p s c.args.thread) (event p s c.args.thread) c.in_ok-end.end c.in-Native.method m c.event_by_turn.new.machine c.args.out.now.records c.event_by_turn.new.out c.in-Native.is c.in_ok-end.ensures.event in
+    let is = left (text_turn p s c.args.thread) (event p s c.args.thread) c.in_ok-end.end c.in-Native.method m c.event_by_family.new.machine c.args.out.now.records c.event_by_family.new.out c.in-Native.is c.in_ok-end.ensures.event in
     subst (λ (x : MachineState). IsSome (text_call p (kept_of x) c.args.thread) ⊎ IsSome (out_turn p (kept_of x) c.args.thread)) (sym is.1) (of_texts p s c.args.thread is.0)
 
 pub returns-in-Native-clause-said : goal.returns-in-Native-clause-said
@@ -80,7 +80,7 @@ returns-in-Native-clause-said g c =
     let p = c.args.program.now in
     let m = c.args.running.now.machine in
     let s : Kept = kept_of m in
-    let is = left (text_turn p s c.args.thread) (event p s c.args.thread) c.in_ok-end.end c.in-Native.method m c.event_by_turn.new.machine c.args.out.now.records c.event_by_turn.new.out c.in-Native.is c.in_ok-end.ensures.event in
+    let is = left (text_turn p s c.args.thread) (event p s c.args.thread) c.in_ok-end.end c.in-Native.method m c.event_by_family.new.machine c.args.out.now.records c.event_by_family.new.out c.in-Native.is c.in_ok-end.ensures.event in
     subst (λ (x : MachineState). IfOk c.strings_event.result (λ end. SaysWhereDone end (said_by p (spoken c.args.running.now.texts (kept_of x)) c.args.thread) c.args.out.now.said.items c.strings_event.new.out.said.items)) is.1 c.strings_event.ensures.said
 
 pub returns-in-Native-clause-visits : goal.returns-in-Native-clause-visits
@@ -88,7 +88,7 @@ returns-in-Native-clause-visits g c =
     let p = c.args.program.now in
     let m = c.args.running.now.machine in
     let s : Kept = kept_of m in
-    let is = left (text_turn p s c.args.thread) (event p s c.args.thread) c.in_ok-end.end c.in-Native.method m c.event_by_turn.new.machine c.args.out.now.records c.event_by_turn.new.out c.in-Native.is c.in_ok-end.ensures.event in
+    let is = left (text_turn p s c.args.thread) (event p s c.args.thread) c.in_ok-end.end c.in-Native.method m c.event_by_family.new.machine c.args.out.now.records c.event_by_family.new.out c.in-Native.is c.in_ok-end.ensures.event in
     let few = c.in_ok-end.ensures.deferred is.0 in
     omega (arith, few, c.strings_event.ensures.visits)
 
@@ -99,9 +99,9 @@ text_answers g c =
     let m = c.args.running.now.machine in
     let x = c.args.running.now.texts in
     let s : Kept = kept_of m in
-    let is = left (text_turn p s c.args.thread) (event p s c.args.thread) c.in_ok-end.end c.in-Native.method m c.event_by_turn.new.machine c.args.out.now.records c.event_by_turn.new.out c.in-Native.is c.in_ok-end.ensures.event in
+    let is = left (text_turn p s c.args.thread) (event p s c.args.thread) c.in_ok-end.end c.in-Native.method m c.event_by_family.new.machine c.args.out.now.records c.event_by_family.new.out c.in-Native.is c.in_ok-end.ensures.event in
     subst (λ (y : MachineState). IfOk c.strings_event.result (λ end. TextAnswers (event_with_texts p (spoken x (kept_of y)) c.args.thread) end y c.strings_event.new.machine x c.strings_event.new.texts c.args.out.now.records c.strings_event.new.out.records)) is.1
-    (subst (λ (rs : List Record). IfOk c.strings_event.result (λ end. TextAnswers (event_with_texts p (spoken x (kept_of c.event_by_turn.new.machine)) c.args.thread) end c.event_by_turn.new.machine c.strings_event.new.machine x c.strings_event.new.texts rs c.strings_event.new.out.records)) is.2 c.strings_event.ensures.event)
+    (subst (λ (rs : List Record). IfOk c.strings_event.result (λ end. TextAnswers (event_with_texts p (spoken x (kept_of c.event_by_family.new.machine)) c.args.thread) end c.event_by_family.new.machine c.strings_event.new.machine x c.strings_event.new.texts rs c.strings_event.new.out.records)) is.2 c.strings_event.ensures.event)
 
 pub returns-in-Native-clause-event : goal.returns-in-Native-clause-event
 returns-in-Native-clause-event g c = text_answers g c
@@ -125,20 +125,20 @@ returns-in-Native-clause-sound_texts g c =
 -- what the table answers
 
 abbrev Tabled : (g : given.Over) (c : goal.After-has_no_texts-in_default g) → Type 0
-Tabled g c = TextAnswers (event_with_texts c.args.program.now (state_of c.args.running.now) c.args.thread) c.in_ok-end.end c.args.running.now.machine c.event_by_turn.new.machine c.args.running.now.texts c.args.running.now.texts c.args.out.now.records c.event_by_turn.new.out
+Tabled g c = TextAnswers (event_with_texts c.args.program.now (state_of c.args.running.now) c.args.thread) c.in_ok-end.end c.args.running.now.machine c.event_by_family.new.machine c.args.running.now.texts c.args.running.now.texts c.args.out.now.records c.event_by_family.new.out
 
-not_texts : (g : given.Over) (c : goal.After-has_no_texts-in_default g) → (text_turn c.args.program.now (kept_of c.args.running.now.machine) c.args.thread ≡ None) × EventAnswers (event c.args.program.now (kept_of c.args.running.now.machine) c.args.thread) c.in_ok-end.end c.args.running.now.machine c.event_by_turn.new.machine c.args.out.now.records c.event_by_turn.new.out
+not_texts : (g : given.Over) (c : goal.After-has_no_texts-in_default g) → (text_turn c.args.program.now (kept_of c.args.running.now.machine) c.args.thread ≡ None) × EventAnswers (event c.args.program.now (kept_of c.args.running.now.machine) c.args.thread) c.in_ok-end.end c.args.running.now.machine c.event_by_family.new.machine c.args.out.now.records c.event_by_family.new.out
 not_texts g c =
     let p = c.args.program.now in
     let m = c.args.running.now.machine in
-    not_left (text_turn p (kept_of m) c.args.thread) (event p (kept_of m) c.args.thread) c.in_ok-end.end m c.event_by_turn.new.machine c.args.out.now.records c.event_by_turn.new.out (λ method is. c.in_default.not-Native method is) c.in_ok-end.ensures.event
+    not_left (text_turn p (kept_of m) c.args.thread) (event p (kept_of m) c.args.thread) c.in_ok-end.end m c.event_by_family.new.machine c.args.out.now.records c.event_by_family.new.out (λ method is. c.in_default.not-Native method is) c.in_ok-end.ensures.event
 
 table_answers : (g : given.Over) (c : goal.After-has_no_texts-in_default g) → Tabled g c
 table_answers g c =
     let p = c.args.program.now in
     let m = c.args.running.now.machine in
     let none = not_texts g c in
-    tabled p c.args.running.now.texts m c.args.thread c.has_no_texts.ensures none.0 c.in_ok-end.end c.event_by_turn.new.machine c.args.out.now.records c.event_by_turn.new.out c.has_no_texts-in_default.ensures none.1
+    tabled p c.args.running.now.texts m c.args.thread c.has_no_texts.ensures none.0 c.in_ok-end.end c.event_by_family.new.machine c.args.out.now.records c.event_by_family.new.out c.has_no_texts-in_default.ensures none.1
 
 pub returns-in_default-clause-event : goal.returns-in_default-clause-event
 returns-in_default-clause-event g c = table_answers g c
@@ -158,12 +158,12 @@ pub returns-in_default-clause-sound : goal.returns-in_default-clause-sound
 returns-in_default-clause-sound g c =
     let p = c.args.program.now in
     let s : Kept = state_of c.args.running.now in
-    sound_after p (event_with_texts p s c.args.thread) c.in_ok-end.end c.args.running.now.machine c.event_by_turn.new.machine c.args.running.now.texts c.args.running.now.texts c.args.out.now.records c.event_by_turn.new.out c.requires.sound
+    sound_after p (event_with_texts p s c.args.thread) c.in_ok-end.end c.args.running.now.machine c.event_by_family.new.machine c.args.running.now.texts c.args.running.now.texts c.args.out.now.records c.event_by_family.new.out c.requires.sound
     (c.events_lead_to_sound_states.ensures p s c.args.thread c.requires.sound c.requires.clock (unended_with c.args.running.now.machine.guest c.args.running.now.texts c.args.thread c.requires.thread) c.requires.program) (table_answers g c)
 
 pub returns-in_default-clause-sound_texts : goal.returns-in_default-clause-sound_texts
 returns-in_default-clause-sound_texts g c =
     let p = c.args.program.now in
     let s : Kept = state_of c.args.running.now in
-    texts_after p (event_with_texts p s c.args.thread) c.in_ok-end.end c.args.running.now.machine c.event_by_turn.new.machine c.args.running.now.texts c.args.running.now.texts c.args.out.now.records c.event_by_turn.new.out c.requires.texts
+    texts_after p (event_with_texts p s c.args.thread) c.in_ok-end.end c.args.running.now.machine c.event_by_family.new.machine c.args.running.now.texts c.args.running.now.texts c.args.out.now.records c.event_by_family.new.out c.requires.texts
     (c.texts_stay_sound.ensures p s c.args.thread c.requires.sound c.requires.texts (unended_with c.args.running.now.machine.guest c.args.running.now.texts c.args.thread c.requires.thread) c.requires.program) (table_answers g c)

@@ -2,9 +2,9 @@ use Rattle.std.proofs.Common.{◌∙◌, ◌++◌, List, ℕ, length, sym, ap, s
 use Rattle.std.specs.Prelude.{All, OnOk, OnErr}
 use Rattle.std.proofs.lemmas.List.{append-nil}
 use Rattle.et_io.specs.Sink.{TakesUpTo, TakesPrefix}
+use Rattle.et_io.proofs.Taking.{takes_nothing}
 use Rattle.et_snapshot.specs.Heap.{Kept, body_of, lists_of, HasClass}
 use Rattle.et_snapshot.proofs.Entries.{one_live, live_rows, dead_rows}
-use Rattle.et_snapshot.proofs.Pieces.{holds_back}
 use Rattle.et_snapshot.proofs.snapshot.put_entry.Goals as goal
 
 pub put_one-requires : goal.put_one-requires
@@ -27,4 +27,4 @@ pub returns-in-None-clause-ok : goal.returns-in-None-clause-ok
 returns-in-None-clause-ok g c =
     let old = g.O.Sink.taken c.args.sink.now in
     let text = c.args.text.now.items in
-    subst (λ (t : List ℕ). TakesUpTo old old t text) (sym (ap (λ (t : List ℕ). text ++ t) (dead_rows (lists_of c.args.names.now) c.args.entry.now c.in-None.is) ∙ append-nil text)) (holds_back old text)
+    subst (λ (t : List ℕ). TakesUpTo old old t text) (sym (ap (λ (t : List ℕ). text ++ t) (dead_rows (lists_of c.args.names.now) c.args.entry.now c.in-None.is) ∙ append-nil text)) (takes_nothing old text)

@@ -2,10 +2,11 @@ use Rattle.std.proofs.Common.{◌≡◌, ◌∙◌, ℕ, List, ◌+◌, ◌++◌
 use Rattle.std.specs.List.{flat_map}
 use Rattle.std.proofs.lemmas.List.{drop_all}
 use Rattle.et_io.specs.Sink.{TakesUpTo, TakesPrefix}
+use Rattle.et_io.proofs.Taking.{goes_on, part_put}
 use Rattle.et_snapshot.specs.declared.objects.Entry.{Entry}
 use Rattle.et_snapshot.specs.Heap.{lists_of, objects_of, rows_of, rows_in, HasClass}
 use Rattle.et_snapshot.proofs.Entries.{rest_is, rows_are, one_fits}
-use Rattle.et_snapshot.proofs.Pieces.{puts_begin, puts_next, puts_break, puts_all, goes_on, on_err}
+use Rattle.et_snapshot.proofs.Pieces.{puts_begin, puts_next, puts_break, puts_all, on_err}
 use Rattle.et_snapshot.proofs.snapshot.put_objects.Goals as goal
 
 pub loop-entry-init : goal.loop-entry-init
@@ -63,7 +64,7 @@ returns-in_err-put_piece-clause-err g c =
     on_err c.from_residual-in_err-put_piece.result
     (subst (λ (t : List ℕ). TakesPrefix old new t) (whole (lists_of c.args.names.now) es c.args.text.now.items)
     (puts_break row es (drop i es) (drop (i + 1) es) x old mid new c.args.text.now.items s.text.items (s.text.items ++ row x) (rest_is es i x c.loop-entry-test.true c.entry-item.is) s.invariant.puts refl
-    (piece.0, goes_on mid put new (s.text.items ++ row x) c.put_entry.new.text.items piece.0 c.in_ok-put_entry.ensures.ok piece.1)))
+    (part_put mid put new (s.text.items ++ row x) c.put_entry.new.text.items c.in_ok-put_entry.ensures.ok piece)))
 
 pub returns-clause-ok : goal.returns-clause-ok
 returns-clause-ok g c =

@@ -4,13 +4,13 @@ use Rattle.std.specs.List.{flat_map}
 use Rattle.std.proofs.lemmas.List.{get_or-map}
 use Rattle.std.proofs.lemmas.Result.{on_err_weaker}
 use Rattle.et_io.specs.Sink.{TakesPrefix}
+use Rattle.et_io.proofs.Taking.{none_put}
 use Rattle.et_text.specs.Spelling.{number_field}
 use Rattle.et_snapshot.specs.Heap.{body_of, lists_of, row_of, object_row, rows_of}
-use Rattle.et_snapshot.proofs.Pieces.{puts_nothing}
 use Rattle.et_snapshot.proofs.snapshot.put_one.Goals as goal
 
 pub returns-in_default-clause-err : goal.returns-in_default-clause-err
-returns-in_default-clause-err g c = puts_nothing (g.O.Sink.taken c.args.sink.now) c.args.text.now.items (rows_of (lists_of c.args.names.now) (c.args.object, body_of c.args.seen.now))
+returns-in_default-clause-err g c = none_put (g.O.Sink.taken c.args.sink.now) (c.args.text.now.items ++ rows_of (lists_of c.args.names.now) (c.args.object, body_of c.args.seen.now))
 
 pub returns-clause-err : goal.returns-clause-err
 returns-clause-err g c =

@@ -5,11 +5,12 @@ use Rattle.std.specs.declared.vec.Vec.{Vec}
 use Rattle.std.specs.declared.alloc.Global.{Global}
 use Rattle.std.proofs.lemmas.Result.{on_ok_weaker, on_err_weaker}
 use Rattle.et_io.specs.Sink.{with_more, TakesUpTo, TakesPrefix}
+use Rattle.et_io.proofs.Taking.{all_put, none_put, part_put}
 use Rattle.et_snapshot.specs.Snapshot.{snapshot_text}
 use Rattle.et_snapshot.specs.declared.objects.Entry.{Entry}
 use Rattle.et_snapshot.specs.declared.totals.Total.{Total}
 use Rattle.et_snapshot.specs.Heap.{objects_of, lists_of, rows_of, total_rows, HasClass}
-use Rattle.et_snapshot.proofs.Pieces.{puts_nothing, ends_whole, ends_front, on_err}
+use Rattle.et_snapshot.proofs.Pieces.{on_err}
 use Rattle.et_snapshot.proofs.Wholes.{head_of, statics_of, object_text, class_text, whole_is, three_up_to, last_stops, second_stops, first_stops, joined}
 use Rattle.et_snapshot.proofs.snapshot.snapshot_lines.Goals as goal
 
@@ -55,7 +56,7 @@ returns-clause-ok g c =
     let new = g.O.Sink.taken c.put_all.new.sink in
     on_ok_weaker c.put_all.result
     (λ (taken : new ≡ with_more three c.as_slice.result.now).
-    ends_whole old three new (h ++ ((s ++ o) ++ k)) d (three_up_to old one two three h s o k a b d first second third) (taken ∙ ap (λ (t : List ℕ). with_more three t) c.as_slice.ensures.value) ∙ ap (λ (t : List ℕ). with_more old t) whole)
+    all_put old three new (h ++ ((s ++ o) ++ k)) d (three_up_to old one two three h s o k a b d first second third) (taken ∙ ap (λ (t : List ℕ). with_more three t) c.as_slice.ensures.value) ∙ ap (λ (t : List ℕ). with_more old t) whole)
     c.put_all.ensures.ok
 
 pub returns-clause-err : goal.returns-clause-err
@@ -88,14 +89,14 @@ returns-clause-err g c =
     on_err_weaker c.put_all.result
     (λ (part : TakesPrefix three new c.as_slice.result.now).
     subst (λ (t : List ℕ). TakesPrefix old new t) whole
-    (ends_front old three new (h ++ ((s ++ o) ++ k)) d (three_up_to old one two three h s o k a b d first second third) (subst (λ (t : List ℕ). TakesPrefix three new t) c.as_slice.ensures.value part)))
+    (part_put old three new (h ++ ((s ++ o) ++ k)) d (three_up_to old one two three h s o k a b d first second third) (subst (λ (t : List ℕ). TakesPrefix three new t) c.as_slice.ensures.value part)))
     c.put_all.ensures.err
 
 pub returns-in_default-clause-err : goal.returns-in_default-clause-err
-returns-in_default-clause-err g c = puts_nothing (g.O.Sink.taken c.args.sink.now) [] (snapshot_text c.args.trace.now c.args.event)
+returns-in_default-clause-err g c = none_put (g.O.Sink.taken c.args.sink.now) (snapshot_text c.args.trace.now c.args.event)
 
 pub returns-in_default-put_head-clause-err : goal.returns-in_default-put_head-clause-err
-returns-in_default-put_head-clause-err g c = puts_nothing (g.O.Sink.taken c.args.sink.now) [] (snapshot_text c.args.trace.now c.args.event)
+returns-in_default-put_head-clause-err g c = none_put (g.O.Sink.taken c.args.sink.now) (snapshot_text c.args.trace.now c.args.event)
 
 pub returns-in_err-put_slots-clause-err : goal.returns-in_err-put_slots-clause-err
 returns-in_err-put_slots-clause-err g c =

@@ -6,15 +6,16 @@ use Rattle.et_convert.specs.Spellings.{SpellsTrace}
 use Rattle.et_event.specs.Start.{start_records}
 use Rattle.et_history.specs.Whole.{whole_start}
 use Rattle.et_io.specs.Files.{Held}
+use Rattle.et_io.specs.Sink.{with_more}
 use Rattle.et_top.specs.Loaded.{file_bytes, most_of_trace, IsTraceOf}
 use Rattle.et_theorems.specs.Runs.{Run, IsTraced, IsWritten, lines_of, picks_of, setting_of}
 use Rattle.et_theorems.proofs.Formats.{spells_trace, trace_begins}
-use Rattle.et_theorems.proofs.Held.{bytes_there, some_same}
+use Rattle.et_theorems.proofs.Held.{bytes_there, one_text}
 use Rattle.et_theorems.proofs.theorems.written_traces_are_read.Goals as goal
 
 -- what was written is the trace
 whole : (c : goal.After-spelled_lists_differ) (r : Run) (later : Held) (path bytes : List ℕ) → IsTraced r → IsWritten r later path bytes → bytes ≡ trace_bytes r.options.format (lines_of r)
-whole c r later path bytes is w = some_same bytes (trace_bytes r.options.format (lines_of r)) (c.whole_outputs_are_traces.ensures.bytes r (Some []) (Some bytes) w.old w.new w.answer is w.wrote)
+whole c r later path bytes is w = one_text bytes (trace_bytes r.options.format (lines_of r)) (c.whole_outputs_are_traces.ensures.bytes r (Some []) (with_more (Some []) bytes) w.old w.new w.answer is w.wrote)
 
 pub returns-clause-bytes : goal.returns-clause-bytes
 returns-clause-bytes c = whole c

@@ -1,5 +1,6 @@
 use Rattle.std.proofs.Common.{sym, ◌∙◌, ap, subst, refl, map, string_bytes}
 use Rattle.et_io.specs.Faults.{Rose}
+use Rattle.et_top.specs.Loaded.{most_of_class}
 use Rattle.et_top.specs.Reads.{ReadsInOrder}
 use Rattle.et_top.specs.declared.status.Status.{Status}
 use Rattle.et_top.specs.declared.status.Status.TheVariants as status
@@ -38,16 +39,16 @@ returns-in-Ok-clause-no_trace g c held told kinds d defined none =
     absurd (subst IsNoTrace (defined.2 ∙ ap (traces c.args.options.now) (c.in-Ok.ensures.tells held told defined.0 defined.1)) none)
 
 pub returns-in-Ok-clause-unread : goal.returns-in-Ok-clause-unread
-returns-in-Ok-clause-unread g c few = absurd (none_unread _ _ _ _ c.in-Ok.ensures.reads few)
+returns-in-Ok-clause-unread g c few = absurd (none_unread _ _ _ _ _ c.in-Ok.ensures.reads few)
 
 pub returns-in-Ok-clause-read_fault : goal.returns-in-Ok-clause-read_fault
 returns-in-Ok-clause-read_fault g c = same_count (is_read_status c.run.result) _ _ c.in-Ok.ensures.faults c.run.ensures.no_read
 
 pub returns-in-Ok-clause-reads : goal.returns-in-Ok-clause-reads
-returns-in-Ok-clause-reads g c = reads_whole _ _ _ _ status.Done _ refl c.in-Ok.ensures.reads
+returns-in-Ok-clause-reads g c = reads_whole _ _ _ _ _ status.Done _ refl c.in-Ok.ensures.reads
 
 pub returns-in-Err-clause-reads : goal.returns-in-Err-clause-reads
-returns-in-Err-clause-reads g c = subst (λ (s : Status). ReadsInOrder (g.F.Files.holds c.args.files.now) (g.F.Files.asked c.args.files.now) (g.F.Files.asked c.load_program.new.files) (map string_bytes c.args.paths.now) s) (sym c.refuse.ensures) c.in-Err.ensures.reads
+returns-in-Err-clause-reads g c = subst (λ (s : Status). ReadsInOrder (g.F.Files.agrees c.load_program.new.files (g.F.Files.asked c.args.files.now)) (g.F.Files.asked c.args.files.now) (g.F.Files.asked c.load_program.new.files) most_of_class (map string_bytes c.args.paths.now) s) (sym c.refuse.ensures) c.in-Err.ensures.reads
 
 pub returns-in-Err-clause-read_fault : goal.returns-in-Err-clause-read_fault
 returns-in-Err-clause-read_fault g c = counted_as (is_read_cause (cause_of c.in-Err.refusal)) (is_read_status c.refuse.result) _ _ c.in-Err.ensures.faults (ap is_read_status c.refuse.ensures ∙ read_status c.in-Err.refusal)

@@ -1,15 +1,21 @@
-use Rattle.std.proofs.Common.{subst}
-use Rattle.std.specs.Prelude.{Option, Ok, IfSome}
-use Rattle.et_io.specs.Files.{Held, Finds, is_read_failed}
+use Rattle.std.proofs.Common.{refl, sym}
+use Rattle.std.specs.Prelude.{Ok}
+use Rattle.et_io.specs.Files.{OutOfMemory, answer_of, is_read_failed}
 use Rattle.et_top.specs.Told.{is_reading}
 use Rattle.et_top.proofs.FaultLemmas.{counted_as}
 use Rattle.et_top.proofs.ReadLemmas.{found_tells, found_reading, found_file, found_early, found_within}
 use Rattle.et_top.proofs.files.read_file.Goals as goal
 
 pub returns-in-Ok-clause-tells : goal.returns-in-Ok-clause-tells
-returns-in-Ok-clause-tells g c held told =
+returns-in-Ok-clause-tells g c first held le told =
     found_tells _ _ c.args.most (held c.args.path.now) c.in-Ok.found c.bytes_found.result c.bytes_found.ensures
-    (subst (λ (o : Option Held). IfSome o (λ held. Finds c.in-Ok.found c.args.most (held c.args.path.now))) told c.in-Ok.ensures.found) c.in-Ok.ensures.within c.in-Ok.ensures.failed
+    (c.in-Ok.ensures.found first held le told) c.in-Ok.ensures.within c.in-Ok.ensures.failed
+
+pub returns-in-Ok-clause-asked : goal.returns-in-Ok-clause-asked
+returns-in-Ok-clause-asked g c = (answer_of (Ok c.in-Ok.found), c.in-Ok.ensures.asked, sym (found_reading c.in-Ok.found c.bytes_found.result c.bytes_found.ensures))
+
+pub returns-in-Err-clause-asked : goal.returns-in-Err-clause-asked
+returns-in-Err-clause-asked g c = (OutOfMemory, c.in-Err.ensures.asked, refl)
 
 pub returns-in-Ok-clause-faults : goal.returns-in-Ok-clause-faults
 returns-in-Ok-clause-faults g c = counted_as (is_read_failed (Ok c.in-Ok.found)) (is_reading c.bytes_found.result) _ _ c.in-Ok.ensures.failed (found_reading c.in-Ok.found c.bytes_found.result c.bytes_found.ensures)

@@ -1,4 +1,4 @@
-use Rattle.std.proofs.Common.{Ok, subst, sym}
+use Rattle.std.proofs.Common.{Ok, subst, sym, arith}
 use Rattle.et_top.specs.Following.{FollowsBytes, FollowsTrace}
 use Rattle.et_top.specs.Loaded.{IsTraceOf}
 use Rattle.et_top.specs.Told.{cause_of, is_reading}
@@ -11,7 +11,7 @@ pub returns-in-Ok-clause-tells : goal.returns-in-Ok-clause-tells
 returns-in-Ok-clause-tells g c held told found is =
     tells_of_by _ (FollowsBytes g.F.Follower.follows c.deref.result.now) (FollowsTrace g.F.Follower.follows) found c.follow_in.result
     (λ lines follower f. record { good = good_spelled lines c.deref.result.now f.spells; followed = f.followed })
-    (c.follow_in.ensures.tells found (subst (λ bytes. IsTraceOf (Ok bytes) found) (sym c.deref.ensures.value) (subst (λ file. IsTraceOf file found) (c.in-Ok.ensures.tells held told) is)))
+    (c.follow_in.ensures.tells found (subst (λ bytes. IsTraceOf (Ok bytes) found) (sym c.deref.ensures.value) (subst (λ file. IsTraceOf file found) (c.in-Ok.ensures.tells (g.S.Files.asked c.args.files.now) held (omega arith) told) is)))
 
 pub returns-in-Ok-clause-trace : goal.returns-in-Ok-clause-trace
 returns-in-Ok-clause-trace g c =
@@ -26,4 +26,10 @@ pub returns-in-Ok-clause-file : goal.returns-in-Ok-clause-file
 returns-in-Ok-clause-file g c = file_refusal c.follow_in.result c.follow_in.ensures.bytes
 
 pub returns-in-Err-clause-tells : goal.returns-in-Err-clause-tells
-returns-in-Err-clause-tells g c held told found is = trace_not_read _ _ (cause_of c.in-Err.refusal) found (c.in-Err.ensures.tells held told) is
+returns-in-Err-clause-tells g c held told found is = trace_not_read _ _ (cause_of c.in-Err.refusal) found (c.in-Err.ensures.tells (g.S.Files.asked c.args.files.now) held (omega arith) told) is
+
+pub returns-in-Ok-clause-asked : goal.returns-in-Ok-clause-asked
+returns-in-Ok-clause-asked g c = (c.in-Ok.ensures.asked.0, c.in-Ok.ensures.asked.1)
+
+pub returns-in-Err-clause-asked : goal.returns-in-Err-clause-asked
+returns-in-Err-clause-asked g c = (c.in-Err.ensures.asked.0, c.in-Err.ensures.asked.1)

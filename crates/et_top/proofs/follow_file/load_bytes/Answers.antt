@@ -1,4 +1,4 @@
-use Rattle.std.proofs.Common.{subst}
+use Rattle.std.proofs.Common.{subst, arith}
 use Rattle.et_convert.specs.Spellings.{SpellsTrace}
 use Rattle.et_top.specs.Loaded.{IsTraceOf}
 use Rattle.et_top.specs.Told.{cause_of, is_reading}
@@ -10,7 +10,7 @@ use Rattle.et_top.proofs.follow_file.load_bytes.Goals as goal
 pub returns-in-Ok-clause-tells : goal.returns-in-Ok-clause-tells
 returns-in-Ok-clause-tells g c held told found is =
     tells_of_by _ (λ lines bytes. SpellsTrace lines bytes.items) (λ lines bytes. SpellsTrace lines bytes.items) found c.checked.result (λ lines bytes s. s)
-    (c.checked.ensures.tells found (subst (λ file. IsTraceOf file found) (c.in-Ok.ensures.tells held told) is))
+    (c.checked.ensures.tells found (subst (λ file. IsTraceOf file found) (c.in-Ok.ensures.tells (g.S.Files.asked c.args.files.now) held (omega arith) told) is))
 
 pub returns-in-Ok-clause-faults : goal.returns-in-Ok-clause-faults
 returns-in-Ok-clause-faults g c = same_count (is_reading c.checked.result) _ _ c.in-Ok.ensures.faults (not_reading c.checked.result c.checked.ensures.bytes)
@@ -19,4 +19,10 @@ pub returns-in-Ok-clause-file : goal.returns-in-Ok-clause-file
 returns-in-Ok-clause-file g c = file_refusal c.checked.result c.checked.ensures.bytes
 
 pub returns-in-Err-clause-tells : goal.returns-in-Err-clause-tells
-returns-in-Err-clause-tells g c held told found is = trace_not_read _ _ (cause_of c.in-Err.refusal) found (c.in-Err.ensures.tells held told) is
+returns-in-Err-clause-tells g c held told found is = trace_not_read _ _ (cause_of c.in-Err.refusal) found (c.in-Err.ensures.tells (g.S.Files.asked c.args.files.now) held (omega arith) told) is
+
+pub returns-in-Ok-clause-asked : goal.returns-in-Ok-clause-asked
+returns-in-Ok-clause-asked g c = (c.in-Ok.ensures.asked.0, c.in-Ok.ensures.asked.1)
+
+pub returns-in-Err-clause-asked : goal.returns-in-Err-clause-asked
+returns-in-Err-clause-asked g c = (c.in-Err.ensures.asked.0, c.in-Err.ensures.asked.1)

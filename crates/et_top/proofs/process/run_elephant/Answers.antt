@@ -3,7 +3,7 @@ use Rattle.std.specs.Prelude.{string_bytes}
 use Rattle.et_top.specs.Command.{command}
 use Rattle.et_top.specs.Top.{IsDefined}
 use Rattle.et_top.specs.Process.{model_kinds}
-use Rattle.et_top.specs.Reads.{ReadsInOrder, paths_of, is_early}
+use Rattle.et_top.specs.Reads.{ReadsInOrder, paths_of, most_of, is_early}
 use Rattle.et_top.specs.Status.{is_read_status, is_write_status}
 use Rattle.et_top.proofs.FaultLemmas.{same_count}
 use Rattle.et_top.proofs.ReadLemmas.{none_read}
@@ -24,12 +24,12 @@ returns-in-Ok-clause-answers g c =
 
 pub returns-in-Ok-with_models-clause-reads : goal.returns-in-Ok-with_models-clause-reads
 returns-in-Ok-with_models-clause-reads g c =
-    rw c.in-Ok.is (subst (λ words. ReadsInOrder (g.F.Files.holds c.args.files.now) (g.F.Files.asked c.args.files.now) (g.F.Files.asked c.with_models.new.files) (paths_of (command (map string_bytes words))) c.in-Ok-with_models.status)
+    rw c.in-Ok.is (subst (λ words. ReadsInOrder (g.F.Files.agrees c.with_models.new.files (g.F.Files.asked c.args.files.now)) (g.F.Files.asked c.args.files.now) (g.F.Files.asked c.with_models.new.files) (most_of (command (map string_bytes words))) (paths_of (command (map string_bytes words))) c.in-Ok-with_models.status)
     c.deref.ensures.value c.in-Ok-with_models.ensures.reads)
 
 pub returns-in-Ok-clause-reads : goal.returns-in-Ok-clause-reads
 returns-in-Ok-clause-reads g c =
-    rw c.in-Ok.is (rw c.in-Err.ensures.files (none_read _ _ _ c.refuse.result (λ late. let early = ap is_early c.refuse.ensures in absurd (cc (early, late)))))
+    rw c.in-Ok.is (rw c.in-Err.ensures.files (none_read _ _ _ _ c.refuse.result (λ late. let early = ap is_early c.refuse.ensures in absurd (cc (early, late)))))
 
 pub returns-in-Ok-clause-read_fault : goal.returns-in-Ok-clause-read_fault
 returns-in-Ok-clause-read_fault g c = same_count (is_read_status c.refuse.result) _ _ (ap g.F.Files.faults c.in-Err.ensures.files) (ap is_read_status c.refuse.ensures)

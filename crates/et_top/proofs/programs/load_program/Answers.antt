@@ -23,4 +23,4 @@ returns-in-Err-clause-tells g c held told program is =
     program_not_read _ is.0 (cause_of c.in-Err.refusal) program (c.in-Err.ensures.tells held told is.0 is.1) is.2
 
 pub returns-in-Ok-clause-reads : goal.returns-in-Ok-clause-reads
-returns-in-Ok-clause-reads g c = reads_whole _ _ _ _ status.Done _ refl c.in-Ok.ensures.reads
+returns-in-Ok-clause-reads g c = reads_whole _ _ _ _ _ status.Done _ refl c.in-Ok.ensures.reads

@@ -2,7 +2,7 @@ use Rattle.std.proofs.Common.{◌∙◌, refl, ap, sym, subst, map, string_bytes
 use Rattle.et_io.specs.Faults.{Rose}
 use Rattle.et_top.specs.Command.{Asked}
 use Rattle.et_top.specs.Top.{GivesDefined}
-use Rattle.et_top.specs.Reads.{ReadsInOrder, paths_of, is_early}
+use Rattle.et_top.specs.Reads.{ReadsInOrder, paths_of, most_of, is_early}
 use Rattle.et_top.specs.Command.{command}
 use Rattle.et_top.specs.Visits.{IsWithoutRun, HasUnread}
 use Rattle.std.specs.Prelude.{Option, option_map}
@@ -43,15 +43,15 @@ returns-in-Some-clause-unread g c few =
 pub returns-in-Some-clause-reads : goal.returns-in-Some-clause-reads
 returns-in-Some-clause-reads g c =
     let is = sym (ap (λ (o : Option Command). option_map asked_by o) c.in-Some.is) ∙ c.in-Ok.ensures.command in
-    subst (λ (a : Option Asked). ReadsInOrder (g.F.Files.holds c.args.files.now) (g.F.Files.asked c.args.files.now) (g.F.Files.asked c.perform.new.files) (paths_of a) c.perform.result) is c.perform.ensures.reads
+    subst (λ (a : Option Asked). ReadsInOrder (g.F.Files.agrees c.perform.new.files (g.F.Files.asked c.args.files.now)) (g.F.Files.asked c.args.files.now) (g.F.Files.asked c.perform.new.files) (most_of a) (paths_of a) c.perform.result) is c.perform.ensures.reads
 
 pub returns-in-Err-clause-reads : goal.returns-in-Err-clause-reads
-returns-in-Err-clause-reads g c = none_read _ _ (paths_of (command (map string_bytes c.args.words.now))) c.refuse.result (λ late. let early = ap is_early c.refuse.ensures in absurd (cc (early, late)))
+returns-in-Err-clause-reads g c = none_read _ _ _ (paths_of (command (map string_bytes c.args.words.now))) c.refuse.result (λ late. let early = ap is_early c.refuse.ensures in absurd (cc (early, late)))
 
 pub returns-in-None-clause-reads : goal.returns-in-None-clause-reads
 returns-in-None-clause-reads g c =
     let is = sym (ap (λ (o : Option Command). option_map asked_by o) c.in-None.is) ∙ c.in-Ok.ensures.command in
-    none_read _ _ (paths_of (command (map string_bytes c.args.words.now))) c.refuse-in-None.result (λ late. ap paths_of (sym is))
+    none_read _ _ _ (paths_of (command (map string_bytes c.args.words.now))) c.refuse-in-None.result (λ late. ap paths_of (sym is))
 
 pub returns-in-Err-clause-read_fault : goal.returns-in-Err-clause-read_fault
 returns-in-Err-clause-read_fault g c = same_count (is_read_status c.refuse.result) _ _ refl (ap is_read_status c.refuse.ensures)

@@ -3,7 +3,7 @@ use Rattle.std.specs.Prelude.{Some}
 use Rattle.et_top.specs.declared.command.Command.{Command}
 use Rattle.et_top.specs.Asked.{asked_by}
 use Rattle.et_top.specs.Visits.{IsWithoutRun, IsNoTrace, HasUnread}
-use Rattle.et_top.specs.Reads.{ReadsInOrder, paths_of}
+use Rattle.et_top.specs.Reads.{ReadsInOrder, paths_of, most_of}
 use Rattle.et_top.specs.Status.{is_read_status}
 use Rattle.et_top.specs.Top.{GivesDefined}
 use Rattle.et_io.specs.Faults.{Rose}
@@ -26,7 +26,7 @@ returns-in-Verify-clause-gives g c held told d defined reached decides =
     c.verify.ensures.gives held told [] d (by_arm _ held d _ _ c.in-Verify.is defined) reached decides _ _
 
 pub returns-in-Verify-clause-reads : goal.returns-in-Verify-clause-reads
-returns-in-Verify-clause-reads g c = subst (λ (x : Command). ReadsInOrder (g.F.Files.holds c.args.files.now) (g.F.Files.asked c.args.files.now) (g.F.Files.asked c.verify.new.files) (paths_of (Some (asked_by x))) c.verify.result) (sym c.in-Verify.is) c.verify.ensures.reads
+returns-in-Verify-clause-reads g c = subst (λ (x : Command). ReadsInOrder (g.F.Files.agrees c.verify.new.files (g.F.Files.asked c.args.files.now)) (g.F.Files.asked c.args.files.now) (g.F.Files.asked c.verify.new.files) (most_of (Some (asked_by x))) (paths_of (Some (asked_by x))) c.verify.result) (sym c.in-Verify.is) c.verify.ensures.reads
 
 pub returns-in-Replay-clause-gives : goal.returns-in-Replay-clause-gives
 returns-in-Replay-clause-gives g c held told d defined reached decides =
@@ -57,22 +57,22 @@ returns-in-Trace-clause-unread g c few =
     c.trace.ensures.unread (subst (λ (x : Command). HasUnread (g.F.Files.asked c.args.files.now) (g.F.Files.asked c.trace.new.files) (paths_of (Some (asked_by x)))) c.in-Trace.is few)
 
 pub returns-in-Trace-clause-reads : goal.returns-in-Trace-clause-reads
-returns-in-Trace-clause-reads g c = subst (λ (x : Command). ReadsInOrder (g.F.Files.holds c.args.files.now) (g.F.Files.asked c.args.files.now) (g.F.Files.asked c.trace.new.files) (paths_of (Some (asked_by x))) c.trace.result) (sym c.in-Trace.is) c.trace.ensures.reads
+returns-in-Trace-clause-reads g c = subst (λ (x : Command). ReadsInOrder (g.F.Files.agrees c.trace.new.files (g.F.Files.asked c.args.files.now)) (g.F.Files.asked c.args.files.now) (g.F.Files.asked c.trace.new.files) (most_of (Some (asked_by x))) (paths_of (Some (asked_by x))) c.trace.result) (sym c.in-Trace.is) c.trace.ensures.reads
 
 pub returns-in-Assemble-clause-reads : goal.returns-in-Assemble-clause-reads
-returns-in-Assemble-clause-reads g c = subst (λ (x : Command). ReadsInOrder (g.F.Files.holds c.args.files.now) (g.F.Files.asked c.args.files.now) (g.F.Files.asked c.assemble.new.files) (paths_of (Some (asked_by x))) c.assemble.result) (sym c.in-Assemble.is) (one_read _ _ _ _ _ c.assemble.ensures.asked)
+returns-in-Assemble-clause-reads g c = subst (λ (x : Command). ReadsInOrder (g.F.Files.agrees c.assemble.new.files (g.F.Files.asked c.args.files.now)) (g.F.Files.asked c.args.files.now) (g.F.Files.asked c.assemble.new.files) (most_of (Some (asked_by x))) (paths_of (Some (asked_by x))) c.assemble.result) (sym c.in-Assemble.is) (one_read _ _ _ _ _ _ c.assemble.ensures.asked)
 
 pub returns-in-Replay-clause-reads : goal.returns-in-Replay-clause-reads
-returns-in-Replay-clause-reads g c = subst (λ (x : Command). ReadsInOrder (g.F.Files.holds c.args.files.now) (g.F.Files.asked c.args.files.now) (g.F.Files.asked c.replay.new.files) (paths_of (Some (asked_by x))) c.replay.result) (sym c.in-Replay.is) (one_read _ _ _ _ _ c.replay.ensures.asked)
+returns-in-Replay-clause-reads g c = subst (λ (x : Command). ReadsInOrder (g.F.Files.agrees c.replay.new.files (g.F.Files.asked c.args.files.now)) (g.F.Files.asked c.args.files.now) (g.F.Files.asked c.replay.new.files) (most_of (Some (asked_by x))) (paths_of (Some (asked_by x))) c.replay.result) (sym c.in-Replay.is) (one_read _ _ _ _ _ _ c.replay.ensures.asked)
 
 pub returns-in-Convert-clause-reads : goal.returns-in-Convert-clause-reads
-returns-in-Convert-clause-reads g c = subst (λ (x : Command). ReadsInOrder (g.F.Files.holds c.args.files.now) (g.F.Files.asked c.args.files.now) (g.F.Files.asked c.convert.new.files) (paths_of (Some (asked_by x))) c.convert.result) (sym c.in-Convert.is) (one_read _ _ _ _ _ c.convert.ensures.asked)
+returns-in-Convert-clause-reads g c = subst (λ (x : Command). ReadsInOrder (g.F.Files.agrees c.convert.new.files (g.F.Files.asked c.args.files.now)) (g.F.Files.asked c.args.files.now) (g.F.Files.asked c.convert.new.files) (most_of (Some (asked_by x))) (paths_of (Some (asked_by x))) c.convert.result) (sym c.in-Convert.is) (one_read _ _ _ _ _ _ c.convert.ensures.asked)
 
 pub returns-in-Curve-clause-reads : goal.returns-in-Curve-clause-reads
-returns-in-Curve-clause-reads g c = subst (λ (x : Command). ReadsInOrder (g.F.Files.holds c.args.files.now) (g.F.Files.asked c.args.files.now) (g.F.Files.asked c.curve.new.files) (paths_of (Some (asked_by x))) c.curve.result) (sym c.in-Curve.is) (one_read _ _ _ _ _ c.curve.ensures.asked)
+returns-in-Curve-clause-reads g c = subst (λ (x : Command). ReadsInOrder (g.F.Files.agrees c.curve.new.files (g.F.Files.asked c.args.files.now)) (g.F.Files.asked c.args.files.now) (g.F.Files.asked c.curve.new.files) (most_of (Some (asked_by x))) (paths_of (Some (asked_by x))) c.curve.result) (sym c.in-Curve.is) (one_read _ _ _ _ _ _ c.curve.ensures.asked)
 
 pub returns-in-Snapshot-clause-reads : goal.returns-in-Snapshot-clause-reads
-returns-in-Snapshot-clause-reads g c = subst (λ (x : Command). ReadsInOrder (g.F.Files.holds c.args.files.now) (g.F.Files.asked c.args.files.now) (g.F.Files.asked c.snapshot.new.files) (paths_of (Some (asked_by x))) c.snapshot.result) (sym c.in-Snapshot.is) (one_read _ _ _ _ _ c.snapshot.ensures.asked)
+returns-in-Snapshot-clause-reads g c = subst (λ (x : Command). ReadsInOrder (g.F.Files.agrees c.snapshot.new.files (g.F.Files.asked c.args.files.now)) (g.F.Files.asked c.args.files.now) (g.F.Files.asked c.snapshot.new.files) (most_of (Some (asked_by x))) (paths_of (Some (asked_by x))) c.snapshot.result) (sym c.in-Snapshot.is) (one_read _ _ _ _ _ _ c.snapshot.ensures.asked)
 
 pub returns-in-Bench-clause-gives : goal.returns-in-Bench-clause-gives
 returns-in-Bench-clause-gives g c held told d defined reached decides =
@@ -88,7 +88,7 @@ pub returns-in-Bench-clause-read_fault : goal.returns-in-Bench-clause-read_fault
 returns-in-Bench-clause-read_fault g c = same_count (is_read_status c.bench.result) _ _ refl c.bench.ensures.no_read
 
 pub returns-in-Bench-clause-reads : goal.returns-in-Bench-clause-reads
-returns-in-Bench-clause-reads g c = subst (λ (x : Command). ReadsInOrder (g.F.Files.holds c.args.files.now) (g.F.Files.asked c.args.files.now) (g.F.Files.asked c.args.files.now) (paths_of (Some (asked_by x))) c.bench.result) (sym c.in-Bench.is) (none_read _ _ [] c.bench.result (λ late. refl))
+returns-in-Bench-clause-reads g c = subst (λ (x : Command). ReadsInOrder (g.F.Files.agrees c.args.files.now (g.F.Files.asked c.args.files.now)) (g.F.Files.asked c.args.files.now) (g.F.Files.asked c.args.files.now) (most_of (Some (asked_by x))) (paths_of (Some (asked_by x))) c.bench.result) (sym c.in-Bench.is) (none_read _ _ _ [] c.bench.result (λ late. refl))
 
 pub returns-in-Bench-clause-no_visits : goal.returns-in-Bench-clause-no_visits
 returns-in-Bench-clause-no_visits g c without =
@@ -121,4 +121,4 @@ returns-in-Run-clause-unread g c few =
     c.run.ensures.unread (subst (λ (x : Command). HasUnread (g.F.Files.asked c.args.files.now) (g.F.Files.asked c.run.new.files) (paths_of (Some (asked_by x)))) c.in-Run.is few)
 
 pub returns-in-Run-clause-reads : goal.returns-in-Run-clause-reads
-returns-in-Run-clause-reads g c = subst (λ (x : Command). ReadsInOrder (g.F.Files.holds c.args.files.now) (g.F.Files.asked c.args.files.now) (g.F.Files.asked c.run.new.files) (paths_of (Some (asked_by x))) c.run.result) (sym c.in-Run.is) c.run.ensures.reads
+returns-in-Run-clause-reads g c = subst (λ (x : Command). ReadsInOrder (g.F.Files.agrees c.run.new.files (g.F.Files.asked c.args.files.now)) (g.F.Files.asked c.args.files.now) (g.F.Files.asked c.run.new.files) (most_of (Some (asked_by x))) (paths_of (Some (asked_by x))) c.run.result) (sym c.in-Run.is) c.run.ensures.reads
