@@ -1,6 +1,6 @@
 /**
  * A parser: it makes sums and products as texts, cuts each text into pieces, makes a tree of them, works it out and drops it
- * all. A text is an array of chars, and so is each of its pieces; none lives for longer than one line.
+ * all. Each piece is a text of its own; none lives for longer than one line.
  */
 public class Calculator {
     private static final int LINES = 40;
@@ -8,11 +8,11 @@ public class Calculator {
     /** A number or an operator with two sides. */
     static final class Term {
         final char operator;
-        final char[] digits;
+        final String digits;
         final Term left;
         final Term right;
 
-        Term(char[] digits) {
+        Term(String digits) {
             this.operator = '0';
             this.digits = digits;
             this.left = null;
@@ -36,8 +36,8 @@ public class Calculator {
                     return left.value() * right.value();
                 default:
                     long value = 0;
-                    for (char digit : digits) {
-                        value = 10 * value + digit - '0';
+                    for (int i = 0; i < digits.length(); i++) {
+                        value = 10 * value + digits.charAt(i) - '0';
                     }
                     return value;
             }
@@ -46,29 +46,27 @@ public class Calculator {
 
     /** Cuts the next piece off a text. */
     static final class Pieces {
-        private final char[] text;
+        private final String text;
         private int at;
 
-        Pieces(char[] text) {
+        Pieces(String text) {
             this.text = text;
         }
 
         /** The next char, or 0 at the end. */
         char peek() {
-            return at < text.length ? text[at] : 0;
+            return at < text.length() ? text.charAt(at) : 0;
         }
 
         /** A number as a whole, or an operator or parenthesis. */
-        char[] next() {
-            int from = at++;
-            while (isDigit(text[from]) && isDigit(peek())) {
+        String next() {
+            StringBuilder piece = new StringBuilder();
+            char first = peek();
+            do {
+                piece.append(peek());
                 at++;
-            }
-            char[] piece = new char[at - from];
-            for (int i = 0; i < piece.length; i++) {
-                piece[i] = text[from + i];
-            }
-            return piece;
+            } while (isDigit(first) && isDigit(peek()));
+            return piece.toString();
         }
 
         private static boolean isDigit(char c) {
@@ -79,7 +77,7 @@ public class Calculator {
     static Term sum(Pieces pieces) {
         Term sum = product(pieces);
         while (pieces.peek() == '+' || pieces.peek() == '-') {
-            char operator = pieces.next()[0];
+            char operator = pieces.next().charAt(0);
             sum = new Term(operator, sum, product(pieces));
         }
         return sum;
@@ -88,7 +86,7 @@ public class Calculator {
     static Term product(Pieces pieces) {
         Term product = factor(pieces);
         while (pieces.peek() == '*') {
-            char operator = pieces.next()[0];
+            char operator = pieces.next().charAt(0);
             product = new Term(operator, product, factor(pieces));
         }
         return product;
@@ -104,41 +102,34 @@ public class Calculator {
         return inner;
     }
 
-    /** A text that grows by being copied. */
-    static char[] joined(char[] a, char[] b) {
-        char[] text = new char[a.length + b.length];
-        for (int i = 0; i < a.length; i++) {
-            text[i] = a[i];
-        }
-        for (int i = 0; i < b.length; i++) {
-            text[a.length + i] = b[i];
-        }
-        return text;
-    }
-
-    /** The text of line i: the further down, the longer. */
-    static char[] line(int i) {
-        char[] text = {(char) ('1' + i % 9)};
+    /** The text of line i, which is joined part by part: the further down, the longer. */
+    static String line(int i) {
+        String text = "" + (1 + i % 9);
         for (int part = 0; part < 2 + i / 4; part++) {
             switch ((i + part) % 3) {
                 case 0:
-                    text = joined(text, new char[] {'+', (char) ('0' + part % 10), '7'});
+                    text += "+" + part % 10 + "7";
                     break;
                 case 1:
-                    text = joined(text, new char[] {'*', '(', '4', '2', '-', (char) ('0' + i % 10), ')'});
+                    text += "*(42-" + i % 10 + ")";
                     break;
                 default:
-                    text = joined(text, new char[] {'-', '5'});
+                    text += "-5";
             }
         }
         return text;
     }
 
-    static long total;
-
     public static void main(String[] arguments) {
+        long total = 0;
         for (int i = 0; i < LINES; i++) {
-            total += sum(new Pieces(line(i))).value();
+            String line = line(i);
+            long value = sum(new Pieces(line)).value();
+            total += value;
+            if (i % 16 == 0) {
+                System.out.println(line + " = " + value);
+            }
         }
+        System.out.println(LINES + " lines, in all " + total);
     }
 }

@@ -69,6 +69,7 @@ public class Exchange {
     static final class Consumer extends Thread {
         private final Buffer buffer;
         private Parcel greatest;
+        private int parcels;
         private int bytes;
 
         Consumer(Buffer buffer) {
@@ -80,6 +81,7 @@ public class Exchange {
             while (!buffer.isDone()) {
                 Parcel parcel = buffer.take();
                 if (parcel != null) {
+                    parcels++;
                     bytes += parcel.content.length;
                     if (greatest == null || parcel.content.length > greatest.content.length) {
                         greatest = parcel;
@@ -100,5 +102,6 @@ public class Exchange {
         producer.join();
         one.join();
         two.join();
+        System.out.println(one.parcels + two.parcels + " parcels with " + (one.bytes + two.bytes) + " bytes");
     }
 }

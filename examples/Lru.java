@@ -83,5 +83,6 @@ public class Lru {
         for (int i = 0; i < 300; i++) {
             cache.get((random.nextInt(12) + i / 10) % 40);
         }
+        System.out.println(cache.loaded + " pages loaded, " + cache.found + " found");
     }
 }

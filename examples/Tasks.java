@@ -128,7 +128,9 @@ public class Tasks {
         Scheduler scheduler = new Scheduler();
         Ledger ledger = new Ledger();
         Task[] workers = {new Worker(1, ledger), new Worker(2, ledger), new Worker(3, ledger)};
-        scheduler.wake(new Source(workers));
+        Source source = new Source(workers);
+        scheduler.wake(source);
         scheduler.run();
+        System.out.println(source.made + " orders at a cost of " + ledger.total + ", " + ledger.kept.size() + " kept");
     }
 }

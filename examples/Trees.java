@@ -1,6 +1,6 @@
 /**
- * The binary trees by which collectors are compared, with ints for sums: a deep tree that goes at once, one that is kept to
- * the end, and many of each depth between that go as soon as they are counted.
+ * The binary trees by which collectors are compared: a deep tree that goes at once, one that is kept to the end, and many of
+ * each depth between that go as soon as they are counted.
  */
 public class Trees {
     private static final int SHALLOWEST = 2;
@@ -22,16 +22,21 @@ public class Trees {
         }
     }
 
-    static int sum;
+    private static void told(int depth, int trees, int nodes) {
+        System.out.println("depth " + depth + ": trees " + trees + ", nodes " + nodes);
+    }
 
     public static void main(String[] arguments) {
-        sum = new Tree(DEEPEST + 1).count();
+        told(DEEPEST + 1, 1, new Tree(DEEPEST + 1).count());
         Tree kept = new Tree(DEEPEST);
         for (int depth = SHALLOWEST; depth <= DEEPEST; depth += 2) {
-            for (int trees = 1 << DEEPEST - depth; trees > 0; trees--) {
-                sum += new Tree(depth).count();
+            int trees = 1 << DEEPEST - depth;
+            int nodes = 0;
+            for (int i = 0; i < trees; i++) {
+                nodes += new Tree(depth).count();
             }
+            told(depth, trees, nodes);
         }
-        sum += kept.count();
+        told(DEEPEST, 1, kept.count());
     }
 }

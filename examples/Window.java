@@ -1,4 +1,11 @@
-/** Messages of three lifetimes: what is read at once, what stands in a window of the last 64, and what is kept. */
+import java.util.ArrayDeque;
+import java.util.ArrayList;
+import java.util.Random;
+
+/**
+ * Messages of three lifetimes: what is read at once, what stands in a window of the last 64, and what is kept. It uses the
+ * collections of guest/.
+ */
 public class Window {
     private static class Message {
         final int[] body;
@@ -21,35 +28,24 @@ public class Window {
         }
     }
 
-    private static class Kept {
-        final Message message;
-        final Kept before;
-
-        Kept(Message message, Kept before) {
-            this.message = message;
-            this.before = before;
-        }
-    }
-
-    private static int seed = 1;
-
-    private static int random(int below) {
-        seed = seed * 1103515245 + 12345;
-        return (seed >>> 16) % below;
-    }
-
     public static void main(String[] arguments) {
-        Message[] window = new Message[64];
-        Kept kept = null;
-        int sum = 0;
+        Random random = new Random(1);
+        ArrayDeque<Message> window = new ArrayDeque<Message>();
+        ArrayList<Message> kept = new ArrayList<Message>();
+        int read = 0;
         for (int i = 0; i < 3000; i++) {
-            Message message = new Message(4 + random(12));
-            window[i % 64] = message;
+            Message message = new Message(4 + random.nextInt(12));
+            message.body[1] = i;
+            window.add(message);
+            if (window.size() > 64) {
+                window.poll();
+            }
             Cursor cursor = new Cursor(message);
-            sum += cursor.next() + cursor.next();
-            if (random(50) == 0) {
-                kept = new Kept(message, kept);
+            read += cursor.next() + cursor.next();
+            if (random.nextInt(50) == 0) {
+                kept.add(message);
             }
         }
+        System.out.println("read " + read + ", " + window.size() + " in the window, " + kept.size() + " kept");
     }
 }

@@ -59,6 +59,9 @@ OPERANDS = {op: size for size, ops in {
 FLOATING = {*range(0x0b, 0x10), 0x17, 0x18, *range(0x22, 0x2a), 0x30, 0x31, 0x38, 0x39, *range(0x43, 0x4b), 0x51, 0x52, 0x62, 0x63,
             0x66, 0x67, 0x6a, 0x6b, 0x6e, 0x6f, 0x72, 0x73, 0x76, 0x77, 0x86, 0x87, *range(0x89, 0x91), *range(0x95, 0x99), 0xae, 0xaf}
 
+# The class files of the library for traced programs.
+GUEST = Path(__file__).resolve().parent.parent / 'guest' / 'classes'
+
 # What a class file names: a class, or a member of it (name and descriptor, a space between for a field), and in which method.
 Use = namedtuple('Use', 'kind class_name member method line')
 # Something that the program refuses in a class file, and where.
@@ -308,14 +311,14 @@ class Classes:
 
 def missing(files):
     """A line for each thing that class files need and that is neither given nor built in: what it is, what happens then, and
-    where it is named; what is refused comes first."""
-    classes, found = Classes(files), {}
+    where it is named; what is refused comes first. Of those of guest/ nothing is told: docs/guest-library.md does."""
+    classes, found, own = Classes(files), {}, {path.read_bytes() for path in GUEST.rglob('*.class')}
 
     def add(what, then, file, method=None, line=None):
         where = file.name + (f'.{method}' if method else '') + (f', line {line}' if line else '')
         found.setdefault((not then.startswith('refused'), what, then), []).append(where)
 
-    for file in files:
+    for file in (file for file in files if file.data not in own):
         look_at_file(file, classes, add)
         for use in file.uses:
             look_at_use(file, use, classes, add)

@@ -33,27 +33,27 @@ public class ArrayHelp {
     }
 
     static void tell(int[] array) {
-        Report.number(array.length);
+        System.out.println(array.length);
         for (int i = 0; i < array.length; i++) {
-            Report.number(array[i]);
+            System.out.println(array[i]);
         }
     }
 
     static void tryInts() {
         for (int length = 0; length < 90; length += 11) {
             int[] array = someInts(length, length % 2 == 0 ? 60000 : 20);
-            Report.number(Arrays.hashCode(array));
+            System.out.println(Arrays.hashCode(array));
             int[] same = Arrays.copyOf(array, length);
-            Report.truth(Arrays.equals(array, same));
+            System.out.println(Arrays.equals(array, same));
             Arrays.sort(same);
             tell(same);
-            Report.truth(Arrays.equals(array, same));
+            System.out.println(Arrays.equals(array, same));
             for (int i = 0; i < 6; i++) {
                 int key = (int) (choose(25) - 8);
                 int found = Arrays.binarySearch(same, key);
-                Report.number(found < 0 ? found : 1);
+                System.out.println(found < 0 ? found : 1);
                 found = Arrays.binarySearch(same, length / 4, length / 2, key);
-                Report.number(found < 0 ? found : 1);
+                System.out.println(found < 0 ? found : 1);
             }
             Arrays.sort(array, length / 3, length - length / 4);
             tell(array);
@@ -65,9 +65,9 @@ public class ArrayHelp {
             Arrays.fill(array, (int) 9);
             tell(array);
         }
-        Report.truth(Arrays.equals((int[]) null, new int[0]));
-        Report.truth(Arrays.equals((int[]) null, (int[]) null));
-        Report.number(Arrays.hashCode((int[]) null));
+        System.out.println(Arrays.equals((int[]) null, new int[0]));
+        System.out.println(Arrays.equals((int[]) null, (int[]) null));
+        System.out.println(Arrays.hashCode((int[]) null));
         for (int which = 0; which < 9; which++) {
             int[] array = someInts(4, 10);
             try {
@@ -82,13 +82,13 @@ public class ArrayHelp {
                     case 7: Arrays.binarySearch(array, 2, 9, (int) 1); break;
                     default: Arrays.copyOfRange(array, -1, 2);
                 }
-                Report.number(0);
+                System.out.println(0);
             } catch (ArrayIndexOutOfBoundsException e) {
-                Report.number(1);
+                System.out.println(1);
             } catch (IllegalArgumentException e) {
-                Report.number(2);
+                System.out.println(2);
             } catch (NegativeArraySizeException e) {
-                Report.number(3);
+                System.out.println(3);
             }
         }
     }
@@ -102,27 +102,27 @@ public class ArrayHelp {
     }
 
     static void tell(long[] array) {
-        Report.number(array.length);
+        System.out.println(array.length);
         for (int i = 0; i < array.length; i++) {
-            Report.number(array[i]);
+            System.out.println(array[i]);
         }
     }
 
     static void tryLongs() {
         for (int length = 0; length < 90; length += 11) {
             long[] array = someLongs(length, length % 2 == 0 ? 60000 : 20);
-            Report.number(Arrays.hashCode(array));
+            System.out.println(Arrays.hashCode(array));
             long[] same = Arrays.copyOf(array, length);
-            Report.truth(Arrays.equals(array, same));
+            System.out.println(Arrays.equals(array, same));
             Arrays.sort(same);
             tell(same);
-            Report.truth(Arrays.equals(array, same));
+            System.out.println(Arrays.equals(array, same));
             for (int i = 0; i < 6; i++) {
                 long key = (long) (choose(25) - 8);
                 int found = Arrays.binarySearch(same, key);
-                Report.number(found < 0 ? found : 1);
+                System.out.println(found < 0 ? found : 1);
                 found = Arrays.binarySearch(same, length / 4, length / 2, key);
-                Report.number(found < 0 ? found : 1);
+                System.out.println(found < 0 ? found : 1);
             }
             Arrays.sort(array, length / 3, length - length / 4);
             tell(array);
@@ -134,9 +134,9 @@ public class ArrayHelp {
             Arrays.fill(array, (long) 9);
             tell(array);
         }
-        Report.truth(Arrays.equals((long[]) null, new long[0]));
-        Report.truth(Arrays.equals((long[]) null, (long[]) null));
-        Report.number(Arrays.hashCode((long[]) null));
+        System.out.println(Arrays.equals((long[]) null, new long[0]));
+        System.out.println(Arrays.equals((long[]) null, (long[]) null));
+        System.out.println(Arrays.hashCode((long[]) null));
         for (int which = 0; which < 9; which++) {
             long[] array = someLongs(4, 10);
             try {
@@ -151,13 +151,13 @@ public class ArrayHelp {
                     case 7: Arrays.binarySearch(array, 2, 9, (long) 1); break;
                     default: Arrays.copyOfRange(array, -1, 2);
                 }
-                Report.number(0);
+                System.out.println(0);
             } catch (ArrayIndexOutOfBoundsException e) {
-                Report.number(1);
+                System.out.println(1);
             } catch (IllegalArgumentException e) {
-                Report.number(2);
+                System.out.println(2);
             } catch (NegativeArraySizeException e) {
-                Report.number(3);
+                System.out.println(3);
             }
         }
     }
@@ -171,27 +171,27 @@ public class ArrayHelp {
     }
 
     static void tell(char[] array) {
-        Report.number(array.length);
+        System.out.println(array.length);
         for (int i = 0; i < array.length; i++) {
-            Report.number(array[i]);
+            System.out.println((int) array[i]);
         }
     }
 
     static void tryChars() {
         for (int length = 0; length < 90; length += 11) {
             char[] array = someChars(length, length % 2 == 0 ? 60000 : 20);
-            Report.number(Arrays.hashCode(array));
+            System.out.println(Arrays.hashCode(array));
             char[] same = Arrays.copyOf(array, length);
-            Report.truth(Arrays.equals(array, same));
+            System.out.println(Arrays.equals(array, same));
             Arrays.sort(same);
             tell(same);
-            Report.truth(Arrays.equals(array, same));
+            System.out.println(Arrays.equals(array, same));
             for (int i = 0; i < 6; i++) {
                 char key = (char) (choose(25) - 8);
                 int found = Arrays.binarySearch(same, key);
-                Report.number(found < 0 ? found : 1);
+                System.out.println(found < 0 ? found : 1);
                 found = Arrays.binarySearch(same, length / 4, length / 2, key);
-                Report.number(found < 0 ? found : 1);
+                System.out.println(found < 0 ? found : 1);
             }
             Arrays.sort(array, length / 3, length - length / 4);
             tell(array);
@@ -203,9 +203,9 @@ public class ArrayHelp {
             Arrays.fill(array, (char) 9);
             tell(array);
         }
-        Report.truth(Arrays.equals((char[]) null, new char[0]));
-        Report.truth(Arrays.equals((char[]) null, (char[]) null));
-        Report.number(Arrays.hashCode((char[]) null));
+        System.out.println(Arrays.equals((char[]) null, new char[0]));
+        System.out.println(Arrays.equals((char[]) null, (char[]) null));
+        System.out.println(Arrays.hashCode((char[]) null));
         for (int which = 0; which < 9; which++) {
             char[] array = someChars(4, 10);
             try {
@@ -220,13 +220,13 @@ public class ArrayHelp {
                     case 7: Arrays.binarySearch(array, 2, 9, (char) 1); break;
                     default: Arrays.copyOfRange(array, -1, 2);
                 }
-                Report.number(0);
+                System.out.println(0);
             } catch (ArrayIndexOutOfBoundsException e) {
-                Report.number(1);
+                System.out.println(1);
             } catch (IllegalArgumentException e) {
-                Report.number(2);
+                System.out.println(2);
             } catch (NegativeArraySizeException e) {
-                Report.number(3);
+                System.out.println(3);
             }
         }
     }
@@ -240,27 +240,27 @@ public class ArrayHelp {
     }
 
     static void tell(short[] array) {
-        Report.number(array.length);
+        System.out.println(array.length);
         for (int i = 0; i < array.length; i++) {
-            Report.number(array[i]);
+            System.out.println(array[i]);
         }
     }
 
     static void tryShorts() {
         for (int length = 0; length < 90; length += 11) {
             short[] array = someShorts(length, length % 2 == 0 ? 60000 : 20);
-            Report.number(Arrays.hashCode(array));
+            System.out.println(Arrays.hashCode(array));
             short[] same = Arrays.copyOf(array, length);
-            Report.truth(Arrays.equals(array, same));
+            System.out.println(Arrays.equals(array, same));
             Arrays.sort(same);
             tell(same);
-            Report.truth(Arrays.equals(array, same));
+            System.out.println(Arrays.equals(array, same));
             for (int i = 0; i < 6; i++) {
                 short key = (short) (choose(25) - 8);
                 int found = Arrays.binarySearch(same, key);
-                Report.number(found < 0 ? found : 1);
+                System.out.println(found < 0 ? found : 1);
                 found = Arrays.binarySearch(same, length / 4, length / 2, key);
-                Report.number(found < 0 ? found : 1);
+                System.out.println(found < 0 ? found : 1);
             }
             Arrays.sort(array, length / 3, length - length / 4);
             tell(array);
@@ -272,9 +272,9 @@ public class ArrayHelp {
             Arrays.fill(array, (short) 9);
             tell(array);
         }
-        Report.truth(Arrays.equals((short[]) null, new short[0]));
-        Report.truth(Arrays.equals((short[]) null, (short[]) null));
-        Report.number(Arrays.hashCode((short[]) null));
+        System.out.println(Arrays.equals((short[]) null, new short[0]));
+        System.out.println(Arrays.equals((short[]) null, (short[]) null));
+        System.out.println(Arrays.hashCode((short[]) null));
         for (int which = 0; which < 9; which++) {
             short[] array = someShorts(4, 10);
             try {
@@ -289,13 +289,13 @@ public class ArrayHelp {
                     case 7: Arrays.binarySearch(array, 2, 9, (short) 1); break;
                     default: Arrays.copyOfRange(array, -1, 2);
                 }
-                Report.number(0);
+                System.out.println(0);
             } catch (ArrayIndexOutOfBoundsException e) {
-                Report.number(1);
+                System.out.println(1);
             } catch (IllegalArgumentException e) {
-                Report.number(2);
+                System.out.println(2);
             } catch (NegativeArraySizeException e) {
-                Report.number(3);
+                System.out.println(3);
             }
         }
     }
@@ -309,27 +309,27 @@ public class ArrayHelp {
     }
 
     static void tell(byte[] array) {
-        Report.number(array.length);
+        System.out.println(array.length);
         for (int i = 0; i < array.length; i++) {
-            Report.number(array[i]);
+            System.out.println(array[i]);
         }
     }
 
     static void tryBytes() {
         for (int length = 0; length < 90; length += 11) {
             byte[] array = someBytes(length, length % 2 == 0 ? 60000 : 20);
-            Report.number(Arrays.hashCode(array));
+            System.out.println(Arrays.hashCode(array));
             byte[] same = Arrays.copyOf(array, length);
-            Report.truth(Arrays.equals(array, same));
+            System.out.println(Arrays.equals(array, same));
             Arrays.sort(same);
             tell(same);
-            Report.truth(Arrays.equals(array, same));
+            System.out.println(Arrays.equals(array, same));
             for (int i = 0; i < 6; i++) {
                 byte key = (byte) (choose(25) - 8);
                 int found = Arrays.binarySearch(same, key);
-                Report.number(found < 0 ? found : 1);
+                System.out.println(found < 0 ? found : 1);
                 found = Arrays.binarySearch(same, length / 4, length / 2, key);
-                Report.number(found < 0 ? found : 1);
+                System.out.println(found < 0 ? found : 1);
             }
             Arrays.sort(array, length / 3, length - length / 4);
             tell(array);
@@ -341,9 +341,9 @@ public class ArrayHelp {
             Arrays.fill(array, (byte) 9);
             tell(array);
         }
-        Report.truth(Arrays.equals((byte[]) null, new byte[0]));
-        Report.truth(Arrays.equals((byte[]) null, (byte[]) null));
-        Report.number(Arrays.hashCode((byte[]) null));
+        System.out.println(Arrays.equals((byte[]) null, new byte[0]));
+        System.out.println(Arrays.equals((byte[]) null, (byte[]) null));
+        System.out.println(Arrays.hashCode((byte[]) null));
         for (int which = 0; which < 9; which++) {
             byte[] array = someBytes(4, 10);
             try {
@@ -358,30 +358,30 @@ public class ArrayHelp {
                     case 7: Arrays.binarySearch(array, 2, 9, (byte) 1); break;
                     default: Arrays.copyOfRange(array, -1, 2);
                 }
-                Report.number(0);
+                System.out.println(0);
             } catch (ArrayIndexOutOfBoundsException e) {
-                Report.number(1);
+                System.out.println(1);
             } catch (IllegalArgumentException e) {
-                Report.number(2);
+                System.out.println(2);
             } catch (NegativeArraySizeException e) {
-                Report.number(3);
+                System.out.println(3);
             }
         }
     }
 
     static void tryBooleans() {
         boolean[] array = {true, false, true, true};
-        Report.number(Arrays.hashCode(array));
-        Report.number(Arrays.hashCode((boolean[]) null));
+        System.out.println(Arrays.hashCode(array));
+        System.out.println(Arrays.hashCode((boolean[]) null));
         boolean[] copy = Arrays.copyOf(array, 6);
-        Report.truth(Arrays.equals(array, copy));
-        Report.truth(Arrays.equals(array, Arrays.copyOf(copy, 4)));
+        System.out.println(Arrays.equals(array, copy));
+        System.out.println(Arrays.equals(array, Arrays.copyOf(copy, 4)));
         boolean[] part = Arrays.copyOfRange(array, 1, 3);
-        Report.truth(part.length == 2 && !part[0] && part[1]);
+        System.out.println(part.length == 2 && !part[0] && part[1]);
         Arrays.fill(array, 1, 3, false);
-        Report.number(Arrays.hashCode(array));
+        System.out.println(Arrays.hashCode(array));
         Arrays.fill(array, true);
-        Report.number(Arrays.hashCode(array));
+        System.out.println(Arrays.hashCode(array));
     }
 
     static Integer[] boxes(int length, int bound) {
@@ -393,9 +393,9 @@ public class ArrayHelp {
     }
 
     static void tell(Object[] array) {
-        Report.number(array.length);
+        System.out.println(array.length);
         for (int i = 0; i < array.length; i++) {
-            Report.number(array[i] == null ? -9 : ((Integer) array[i]).intValue());
+            System.out.println(array[i] == null ? -9 : ((Integer) array[i]).intValue());
         }
     }
 
@@ -410,16 +410,16 @@ public class ArrayHelp {
         for (int length = 0; length < 120; length += 13) {
             Integer[] array = boxes(length, 500);
             Integer[] sorted = Arrays.copyOf(array, length);
-            Report.truth(Arrays.equals(array, sorted));
-            Report.number(Arrays.hashCode(array));
+            System.out.println(Arrays.equals(array, sorted));
+            System.out.println(Arrays.hashCode(array));
             Arrays.sort(sorted, BY_DIGIT);
             tell(sorted);
-            Report.number(Arrays.binarySearch(sorted, 505, BY_DIGIT) < 0 ? -1 : 1);
-            Report.number(Arrays.binarySearch(sorted, length / 4, length / 2, 505, BY_DIGIT) < 0 ? -1 : 1);
+            System.out.println(Arrays.binarySearch(sorted, 505, BY_DIGIT) < 0 ? -1 : 1);
+            System.out.println(Arrays.binarySearch(sorted, length / 4, length / 2, 505, BY_DIGIT) < 0 ? -1 : 1);
             Arrays.sort(sorted);
             tell(sorted);
-            Report.number(Arrays.binarySearch(sorted, 250) < 0 ? -1 : 1);
-            Report.number(Arrays.binarySearch(sorted, length / 4, length / 2, 250) < 0 ? -1 : 1);
+            System.out.println(Arrays.binarySearch(sorted, 250) < 0 ? -1 : 1);
+            System.out.println(Arrays.binarySearch(sorted, length / 4, length / 2, 250) < 0 ? -1 : 1);
             sorted = Arrays.copyOf(array, length);
             Arrays.sort(sorted, length / 4, length / 2, Collections.<Integer>reverseOrder());
             tell(sorted);
@@ -433,12 +433,12 @@ public class ArrayHelp {
             tell(array);
             tell(Arrays.copyOfRange(sorted, length / 2, length + 2));
         }
-        Report.truth(Arrays.equals(new Object[] {1, null}, new Object[] {1, null}));
-        Report.truth(Arrays.equals(new Object[] {1, null}, new Object[] {1, 2}));
-        Report.truth(Arrays.equals((Object[]) null, new Object[0]));
-        Report.number(Arrays.hashCode((Object[]) null));
+        System.out.println(Arrays.equals(new Object[] {1, null}, new Object[] {1, null}));
+        System.out.println(Arrays.equals(new Object[] {1, null}, new Object[] {1, 2}));
+        System.out.println(Arrays.equals((Object[]) null, new Object[0]));
+        System.out.println(Arrays.hashCode((Object[]) null));
         List<Integer> list = Arrays.asList(1, 2, 3);
-        Report.number(list.size());
+        System.out.println(list.size());
         for (int which = 0; which < 6; which++) {
             Object[] array = boxes(4, 9);
             try {
@@ -450,15 +450,15 @@ public class ArrayHelp {
                     case 4: Arrays.asList((Object[]) null); break;
                     default: Arrays.sort(new Object[] {1, null});
                 }
-                Report.number(0);
+                System.out.println(0);
             } catch (ArrayIndexOutOfBoundsException e) {
-                Report.number(1);
+                System.out.println(1);
             } catch (IllegalArgumentException e) {
-                Report.number(2);
+                System.out.println(2);
             } catch (NegativeArraySizeException e) {
-                Report.number(3);
+                System.out.println(3);
             } catch (NullPointerException e) {
-                Report.number(4);
+                System.out.println(4);
             }
         }
     }
@@ -478,21 +478,21 @@ public class ArrayHelp {
         char[][] charRows = Arrays.copyOf(new char[][] {{1}}, 2);
         boolean[][] truthRows = Arrays.copyOf(new boolean[][] {{true}}, 2);
         Object[] objects = Arrays.copyOf(new Object[] {"a", 1}, 3);
-        Report.number(longs.length + shorts.length + bytes.length + characters.length + truths.length + texts.length
+        System.out.println(longs.length + shorts.length + bytes.length + characters.length + truths.length + texts.length
             + ints.length + rows.length + shortRows.length + byteRows.length + charRows.length + truthRows.length + objects.length);
-        Report.truth(texts[0] == "a" && texts[1] == null && ints[0][0] == 1 && ints[1] == null && objects[1] == objects[1]);
+        System.out.println(texts[0] == "a" && texts[1] == null && ints[0][0] == 1 && ints[1] == null && objects[1] == objects[1]);
     }
 
     static void deep() {
         Object[] a = {1, new int[] {1, 2}, new Object[] {new long[] {3}, null}, new char[] {'c'}, new short[] {4}, new byte[] {5}, new boolean[] {true}};
         Object[] b = {1, new int[] {1, 2}, new Object[] {new long[] {3}, null}, new char[] {'c'}, new short[] {4}, new byte[] {5}, new boolean[] {true}};
-        Report.truth(Arrays.equals(new Object[] {a[0]}, new Object[] {b[0]}));
-        Report.truth(Arrays.deepEquals(a, b));
-        Report.truth(java.util.Objects.deepEquals(a, b));
+        System.out.println(Arrays.equals(new Object[] {a[0]}, new Object[] {b[0]}));
+        System.out.println(Arrays.deepEquals(a, b));
+        System.out.println(java.util.Objects.deepEquals(a, b));
         ((long[]) ((Object[]) b[2])[0])[0] = 9;
-        Report.truth(Arrays.deepEquals(a, b));
-        Report.truth(Arrays.deepEquals(a, null));
-        Report.truth(Arrays.deepEquals(null, null));
-        Report.truth(java.util.Objects.deepEquals(1, 1));
+        System.out.println(Arrays.deepEquals(a, b));
+        System.out.println(Arrays.deepEquals(a, null));
+        System.out.println(Arrays.deepEquals(null, null));
+        System.out.println(java.util.Objects.deepEquals(1, 1));
     }
 }

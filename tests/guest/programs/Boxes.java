@@ -27,105 +27,105 @@ public class Boxes {
     }
 
     static void ints(int a) {
-        Report.number(Integer.bitCount(a));
-        Report.number(Integer.highestOneBit(a));
-        Report.number(Integer.lowestOneBit(a));
-        Report.number(Integer.numberOfLeadingZeros(a));
-        Report.number(Integer.numberOfTrailingZeros(a));
-        Report.number(Integer.reverse(a));
-        Report.number(Integer.reverseBytes(a));
-        Report.number(Integer.signum(a));
-        Report.number(Integer.hashCode(a));
-        Report.number(Integer.toUnsignedLong(a));
+        System.out.println(Integer.bitCount(a));
+        System.out.println(Integer.highestOneBit(a));
+        System.out.println(Integer.lowestOneBit(a));
+        System.out.println(Integer.numberOfLeadingZeros(a));
+        System.out.println(Integer.numberOfTrailingZeros(a));
+        System.out.println(Integer.reverse(a));
+        System.out.println(Integer.reverseBytes(a));
+        System.out.println(Integer.signum(a));
+        System.out.println(Integer.hashCode(a));
+        System.out.println(Integer.toUnsignedLong(a));
         Integer box = Integer.valueOf(a);
-        Report.number(box.hashCode());
-        Report.number(box.intValue());
-        Report.number(box.longValue());
-        Report.number(box.shortValue());
-        Report.number(box.byteValue());
+        System.out.println(box.hashCode());
+        System.out.println(box.intValue());
+        System.out.println(box.longValue());
+        System.out.println(box.shortValue());
+        System.out.println(box.byteValue());
         Number number = new Integer(a);
-        Report.number(number.intValue());
-        Report.number(number.longValue());
-        Report.number(number.shortValue());
-        Report.number(number.byteValue());
-        Report.truth(box.equals(number));
-        Report.truth(box.equals(Long.valueOf(a)));
-        Report.truth(box.equals(null));
+        System.out.println(number.intValue());
+        System.out.println(number.longValue());
+        System.out.println(number.shortValue());
+        System.out.println(number.byteValue());
+        System.out.println(box.equals(number));
+        System.out.println(box.equals(Long.valueOf(a)));
+        System.out.println(box.equals(null));
     }
 
     static void longs(long a) {
-        Report.number(Long.bitCount(a));
-        Report.number(Long.highestOneBit(a));
-        Report.number(Long.lowestOneBit(a));
-        Report.number(Long.numberOfLeadingZeros(a));
-        Report.number(Long.numberOfTrailingZeros(a));
-        Report.number(Long.reverse(a));
-        Report.number(Long.reverseBytes(a));
-        Report.number(Long.signum(a));
-        Report.number(Long.hashCode(a));
+        System.out.println(Long.bitCount(a));
+        System.out.println(Long.highestOneBit(a));
+        System.out.println(Long.lowestOneBit(a));
+        System.out.println(Long.numberOfLeadingZeros(a));
+        System.out.println(Long.numberOfTrailingZeros(a));
+        System.out.println(Long.reverse(a));
+        System.out.println(Long.reverseBytes(a));
+        System.out.println(Long.signum(a));
+        System.out.println(Long.hashCode(a));
         Long box = Long.valueOf(a);
-        Report.number(box.hashCode());
-        Report.number(box.intValue());
-        Report.number(box.longValue());
-        Report.number(box.shortValue());
-        Report.number(box.byteValue());
-        Report.truth(box.equals(new Long(a)));
-        Report.truth(box.equals(Integer.valueOf((int) a)));
+        System.out.println(box.hashCode());
+        System.out.println(box.intValue());
+        System.out.println(box.longValue());
+        System.out.println(box.shortValue());
+        System.out.println(box.byteValue());
+        System.out.println(box.equals(new Long(a)));
+        System.out.println(box.equals(Integer.valueOf((int) a)));
     }
 
     static void shorts(short a) {
-        Report.number(Short.hashCode(a));
-        Report.number(Short.reverseBytes(a));
-        Report.number(Short.toUnsignedInt(a));
-        Report.number(Short.toUnsignedLong(a));
+        System.out.println(Short.hashCode(a));
+        System.out.println(Short.reverseBytes(a));
+        System.out.println(Short.toUnsignedInt(a));
+        System.out.println(Short.toUnsignedLong(a));
         Short box = Short.valueOf(a);
-        Report.number(box.hashCode());
-        Report.number(box.intValue());
-        Report.number(box.longValue());
-        Report.number(box.shortValue());
-        Report.number(box.byteValue());
-        Report.truth(box.equals(new Short(a)));
-        Report.truth(box.equals(Integer.valueOf(a)));
+        System.out.println(box.hashCode());
+        System.out.println(box.intValue());
+        System.out.println(box.longValue());
+        System.out.println(box.shortValue());
+        System.out.println(box.byteValue());
+        System.out.println(box.equals(new Short(a)));
+        System.out.println(box.equals(Integer.valueOf(a)));
     }
 
     static void bytes(byte a) {
-        Report.number(Byte.hashCode(a));
-        Report.number(Byte.toUnsignedInt(a));
-        Report.number(Byte.toUnsignedLong(a));
+        System.out.println(Byte.hashCode(a));
+        System.out.println(Byte.toUnsignedInt(a));
+        System.out.println(Byte.toUnsignedLong(a));
         Byte box = Byte.valueOf(a);
-        Report.number(box.hashCode());
-        Report.number(box.intValue());
-        Report.number(box.longValue());
-        Report.number(box.shortValue());
-        Report.number(box.byteValue());
-        Report.truth(box.equals(new Byte(a)));
-        Report.truth(box.equals(Short.valueOf(a)));
+        System.out.println(box.hashCode());
+        System.out.println(box.intValue());
+        System.out.println(box.longValue());
+        System.out.println(box.shortValue());
+        System.out.println(box.byteValue());
+        System.out.println(box.equals(new Byte(a)));
+        System.out.println(box.equals(Short.valueOf(a)));
     }
 
     static void pairs(long a, long b) {
-        Report.number(Long.compare(a, b));
-        Report.number(Long.compareUnsigned(a, b));
-        Report.number(Long.valueOf(a).compareTo(b));
-        Report.number(Long.max(a, b) + 3 * Long.min(a, b) + 5 * Long.sum(a, b));
-        Report.number(Long.rotateLeft(a, (int) b) + 3 * Long.rotateRight(a, (int) b));
-        Report.number(Integer.compare((int) a, (int) b));
-        Report.number(Integer.compareUnsigned((int) a, (int) b));
-        Report.number(Integer.valueOf((int) a).compareTo((int) b));
-        Report.number(Integer.max((int) a, (int) b) + 3L * Integer.min((int) a, (int) b) + 5L * Integer.sum((int) a, (int) b));
-        Report.number(Integer.rotateLeft((int) a, (int) b) + 3L * Integer.rotateRight((int) a, (int) b));
-        Report.number(Short.compare((short) a, (short) b));
-        Report.number(Short.valueOf((short) a).compareTo((short) b));
-        Report.number(Byte.compare((byte) a, (byte) b));
-        Report.number(Byte.valueOf((byte) a).compareTo((byte) b));
-        Report.number(Character.compare((char) a, (char) b));
-        Report.number(Character.valueOf((char) a).compareTo((char) b));
+        System.out.println(Long.compare(a, b));
+        System.out.println(Long.compareUnsigned(a, b));
+        System.out.println(Long.valueOf(a).compareTo(b));
+        System.out.println(Long.max(a, b) + 3 * Long.min(a, b) + 5 * Long.sum(a, b));
+        System.out.println(Long.rotateLeft(a, (int) b) + 3 * Long.rotateRight(a, (int) b));
+        System.out.println(Integer.compare((int) a, (int) b));
+        System.out.println(Integer.compareUnsigned((int) a, (int) b));
+        System.out.println(Integer.valueOf((int) a).compareTo((int) b));
+        System.out.println(Integer.max((int) a, (int) b) + 3L * Integer.min((int) a, (int) b) + 5L * Integer.sum((int) a, (int) b));
+        System.out.println(Integer.rotateLeft((int) a, (int) b) + 3L * Integer.rotateRight((int) a, (int) b));
+        System.out.println(Short.compare((short) a, (short) b));
+        System.out.println(Short.valueOf((short) a).compareTo((short) b));
+        System.out.println(Byte.compare((byte) a, (byte) b));
+        System.out.println(Byte.valueOf((byte) a).compareTo((byte) b));
+        System.out.println(Character.compare((char) a, (char) b));
+        System.out.println(Character.valueOf((char) a).compareTo((char) b));
         try {
-            Report.number(Long.divideUnsigned(a, b));
-            Report.number(Long.remainderUnsigned(a, b));
-            Report.number(Integer.divideUnsigned((int) a, (int) b));
-            Report.number(Integer.remainderUnsigned((int) a, (int) b));
+            System.out.println(Long.divideUnsigned(a, b));
+            System.out.println(Long.remainderUnsigned(a, b));
+            System.out.println(Integer.divideUnsigned((int) a, (int) b));
+            System.out.println(Integer.remainderUnsigned((int) a, (int) b));
         } catch (ArithmeticException zero) {
-            Report.number(-77);
+            System.out.println(-77);
         }
     }
 
@@ -154,18 +154,18 @@ public class Boxes {
         is = 2 * is + (Character.isJavaIdentifierStart((int) c) ? 1 : 0);
         is = 2 * is + (Character.isJavaIdentifierPart(c) ? 1 : 0);
         is = 2 * is + (Character.isJavaIdentifierPart((int) c) ? 1 : 0);
-        Report.number(is);
-        Report.number(Character.toLowerCase(c) + 65536L * Character.toLowerCase((int) c));
-        Report.number(Character.toUpperCase(c) + 65536L * Character.toUpperCase((int) c));
-        Report.number(Character.getNumericValue(c) + 1000L * Character.getNumericValue((int) c));
+        System.out.println(is);
+        System.out.println(Character.toLowerCase(c) + 65536L * Character.toLowerCase((int) c));
+        System.out.println(Character.toUpperCase(c) + 65536L * Character.toUpperCase((int) c));
+        System.out.println(Character.getNumericValue(c) + 1000L * Character.getNumericValue((int) c));
         for (int radix = 0; radix < 40; radix += 3) {
-            Report.number(Character.digit(c, radix) + 100L * Character.digit((int) c, radix));
-            Report.number(Character.forDigit(c - 10, radix));
+            System.out.println(Character.digit(c, radix) + 100L * Character.digit((int) c, radix));
+            System.out.println((int) Character.forDigit(c - 10, radix));
         }
         Character box = Character.valueOf(c);
-        Report.number(box.hashCode() + 65536L * box.charValue());
-        Report.truth(box.equals(new Character(c)));
-        Report.truth(box.equals(Integer.valueOf(c)));
+        System.out.println(box.hashCode() + 65536L * box.charValue());
+        System.out.println(box.equals(new Character(c)));
+        System.out.println(box.equals(Integer.valueOf(c)));
     }
 
     static void codes(int c) {
@@ -179,19 +179,19 @@ public class Boxes {
         is = 2 * is + (Character.isValidCodePoint(c) ? 1 : 0);
         is = 2 * is + (Character.isBmpCodePoint(c) ? 1 : 0);
         is = 2 * is + (Character.isSupplementaryCodePoint(c) ? 1 : 0);
-        Report.number(is);
-        Report.number(Character.charCount(c));
-        Report.number(Character.toCodePoint(unit, '\udc37'));
-        Report.number(Character.highSurrogate(c));
-        Report.number(Character.lowSurrogate(c));
-        Report.number(Character.reverseBytes(unit));
-        Report.number(Character.hashCode(unit));
+        System.out.println(is);
+        System.out.println(Character.charCount(c));
+        System.out.println(Character.toCodePoint(unit, '\udc37'));
+        System.out.println((int) Character.highSurrogate(c));
+        System.out.println((int) Character.lowSurrogate(c));
+        System.out.println((int) Character.reverseBytes(unit));
+        System.out.println(Character.hashCode(unit));
         try {
             char[] units = Character.toChars(c);
-            Report.number(units.length);
-            Report.number(units[0] + 65536L * units[units.length - 1]);
+            System.out.println(units.length);
+            System.out.println(units[0] + 65536L * units[units.length - 1]);
         } catch (IllegalArgumentException none) {
-            Report.number(-5);
+            System.out.println(-5);
         }
     }
 
@@ -199,31 +199,31 @@ public class Boxes {
         for (int i = 0; i < 4; i++) {
             boolean a = (i & 1) == 1;
             boolean b = i > 1;
-            Report.number(Boolean.compare(a, b));
-            Report.number(Boolean.valueOf(a).compareTo(b));
-            Report.truth(Boolean.logicalAnd(a, b));
-            Report.truth(Boolean.logicalOr(a, b));
-            Report.truth(Boolean.logicalXor(a, b));
-            Report.truth(Boolean.valueOf(a).equals(new Boolean(b)));
-            Report.number(Boolean.hashCode(a));
-            Report.number(Boolean.valueOf(a).hashCode());
-            Report.truth(Boolean.valueOf(a).booleanValue());
-            Report.truth(Boolean.valueOf(a) == (a ? Boolean.TRUE : Boolean.FALSE));
+            System.out.println(Boolean.compare(a, b));
+            System.out.println(Boolean.valueOf(a).compareTo(b));
+            System.out.println(Boolean.logicalAnd(a, b));
+            System.out.println(Boolean.logicalOr(a, b));
+            System.out.println(Boolean.logicalXor(a, b));
+            System.out.println(Boolean.valueOf(a).equals(new Boolean(b)));
+            System.out.println(Boolean.hashCode(a));
+            System.out.println(Boolean.valueOf(a).hashCode());
+            System.out.println(Boolean.valueOf(a).booleanValue());
+            System.out.println(Boolean.valueOf(a) == (a ? Boolean.TRUE : Boolean.FALSE));
         }
-        Report.truth(Boolean.TRUE.equals("x"));
-        Report.truth(Boolean.toString(true) == "true");
-        Report.truth(Boolean.toString(false) == "false");
-        Report.truth(Boolean.FALSE.toString() == "false");
+        System.out.println(Boolean.TRUE.equals("x"));
+        System.out.println(Boolean.toString(true) == "true");
+        System.out.println(Boolean.toString(false) == "false");
+        System.out.println(Boolean.FALSE.toString() == "false");
     }
 
     static void constants() {
-        Report.number(Integer.MIN_VALUE + Integer.SIZE + Integer.BYTES);
-        Report.number(Integer.MAX_VALUE);
-        Report.number(Long.MIN_VALUE + Long.SIZE + Long.BYTES);
-        Report.number(Long.MAX_VALUE);
-        Report.number(Short.MIN_VALUE + Short.SIZE + Short.BYTES);
-        Report.number(Byte.MIN_VALUE + Byte.SIZE + Byte.BYTES);
-        Report.number(Character.MAX_VALUE + Character.MAX_RADIX + Character.MIN_RADIX);
+        System.out.println(Integer.MIN_VALUE + Integer.SIZE + Integer.BYTES);
+        System.out.println(Integer.MAX_VALUE);
+        System.out.println(Long.MIN_VALUE + Long.SIZE + Long.BYTES);
+        System.out.println(Long.MAX_VALUE);
+        System.out.println(Short.MIN_VALUE + Short.SIZE + Short.BYTES);
+        System.out.println(Byte.MIN_VALUE + Byte.SIZE + Byte.BYTES);
+        System.out.println(Character.MAX_VALUE + Character.MAX_RADIX + Character.MIN_RADIX);
     }
 
     /** Which boxes are one object. */
@@ -239,7 +239,7 @@ public class Boxes {
             Byte h = (byte) i;
             Character k = (char) i;
             Character l = (char) i;
-            Report.number((a == b ? 1 : 0) + (c == d ? 2 : 0) + (e == f ? 4 : 0) + (g == h ? 8 : 0) + (k == l ? 16 : 0));
+            System.out.println((a == b ? 1 : 0) + (c == d ? 2 : 0) + (e == f ? 4 : 0) + (g == h ? 8 : 0) + (k == l ? 16 : 0));
         }
     }
 }

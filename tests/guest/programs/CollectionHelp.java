@@ -23,9 +23,9 @@ public class CollectionHelp {
     };
 
     static void tell(Collection<Integer> all) {
-        Report.number(all.size());
+        System.out.println(all.size());
         for (Integer element : all) {
-            Report.number(element == null ? -9 : element);
+            System.out.println(element == null ? -9 : element);
         }
     }
 
@@ -44,27 +44,27 @@ public class CollectionHelp {
         for (int i = 0; i < 40; i++) {
             list.add(i * 37 % 101);
         }
-        Report.number(Collections.min(list));
-        Report.number(Collections.max(list));
-        Report.number(Collections.min(list, BY_DIGIT));
-        Report.number(Collections.max(list, BY_DIGIT));
+        System.out.println(Collections.min(list).intValue());
+        System.out.println(Collections.max(list).intValue());
+        System.out.println(Collections.min(list, BY_DIGIT).intValue());
+        System.out.println(Collections.max(list, BY_DIGIT).intValue());
         Collections.sort(list, BY_DIGIT);
         tell(list);
         Collections.sort(list);
         tell(list);
         for (int i = -3; i < 110; i += 4) {
-            Report.number(Collections.binarySearch(list, i));
+            System.out.println(Collections.binarySearch(list, i));
         }
         Collections.sort(list, Collections.<Integer>reverseOrder());
-        Report.number(Collections.binarySearch(list, 37, Collections.<Integer>reverseOrder()));
-        Report.number(Collections.binarySearch(list, 38, Collections.<Integer>reverseOrder()));
-        Report.number(Collections.<Integer>reverseOrder().compare(1, 2));
-        Report.number(Collections.reverseOrder(BY_DIGIT).compare(1, 2));
-        Report.truth(Collections.reverseOrder(Collections.reverseOrder(BY_DIGIT)) == BY_DIGIT);
+        System.out.println(Collections.binarySearch(list, 37, Collections.<Integer>reverseOrder()));
+        System.out.println(Collections.binarySearch(list, 38, Collections.<Integer>reverseOrder()));
+        System.out.println(Collections.<Integer>reverseOrder().compare(1, 2));
+        System.out.println(Collections.reverseOrder(BY_DIGIT).compare(1, 2));
+        System.out.println(Collections.reverseOrder(Collections.reverseOrder(BY_DIGIT)) == BY_DIGIT);
     }
 
     static void changes(List<Integer> list) {
-        Report.truth(Collections.addAll(list, 1, 2, 3, 4, 5, 6, 7, 2));
+        System.out.println(Collections.addAll(list, 1, 2, 3, 4, 5, 6, 7, 2));
         Collections.reverse(list);
         tell(list);
         Collections.swap(list, 1, 5);
@@ -75,38 +75,38 @@ public class CollectionHelp {
         }
         Collections.shuffle(list, new Random(5));
         tell(list);
-        Report.truth(Collections.replaceAll(list, 2, null));
-        Report.truth(Collections.replaceAll(list, 99, 1));
+        System.out.println(Collections.replaceAll(list, 2, null));
+        System.out.println(Collections.replaceAll(list, 99, 1));
         tell(list);
-        Report.number(Collections.frequency(list, null));
-        Report.number(Collections.frequency(list, 4));
-        Report.truth(Collections.disjoint(list, Arrays.asList(99, 98)));
-        Report.truth(Collections.disjoint(list, Arrays.asList(99, 4)));
+        System.out.println(Collections.frequency(list, null));
+        System.out.println(Collections.frequency(list, 4));
+        System.out.println(Collections.disjoint(list, Arrays.asList(99, 98)));
+        System.out.println(Collections.disjoint(list, Arrays.asList(99, 4)));
         List<Integer> other = new ArrayList<Integer>(list);
         Collections.fill(list, 8);
         tell(list);
         Collections.copy(list, other.subList(0, 3));
         tell(list);
         Collections.shuffle(list);
-        Report.number(list.size());
+        System.out.println(list.size());
         Collections.rotate(new ArrayList<Integer>(), 3);
     }
 
     static void small() {
         tell(Collections.<Integer>emptyList());
         tell(Collections.<Integer>emptySet());
-        Report.number(Collections.<Integer, Integer>emptyMap().size());
-        Report.truth(Collections.<Integer>emptyIterator().hasNext());
+        System.out.println(Collections.<Integer, Integer>emptyMap().size());
+        System.out.println(Collections.<Integer>emptyIterator().hasNext());
         tell(Collections.singleton(4));
         tell(Collections.singletonList(5));
         Map<Integer, Integer> one = Collections.singletonMap(6, 7);
-        Report.number(one.size() * 100 + one.get(6));
-        Report.truth(one.containsKey(7));
+        System.out.println(one.size() * 100 + one.get(6));
+        System.out.println(one.containsKey(7));
         tell(Collections.nCopies(3, 9));
-        Report.truth(Collections.nCopies(3, 9).equals(Arrays.asList(9, 9, 9)));
-        Report.truth(Collections.EMPTY_LIST.isEmpty() && Collections.EMPTY_SET.isEmpty() && Collections.EMPTY_MAP.isEmpty());
+        System.out.println(Collections.nCopies(3, 9).equals(Arrays.asList(9, 9, 9)));
+        System.out.println(Collections.EMPTY_LIST.isEmpty() && Collections.EMPTY_SET.isEmpty() && Collections.EMPTY_MAP.isEmpty());
         for (Map.Entry<Integer, Integer> entry : one.entrySet()) {
-            Report.number(entry.getKey() + entry.getValue() * 10);
+            System.out.println(entry.getKey() + entry.getValue() * 10);
         }
     }
 
@@ -122,10 +122,10 @@ public class CollectionHelp {
         tell(all);
         tell(fixedList);
         tell(set);
-        Report.truth(all.contains(3) && fixedList.contains(3) && set.contains(3) && map.containsKey(2));
-        Report.number(fixedList.get(1) + map.get(2) + map.size() + map.entrySet().size());
-        Report.truth(fixedList.equals(list) && set.equals(new HashSet<Integer>(list)) && map.equals(source));
-        Report.number(fixedList.hashCode() + set.hashCode() + map.hashCode());
+        System.out.println(all.contains(3) && fixedList.contains(3) && set.contains(3) && map.containsKey(2));
+        System.out.println(fixedList.get(1) + map.get(2) + map.size() + map.entrySet().size());
+        System.out.println(fixedList.equals(list) && set.equals(new HashSet<Integer>(list)) && map.equals(source));
+        System.out.println(fixedList.hashCode() + set.hashCode() + map.hashCode());
         tell(map.keySet());
         tell(map.values());
         list.add(77);
@@ -158,9 +158,9 @@ public class CollectionHelp {
                         break;
                     default: map.keySet().remove(1);
                 }
-                Report.number(0);
+                System.out.println(0);
             } catch (UnsupportedOperationException e) {
-                Report.number(1);
+                System.out.println(1);
             }
         }
         tell(list);
@@ -168,8 +168,8 @@ public class CollectionHelp {
 
     static void locked() {
         final Collection<Integer> all = Collections.synchronizedCollection(new LinkedList<Integer>(Arrays.asList(4, 1, 3)));
-        Report.truth(all.add(9));
-        Report.truth(all.remove(1));
+        System.out.println(all.add(9));
+        System.out.println(all.remove(1));
         tell(all);
         final long[] sum = new long[1];
         all.forEach(new Consumer<Integer>() {
@@ -177,7 +177,7 @@ public class CollectionHelp {
                 sum[0] = sum[0] * 10 + element;
             }
         });
-        Report.number(sum[0]);
+        System.out.println(sum[0]);
         List<Integer> list = Collections.synchronizedList(new ArrayList<Integer>());
         Thread[] threads = new Thread[3];
         for (int i = 0; i < threads.length; i++) {
@@ -196,22 +196,22 @@ public class CollectionHelp {
                 threads[i].join();
             }
         } catch (InterruptedException e) {
-            Report.number(-1);
+            System.out.println(-1);
         }
         Collections.sort(list);
-        Report.number(list.get(7));
+        System.out.println(list.get(7).intValue());
         tell(list);
         try {
             Map<Integer, Boolean> map = new HashMap<Integer, Boolean>();
             map.put(1, true);
             Collections.newSetFromMap(map);
         } catch (IllegalArgumentException e) {
-            Report.number(41);
+            System.out.println(41);
         }
         try {
             Collections.synchronizedList(null);
         } catch (NullPointerException e) {
-            Report.number(42);
+            System.out.println(42);
         }
     }
 
@@ -226,15 +226,15 @@ public class CollectionHelp {
                     case 4: Collections.swap(Arrays.asList(1, 2), 0, 2); break;
                     default: Collections.nCopies(1, 1).get(1);
                 }
-                Report.number(0);
+                System.out.println(0);
             } catch (NoSuchElementException e) {
-                Report.number(1);
+                System.out.println(1);
             } catch (IllegalArgumentException e) {
-                Report.number(2);
+                System.out.println(2);
             } catch (IndexOutOfBoundsException e) {
-                Report.number(3);
+                System.out.println(3);
             } catch (NullPointerException e) {
-                Report.number(4);
+                System.out.println(4);
             }
         }
     }

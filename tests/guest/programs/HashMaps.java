@@ -128,17 +128,17 @@ public class HashMaps {
     }
 
     static void tell(Map<?, ?> map) {
-        Report.number(map.size());
+        System.out.println(map.size());
         for (Map.Entry<?, ?> entry : map.entrySet()) {
-            Report.number(show(entry.getKey()));
-            Report.number(show(entry.getValue()));
+            System.out.println(show(entry.getKey()));
+            System.out.println(show(entry.getValue()));
         }
     }
 
     static void tell(Collection<?> all) {
-        Report.number(all.size());
+        System.out.println(all.size());
         for (Object element : all) {
-            Report.number(show(element));
+            System.out.println(show(element));
         }
     }
 
@@ -168,27 +168,27 @@ public class HashMaps {
                 case 2:
                 case 3:
                 case 4:
-                    Report.number(show(map.put(key, value)));
+                    System.out.println(show(map.put(key, value)));
                     break;
-                case 5: Report.number(show(map.get(key))); break;
-                case 6: Report.number(show(map.remove(key))); break;
-                case 7: Report.truth(map.containsKey(key)); break;
-                case 8: Report.truth(map.containsValue(value)); break;
-                case 9: Report.number(show(map.getOrDefault(key, -5))); break;
-                case 10: Report.number(show(map.putIfAbsent(key, value))); break;
-                case 11: Report.number(show(map.computeIfAbsent(key, MADE))); break;
-                case 12: Report.number(show(map.computeIfPresent(key, NEXT))); break;
-                case 13: Report.number(show(map.compute(key, NEXT))); break;
-                case 14: Report.number(show(map.merge(key, 3, SUM))); break;
-                case 15: Report.truth(map.remove(key, value)); break;
-                case 16: Report.truth(map.replace(key, value, 8)); break;
-                case 17: Report.number(show(map.replace(key, 12))); break;
+                case 5: System.out.println(show(map.get(key))); break;
+                case 6: System.out.println(show(map.remove(key))); break;
+                case 7: System.out.println(map.containsKey(key)); break;
+                case 8: System.out.println(map.containsValue(value)); break;
+                case 9: System.out.println(show(map.getOrDefault(key, -5))); break;
+                case 10: System.out.println(show(map.putIfAbsent(key, value))); break;
+                case 11: System.out.println(show(map.computeIfAbsent(key, MADE))); break;
+                case 12: System.out.println(show(map.computeIfPresent(key, NEXT))); break;
+                case 13: System.out.println(show(map.compute(key, NEXT))); break;
+                case 14: System.out.println(show(map.merge(key, 3, SUM))); break;
+                case 15: System.out.println(map.remove(key, value)); break;
+                case 16: System.out.println(map.replace(key, value, 8)); break;
+                case 17: System.out.println(show(map.replace(key, 12))); break;
                 case 18:
                     Map<Object, Integer> copy = new HashMap<Object, Integer>(map);
-                    Report.number(map.hashCode());
-                    Report.truth(map.equals(copy));
+                    System.out.println(map.hashCode());
+                    System.out.println(map.equals(copy));
                     copy.put(-1, 1);
-                    Report.truth(map.equals(copy));
+                    System.out.println(map.equals(copy));
                     tell(copy);
                     break;
                 case 19:
@@ -198,7 +198,7 @@ public class HashMaps {
                         if (choose(5) == 0) {
                             all.remove();
                         } else if (choose(5) == 0) {
-                            Report.number(show(entry.setValue(choose(4))));
+                            System.out.println(show(entry.setValue(choose(4))));
                         }
                     }
                     break;
@@ -206,7 +206,7 @@ public class HashMaps {
                     if (choose(7) == 0) {
                         map.clear();
                     }
-                    Report.truth(map.isEmpty());
+                    System.out.println(map.isEmpty());
                     break;
                 default:
                     Map<Object, Integer> more = new HashMap<Object, Integer>();
@@ -287,25 +287,25 @@ public class HashMaps {
         Set<Map.Entry<Integer, Integer>> entries = map.entrySet();
         tell(keys);
         tell(values);
-        Report.truth(keys == map.keySet());
-        Report.truth(keys.remove(37));
-        Report.truth(keys.remove(1000));
-        Report.truth(values.remove(3));
-        Report.truth(entries.remove(new AbstractMap.SimpleEntry<Integer, Integer>(0, 0)));
-        Report.truth(entries.remove(new AbstractMap.SimpleEntry<Integer, Integer>(24, 9)));
-        Report.truth(entries.remove(Integer.valueOf(3)));
-        Report.truth(entries.contains(new AbstractMap.SimpleImmutableEntry<Integer, Integer>(11, 3)));
-        Report.truth(entries.contains(Integer.valueOf(3)));
-        Report.truth(keys.contains(11));
-        Report.truth(values.contains(4));
-        Report.truth(keys.removeAll(Arrays.asList(11, 48, 1000)));
-        Report.truth(values.retainAll(Arrays.asList(1, 2, 4, 5)));
-        Report.number(keys.size() + 100 * values.size() + 10000 * entries.size());
-        Report.number(keys.hashCode());
-        Report.number(entries.hashCode());
-        Report.truth(keys.equals(new HashSet<Integer>(keys)));
-        Report.truth(entries.equals(new HashSet<Map.Entry<Integer, Integer>>(entries)));
-        Report.number(keys.toArray().length + keys.toArray(new Integer[0]).length);
+        System.out.println(keys == map.keySet());
+        System.out.println(keys.remove(37));
+        System.out.println(keys.remove(1000));
+        System.out.println(values.remove(3));
+        System.out.println(entries.remove(new AbstractMap.SimpleEntry<Integer, Integer>(0, 0)));
+        System.out.println(entries.remove(new AbstractMap.SimpleEntry<Integer, Integer>(24, 9)));
+        System.out.println(entries.remove(Integer.valueOf(3)));
+        System.out.println(entries.contains(new AbstractMap.SimpleImmutableEntry<Integer, Integer>(11, 3)));
+        System.out.println(entries.contains(Integer.valueOf(3)));
+        System.out.println(keys.contains(11));
+        System.out.println(values.contains(4));
+        System.out.println(keys.removeAll(Arrays.asList(11, 48, 1000)));
+        System.out.println(values.retainAll(Arrays.asList(1, 2, 4, 5)));
+        System.out.println(keys.size() + 100 * values.size() + 10000 * entries.size());
+        System.out.println(keys.hashCode());
+        System.out.println(entries.hashCode());
+        System.out.println(keys.equals(new HashSet<Integer>(keys)));
+        System.out.println(entries.equals(new HashSet<Map.Entry<Integer, Integer>>(entries)));
+        System.out.println(keys.toArray().length + keys.toArray(new Integer[0]).length);
         Iterator<Integer> all = keys.iterator();
         all.next();
         all.remove();
@@ -316,12 +316,12 @@ public class HashMaps {
         try {
             keys.add(1);
         } catch (UnsupportedOperationException e) {
-            Report.number(51);
+            System.out.println(51);
         }
         try {
             values.add(1);
         } catch (UnsupportedOperationException e) {
-            Report.number(52);
+            System.out.println(52);
         }
         final long[] sum = new long[1];
         map.forEach(new BiConsumer<Integer, Integer>() {
@@ -329,7 +329,7 @@ public class HashMaps {
                 sum[0] = sum[0] * 31 + key * 7 + value;
             }
         });
-        Report.number(sum[0]);
+        System.out.println(sum[0]);
         map.replaceAll(new BiFunction<Integer, Integer, Integer>() {
             public Integer apply(Integer key, Integer value) {
                 return key - value;
@@ -337,26 +337,26 @@ public class HashMaps {
         });
         tell(map);
         values.clear();
-        Report.truth(keys.isEmpty());
+        System.out.println(keys.isEmpty());
         map.put(1, 1);
         keys.clear();
         map.put(2, 2);
         entries.clear();
-        Report.truth(map.isEmpty());
+        System.out.println(map.isEmpty());
     }
 
     static void entries() {
         AbstractMap.SimpleEntry<Integer, Integer> entry = new AbstractMap.SimpleEntry<Integer, Integer>(1, 2);
-        Report.number(entry.setValue(5));
+        System.out.println(entry.setValue(5).intValue());
         Map.Entry<Integer, Integer> same = new AbstractMap.SimpleEntry<Integer, Integer>(entry);
         Map.Entry<Integer, Integer> fixed = new AbstractMap.SimpleImmutableEntry<Integer, Integer>(same);
-        Report.truth(fixed.equals(same) && entry.equals(fixed));
-        Report.truth(entry.equals(Integer.valueOf(1)));
-        Report.number(fixed.getKey() * 100 + fixed.getValue() + fixed.hashCode());
+        System.out.println(fixed.equals(same) && entry.equals(fixed));
+        System.out.println(entry.equals(Integer.valueOf(1)));
+        System.out.println(fixed.getKey() * 100 + fixed.getValue() + fixed.hashCode());
         try {
             fixed.setValue(1);
         } catch (UnsupportedOperationException e) {
-            Report.number(61);
+            System.out.println(61);
         }
     }
 
@@ -368,17 +368,17 @@ public class HashMaps {
             map.put(3, null);
             try {
                 fault(map, which);
-                Report.number(0);
+                System.out.println(0);
             } catch (ConcurrentModificationException e) {
-                Report.number(1);
+                System.out.println(1);
             } catch (NoSuchElementException e) {
-                Report.number(2);
+                System.out.println(2);
             } catch (IllegalStateException e) {
-                Report.number(3);
+                System.out.println(3);
             } catch (IllegalArgumentException e) {
-                Report.number(4);
+                System.out.println(4);
             } catch (NullPointerException e) {
-                Report.number(5);
+                System.out.println(5);
             }
             tell(map);
         }
@@ -483,23 +483,23 @@ public class HashMaps {
                     case 0:
                     case 1:
                     case 2:
-                    case 3: Report.truth(set.add(value)); break;
-                    case 4: Report.truth(set.remove(value)); break;
-                    case 5: Report.truth(set.contains(value)); break;
-                    case 6: Report.truth(set.addAll(Arrays.asList(value, 31, 62))); break;
-                    case 7: Report.truth(set.removeAll(Arrays.asList(value, 31))); break;
-                    case 8: Report.truth(set.removeAll(new HashSet<Integer>(Arrays.asList(1, 2, 3, 4, 31, 5, 6, 7, 8, 9, 10)))); break;
+                    case 3: System.out.println(set.add(value)); break;
+                    case 4: System.out.println(set.remove(value)); break;
+                    case 5: System.out.println(set.contains(value)); break;
+                    case 6: System.out.println(set.addAll(Arrays.asList(value, 31, 62))); break;
+                    case 7: System.out.println(set.removeAll(Arrays.asList(value, 31))); break;
+                    case 8: System.out.println(set.removeAll(new HashSet<Integer>(Arrays.asList(1, 2, 3, 4, 31, 5, 6, 7, 8, 9, 10)))); break;
                     case 9:
-                        Report.number(set.hashCode());
-                        Report.truth(set.equals(new LinkedHashSet<Integer>(set)));
-                        Report.truth(set.equals(Arrays.asList(1)));
-                        Report.truth(set.containsAll(Arrays.asList(value, 31)));
+                        System.out.println(set.hashCode());
+                        System.out.println(set.equals(new LinkedHashSet<Integer>(set)));
+                        System.out.println(set.equals(Arrays.asList(1)));
+                        System.out.println(set.containsAll(Arrays.asList(value, 31)));
                         break;
                     case 10:
                         if (choose(6) == 0) {
                             set.clear();
                         }
-                        Report.truth(set.isEmpty());
+                        System.out.println(set.isEmpty());
                         break;
                     default:
                         for (Iterator<Integer> all = set.iterator(); all.hasNext(); ) {

@@ -98,9 +98,9 @@ public class Lists {
     }
 
     static void tell(Collection<Integer> all) {
-        Report.number(all.size());
+        System.out.println(all.size());
         for (Integer element : all) {
-            Report.number(element == null ? -999 : element);
+            System.out.println(element == null ? -999 : element);
         }
     }
 
@@ -111,7 +111,7 @@ public class Lists {
             switch (choose(22)) {
                 case 0:
                 case 1:
-                    Report.truth(list.add(value));
+                    System.out.println(list.add(value));
                     break;
                 case 2:
                 case 3:
@@ -120,62 +120,62 @@ public class Lists {
                 case 4:
                     if (size > 0) {
                         Integer old = list.remove(choose(size));
-                        Report.number(old == null ? -1 : old);
+                        System.out.println(old == null ? -1 : old);
                     }
                     break;
                 case 5:
-                    Report.truth(list.remove((Object) value));
+                    System.out.println(list.remove((Object) value));
                     break;
                 case 6:
                     if (size > 0) {
                         Integer old = list.set(choose(size), value);
-                        Report.number(old == null ? -1 : old);
+                        System.out.println(old == null ? -1 : old);
                     }
                     break;
                 case 7:
-                    Report.number(list.indexOf(value));
+                    System.out.println(list.indexOf(value));
                     break;
                 case 8:
-                    Report.number(list.lastIndexOf(value));
+                    System.out.println(list.lastIndexOf(value));
                     break;
                 case 9:
-                    Report.truth(list.contains(value));
+                    System.out.println(list.contains(value));
                     break;
                 case 10:
-                    Report.truth(list.addAll(Arrays.asList(value, 1, 2)));
+                    System.out.println(list.addAll(Arrays.asList(value, 1, 2)));
                     break;
                 case 11:
-                    Report.truth(list.addAll(choose(size + 1), Arrays.asList(5, value)));
+                    System.out.println(list.addAll(choose(size + 1), Arrays.asList(5, value)));
                     break;
                 case 12:
-                    Report.truth(list.addAll(Collections.<Integer>emptyList()));
-                    Report.truth(list.addAll(0, new ArrayList<Integer>()));
+                    System.out.println(list.addAll(Collections.<Integer>emptyList()));
+                    System.out.println(list.addAll(0, new ArrayList<Integer>()));
                     break;
                 case 13:
-                    Report.truth(list.removeAll(Arrays.asList(value, 40)));
+                    System.out.println(list.removeAll(Arrays.asList(value, 40)));
                     break;
                 case 14:
-                    Report.truth(choose(6) == 0 && list.retainAll(Arrays.asList(value, 0, 40, 80, 120, 160, 200, 1, 2)));
+                    System.out.println(choose(6) == 0 && list.retainAll(Arrays.asList(value, 0, 40, 80, 120, 160, 200, 1, 2)));
                     break;
                 case 15:
-                    Report.truth(list.containsAll(Arrays.asList(value, 1)));
+                    System.out.println(list.containsAll(Arrays.asList(value, 1)));
                     break;
                 case 16:
                     walk(list);
                     break;
                 case 17:
-                    Report.number(list.hashCode());
-                    Report.truth(list.equals(new ArrayList<Integer>(list)));
-                    Report.truth(list.equals(new LinkedList<Integer>(list)));
-                    Report.truth(list.equals(Arrays.asList(1, 2)));
-                    Report.truth(list.equals(Integer.valueOf(1)));
-                    Report.truth(list.equals(list));
+                    System.out.println(list.hashCode());
+                    System.out.println(list.equals(new ArrayList<Integer>(list)));
+                    System.out.println(list.equals(new LinkedList<Integer>(list)));
+                    System.out.println(list.equals(Arrays.asList(1, 2)));
+                    System.out.println(list.equals(Integer.valueOf(1)));
+                    System.out.println(list.equals(list));
                     break;
                 case 18:
                     arrays(list);
                     break;
                 case 19:
-                    Report.truth(list.removeIf(new Predicate<Integer>() {
+                    System.out.println(list.removeIf(new Predicate<Integer>() {
                         public boolean test(Integer element) {
                             return element != null && element % 120 == 80;
                         }
@@ -192,7 +192,7 @@ public class Lists {
                     if (choose(8) == 0) {
                         list.clear();
                     }
-                    Report.truth(list.isEmpty());
+                    System.out.println(list.isEmpty());
             }
             tell(list);
         }
@@ -201,7 +201,7 @@ public class Lists {
     static void walk(List<Integer> list) {
         ListIterator<Integer> all = choose(2) == 0 ? list.listIterator() : list.listIterator(choose(list.size() + 1));
         for (int step = 0; step < 12; step++) {
-            Report.number(all.nextIndex() * 1000 + all.previousIndex());
+            System.out.println(all.nextIndex() * 1000 + all.previousIndex());
             if (choose(2) == 0 ? all.hasNext() : !all.hasPrevious() && all.hasNext()) {
                 all.next();
             } else if (all.hasPrevious()) {
@@ -235,37 +235,37 @@ public class Lists {
         };
         rest.forEachRemaining(adding);
         list.forEach(adding);
-        Report.number(sum[0]);
+        System.out.println(sum[0]);
     }
 
     static void arrays(List<Integer> list) {
         Object[] all = list.toArray();
         Integer[] same = list.toArray(new Integer[0]);
         Integer[] longer = list.toArray(new Integer[list.size() + 3]);
-        Report.number(all.length + 1000 * same.length + 1000000L * longer.length);
+        System.out.println(all.length + 1000 * same.length + 1000000L * longer.length);
         for (int i = 0; i < all.length; i++) {
-            Report.truth(all[i] == same[i] && same[i] == longer[i]);
+            System.out.println(all[i] == same[i] && same[i] == longer[i]);
         }
-        Report.truth(longer[list.size()] == null);
+        System.out.println(longer[list.size()] == null);
     }
 
     static void faults(List<Integer> list) {
         for (int which = 0; which < 22; which++) {
             try {
                 fault(list, which);
-                Report.number(0);
+                System.out.println(0);
             } catch (IndexOutOfBoundsException e) {
-                Report.number(1);
+                System.out.println(1);
             } catch (NoSuchElementException e) {
-                Report.number(2);
+                System.out.println(2);
             } catch (ConcurrentModificationException e) {
-                Report.number(3);
+                System.out.println(3);
             } catch (IllegalStateException e) {
-                Report.number(4);
+                System.out.println(4);
             } catch (IllegalArgumentException e) {
-                Report.number(5);
+                System.out.println(5);
             } catch (NullPointerException e) {
-                Report.number(6);
+                System.out.println(6);
             }
         }
     }
@@ -341,14 +341,14 @@ public class Lists {
         }
         list.trimToSize();
         Object copy = list.clone();
-        Report.truth(((ArrayList<?>) copy).equals(list) && copy != list);
+        System.out.println(((ArrayList<?>) copy).equals(list) && copy != list);
         list.ensureCapacity(100);
         list.subList(5, 15).clear();
         tell(list);
         try {
             new ArrayList<Integer>(-1);
         } catch (IllegalArgumentException e) {
-            Report.number(11);
+            System.out.println(11);
         }
         try {
             list.forEach(new Consumer<Integer>() {
@@ -357,7 +357,7 @@ public class Lists {
                 }
             });
         } catch (ConcurrentModificationException e) {
-            Report.number(12);
+            System.out.println(12);
         }
         tell(list);
         try {
@@ -368,13 +368,13 @@ public class Lists {
                 }
             });
         } catch (ConcurrentModificationException e) {
-            Report.number(13);
+            System.out.println(13);
         }
     }
 
     static void linkedLists() {
         LinkedList<Integer> list = new LinkedList<Integer>(Arrays.asList(3, 1, 2));
-        Report.truth(((LinkedList<?>) list.clone()).equals(list));
+        System.out.println(((LinkedList<?>) list.clone()).equals(list));
         for (int i = 0; i < 3; i++) {
             list.addFirst(i);
             list.addLast(i * i);
@@ -382,7 +382,7 @@ public class Lists {
         tell(list);
         for (Iterator<Integer> down = list.descendingIterator(); down.hasNext(); ) {
             Integer element = down.next();
-            Report.number(element);
+            System.out.println(element.intValue());
             if (element == 1) {
                 down.remove();
             }
@@ -395,37 +395,37 @@ public class Lists {
             Vector<Integer> vector = new Vector<Integer>(1, increment);
             for (int i = 0; i < 9; i++) {
                 vector.addElement(i % 5);
-                Report.number(vector.capacity());
+                System.out.println(vector.capacity());
             }
             vector.insertElementAt(7, 3);
             vector.setElementAt(8, 4);
             vector.removeElementAt(0);
-            Report.truth(vector.removeElement(8));
-            Report.truth(vector.removeElement(99));
+            System.out.println(vector.removeElement(8));
+            System.out.println(vector.removeElement(99));
             tell(vector);
-            Report.number(vector.firstElement() * 100 + vector.lastElement() * 10 + vector.elementAt(2));
-            Report.number(vector.indexOf(3, 1) * 100 + vector.indexOf(3, 7) * 10 + vector.lastIndexOf(3, 5));
+            System.out.println(vector.firstElement() * 100 + vector.lastElement() * 10 + vector.elementAt(2));
+            System.out.println(vector.indexOf(3, 1) * 100 + vector.indexOf(3, 7) * 10 + vector.lastIndexOf(3, 5));
             for (Enumeration<Integer> all = vector.elements(); all.hasMoreElements(); ) {
-                Report.number(all.nextElement());
+                System.out.println(all.nextElement().intValue());
             }
             Integer[] into = new Integer[vector.size() + 1];
             vector.copyInto(into);
-            Report.truth(into[2].equals(vector.get(2)));
+            System.out.println(into[2].equals(vector.get(2)));
             vector.ensureCapacity(40);
-            Report.number(vector.capacity());
+            System.out.println(vector.capacity());
             vector.addAll(2, Arrays.asList(1, 2, 3));
             vector.trimToSize();
-            Report.number(vector.capacity());
+            System.out.println(vector.capacity());
             vector.setSize(14);
             tell(vector);
             vector.setSize(4);
             tell(vector);
-            Report.truth(((Vector<?>) vector.clone()).equals(vector));
+            System.out.println(((Vector<?>) vector.clone()).equals(vector));
             vector.removeAllElements();
-            Report.truth(vector.isEmpty());
+            System.out.println(vector.isEmpty());
         }
         tell(new Vector<Integer>(Arrays.asList(4, 5)));
-        Report.number(new Vector<Integer>().capacity());
+        System.out.println(new Vector<Integer>().capacity());
         for (int which = 0; which < 9; which++) {
             Vector<Integer> vector = new Vector<Integer>(3);
             try {
@@ -440,40 +440,40 @@ public class Lists {
                     case 7: vector.lastIndexOf(1, 0); break;
                     default: new Vector<Integer>(-1);
                 }
-                Report.number(0);
+                System.out.println(0);
             } catch (ArrayIndexOutOfBoundsException e) {
-                Report.number(1);
+                System.out.println(1);
             } catch (IndexOutOfBoundsException e) {
-                Report.number(2);
+                System.out.println(2);
             } catch (NoSuchElementException e) {
-                Report.number(3);
+                System.out.println(3);
             } catch (IllegalArgumentException e) {
-                Report.number(4);
+                System.out.println(4);
             }
         }
     }
 
     static void stacks() {
         Stack<Integer> stack = new Stack<Integer>();
-        Report.truth(stack.empty());
+        System.out.println(stack.empty());
         for (int i = 0; i < 6; i++) {
-            Report.number(stack.push(i * i));
+            System.out.println(stack.push(i * i).intValue());
         }
-        Report.number(stack.search(9));
-        Report.number(stack.search(7));
-        Report.number(stack.peek());
-        Report.number(stack.pop());
+        System.out.println(stack.search(9));
+        System.out.println(stack.search(7));
+        System.out.println(stack.peek().intValue());
+        System.out.println(stack.pop().intValue());
         tell(stack);
         stack.clear();
         try {
             stack.pop();
         } catch (EmptyStackException e) {
-            Report.number(1);
+            System.out.println(1);
         }
         try {
             stack.peek();
         } catch (EmptyStackException e) {
-            Report.number(2);
+            System.out.println(2);
         }
     }
 
@@ -484,17 +484,17 @@ public class Lists {
         try {
             list.add(1);
         } catch (UnsupportedOperationException e) {
-            Report.number(21);
+            System.out.println(21);
         }
         try {
             list.remove(1);
         } catch (UnsupportedOperationException e) {
-            Report.number(22);
+            System.out.println(22);
         }
         try {
             list.get(3);
         } catch (ArrayIndexOutOfBoundsException e) {
-            Report.number(23);
+            System.out.println(23);
         }
         try {
             new AbstractList<Integer>() {
@@ -507,7 +507,7 @@ public class Lists {
                 }
             }.set(0, 1);
         } catch (UnsupportedOperationException e) {
-            Report.number(24);
+            System.out.println(24);
         }
     }
 }

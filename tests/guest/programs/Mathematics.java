@@ -9,9 +9,9 @@ public class Mathematics {
             for (int j = 0; j < LONGS.length; j++) {
                 for (int which = 0; which < 26; which++) {
                     try {
-                        Report.number(two(which, LONGS[i], LONGS[j]));
+                        System.out.println(two(which, LONGS[i], LONGS[j]));
                     } catch (ArithmeticException e) {
-                        Report.number(-123456);
+                        System.out.println(-123456);
                     }
                 }
             }
@@ -19,15 +19,15 @@ public class Mathematics {
     }
 
     static void one(long a) {
-        Report.number(Math.abs(a));
-        Report.number(Math.abs((int) a));
-        Report.number(StrictMath.abs(a));
-        Report.number(StrictMath.abs((int) a));
+        System.out.println(Math.abs(a));
+        System.out.println(Math.abs((int) a));
+        System.out.println(StrictMath.abs(a));
+        System.out.println(StrictMath.abs((int) a));
         for (int which = 0; which < 8; which++) {
             try {
-                Report.number(exact(which, a));
+                System.out.println(exact(which, a));
             } catch (ArithmeticException e) {
-                Report.number(-123456);
+                System.out.println(-123456);
             }
         }
     }

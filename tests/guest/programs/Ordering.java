@@ -44,7 +44,7 @@ public class Ordering {
         Integer[] all = Arrays.copyOf(NUMBERS, NUMBERS.length);
         Arrays.sort(all, order);
         for (int i = 0; i < all.length; i++) {
-            Report.number(all[i]);
+            System.out.println(all[i].intValue());
         }
     }
 
@@ -81,9 +81,9 @@ public class Ordering {
                     case 4: Comparator.comparing((Function<Integer, Integer>) null); break;
                     default: natural.thenComparing((Comparator<Integer>) null);
                 }
-                Report.number(0);
+                System.out.println(0);
             } catch (NullPointerException e) {
-                Report.number(1);
+                System.out.println(1);
             }
         }
     }
@@ -100,7 +100,7 @@ public class Ordering {
         for (Comparator<Integer> order : orders) {
             for (int i = 0; i < some.length; i++) {
                 for (int j = 0; j < some.length; j++) {
-                    Report.number(order.compare(some[i], some[j]) < 0 ? -1 : order.compare(some[i], some[j]) > 0 ? 1 : 0);
+                    System.out.println(order.compare(some[i], some[j]) < 0 ? -1 : order.compare(some[i], some[j]) > 0 ? 1 : 0);
                 }
                 if (some[i] == null && order == orders.get(5)) {
                     break;
@@ -116,58 +116,58 @@ public class Ordering {
     static void entries() {
         Map.Entry<Integer, Integer> a = entry(1, 9);
         Map.Entry<Integer, Integer> b = entry(2, 8);
-        Report.number(Map.Entry.<Integer, Integer>comparingByKey().compare(a, b));
-        Report.number(Map.Entry.<Integer, Integer>comparingByValue().compare(a, b));
-        Report.number(Map.Entry.<Integer, Integer>comparingByKey(Comparator.<Integer>reverseOrder()).compare(a, b));
-        Report.number(Map.Entry.<Integer, Integer>comparingByValue(Comparator.<Integer>reverseOrder()).compare(a, b));
-        Report.number(Map.Entry.<Integer, Integer>comparingByKey().reversed().compare(a, b));
+        System.out.println(Map.Entry.<Integer, Integer>comparingByKey().compare(a, b));
+        System.out.println(Map.Entry.<Integer, Integer>comparingByValue().compare(a, b));
+        System.out.println(Map.Entry.<Integer, Integer>comparingByKey(Comparator.<Integer>reverseOrder()).compare(a, b));
+        System.out.println(Map.Entry.<Integer, Integer>comparingByValue(Comparator.<Integer>reverseOrder()).compare(a, b));
+        System.out.println(Map.Entry.<Integer, Integer>comparingByKey().reversed().compare(a, b));
     }
 
     static void objects() {
-        Report.truth(Objects.equals(1000, 1000));
-        Report.truth(Objects.equals(null, 1000));
-        Report.truth(Objects.equals(null, null));
-        Report.number(Objects.hashCode(null));
-        Report.number(Objects.hashCode(77L));
-        Report.number(Objects.hash(1, 2L, 'c', null, true));
-        Report.number(Objects.compare(1, 2, Comparator.<Integer>naturalOrder()));
-        Report.number(Objects.compare(null, null, Comparator.<Integer>naturalOrder()));
-        Report.truth(Objects.isNull(null));
-        Report.truth(Objects.nonNull(null));
-        Report.number(Objects.requireNonNull(5));
-        Report.number(Objects.requireNonNull(6, "six"));
+        System.out.println(Objects.equals(1000, 1000));
+        System.out.println(Objects.equals(null, 1000));
+        System.out.println(Objects.equals(null, null));
+        System.out.println(Objects.hashCode(null));
+        System.out.println(Objects.hashCode(77L));
+        System.out.println(Objects.hash(1, 2L, 'c', null, true));
+        System.out.println(Objects.compare(1, 2, Comparator.<Integer>naturalOrder()));
+        System.out.println(Objects.compare(null, null, Comparator.<Integer>naturalOrder()));
+        System.out.println(Objects.isNull(null));
+        System.out.println(Objects.nonNull(null));
+        System.out.println(Objects.requireNonNull(5).intValue());
+        System.out.println(Objects.requireNonNull(6, "six").intValue());
         final String message = "made";
         Supplier<String> made = new Supplier<String>() {
             public String get() {
                 return message;
             }
         };
-        Report.number(Objects.requireNonNull(7, made));
-        Report.truth(Objects.toString("a") == "a");
-        Report.truth(Objects.toString(null, "none") == "none");
-        Report.truth(Objects.toString("b", "none") == "b");
+        System.out.println(Objects.requireNonNull(7, made).intValue());
+        System.out.println(Objects.toString("a") == "a");
+        System.out.println(Objects.toString(null, "none") == "none");
+        System.out.println(Objects.toString("b", "none") == "b");
         try {
             Objects.requireNonNull(null);
         } catch (NullPointerException e) {
-            Report.truth(e.getMessage() == null);
+            System.out.println(e.getMessage() == null);
         }
         try {
             Objects.requireNonNull(null, "text");
         } catch (NullPointerException e) {
-            Report.truth(e.getMessage() == "text");
+            System.out.println(e.getMessage() == "text");
         }
         try {
             Objects.requireNonNull(null, made);
         } catch (NullPointerException e) {
-            Report.truth(e.getMessage() == "made");
+            System.out.println(e.getMessage() == "made");
         }
     }
 
     static void functions() {
-        Report.number(DIGIT.andThen(TENS).apply(77));
-        Report.number(DIGIT.compose(TENS).apply(777));
-        Report.number(Function.<Integer>identity().apply(9));
-        Report.number(UnaryOperator.<Integer>identity().apply(8));
+        System.out.println(DIGIT.andThen(TENS).apply(77).intValue());
+        System.out.println(DIGIT.compose(TENS).apply(777).intValue());
+        System.out.println(Function.<Integer>identity().apply(9).intValue());
+        System.out.println(UnaryOperator.<Integer>identity().apply(8).intValue());
         final long[] seen = new long[1];
         Consumer<Integer> add = new Consumer<Integer>() {
             public void accept(Integer number) {
@@ -180,20 +180,20 @@ public class Ordering {
             }
         };
         add.andThen(twice).accept(5);
-        Report.number(seen[0]);
+        System.out.println(seen[0]);
         BiConsumer<Integer, Integer> both = new BiConsumer<Integer, Integer>() {
             public void accept(Integer a, Integer b) {
                 seen[0] = seen[0] * 3 + a * b;
             }
         };
         both.andThen(both).accept(2, 7);
-        Report.number(seen[0]);
+        System.out.println(seen[0]);
         BiFunction<Integer, Integer, Integer> times = new BiFunction<Integer, Integer, Integer>() {
             public Integer apply(Integer a, Integer b) {
                 return a * b;
             }
         };
-        Report.number(times.andThen(TENS).apply(12, 12));
+        System.out.println(times.andThen(TENS).apply(12, 12).intValue());
         Predicate<Integer> even = new Predicate<Integer>() {
             public boolean test(Integer number) {
                 return number % 2 == 0;
@@ -205,7 +205,7 @@ public class Ordering {
             }
         };
         for (int i = 0; i < NUMBERS.length; i++) {
-            Report.number((even.and(large).test(NUMBERS[i]) ? 1 : 0) + (even.or(large).test(NUMBERS[i]) ? 2 : 0) + (even.negate().test(NUMBERS[i]) ? 4 : 0));
+            System.out.println((even.and(large).test(NUMBERS[i]) ? 1 : 0) + (even.or(large).test(NUMBERS[i]) ? 2 : 0) + (even.negate().test(NUMBERS[i]) ? 4 : 0));
         }
     }
 }

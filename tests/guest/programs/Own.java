@@ -88,9 +88,9 @@ public class Own {
     }
 
     static void tell(Collection<Integer> all) {
-        Report.number(all.size());
+        System.out.println(all.size());
         for (Integer element : all) {
-            Report.number(element == null ? -9 : element);
+            System.out.println(element == null ? -9 : element);
         }
     }
 
@@ -103,41 +103,41 @@ public class Own {
 
     static void bag() {
         Bag bag = new Bag(1, 2, 3, 2, null, 4);
-        Report.truth(bag.contains(3) && bag.contains(null));
-        Report.truth(bag.contains(9));
-        Report.truth(bag.containsAll(Arrays.asList(1, 4)));
-        Report.truth(bag.remove(2));
+        System.out.println(bag.contains(3) && bag.contains(null));
+        System.out.println(bag.contains(9));
+        System.out.println(bag.containsAll(Arrays.asList(1, 4)));
+        System.out.println(bag.remove(2));
         tell(bag);
-        Report.truth(bag.removeAll(Arrays.asList(null, 1)));
+        System.out.println(bag.removeAll(Arrays.asList(null, 1)));
         tell(bag);
-        Report.truth(bag.retainAll(Arrays.asList(2, 3)));
+        System.out.println(bag.retainAll(Arrays.asList(2, 3)));
         tell(bag);
-        Report.number(bag.toArray().length + 10 * bag.toArray(new Integer[5]).length + 100 * bag.toArray(new Integer[0]).length);
-        Report.truth(bag.isEmpty());
+        System.out.println(bag.toArray().length + 10 * bag.toArray(new Integer[5]).length + 100 * bag.toArray(new Integer[0]).length);
+        System.out.println(bag.isEmpty());
         final long[] sum = new long[1];
         bag.forEach(new Consumer<Integer>() {
             public void accept(Integer element) {
                 sum[0] += element;
             }
         });
-        Report.number(sum[0]);
-        Report.truth(bag.removeIf(new Predicate<Integer>() {
+        System.out.println(sum[0]);
+        System.out.println(bag.removeIf(new Predicate<Integer>() {
             public boolean test(Integer element) {
                 return element == 3;
             }
         }));
         tell(bag);
         bag.clear();
-        Report.truth(bag.isEmpty());
+        System.out.println(bag.isEmpty());
         try {
             bag.add(1);
         } catch (UnsupportedOperationException e) {
-            Report.number(3);
+            System.out.println(3);
         }
         try {
             bag.addAll(Arrays.asList(1));
         } catch (UnsupportedOperationException e) {
-            Report.number(4);
+            System.out.println(4);
         }
         Iterator<Integer> plain = new Iterator<Integer>() {
             public boolean hasNext() {
@@ -151,11 +151,11 @@ public class Own {
         try {
             plain.remove();
         } catch (UnsupportedOperationException e) {
-            Report.number(5);
+            System.out.println(5);
         }
         plain.forEachRemaining(new Consumer<Integer>() {
             public void accept(Integer element) {
-                Report.number(element);
+                System.out.println(element.intValue());
             }
         });
     }
@@ -165,32 +165,32 @@ public class Own {
         for (int i = 0; i < 8; i++) {
             map.put(i * 3 % 8, i == 5 ? null : (Integer) (i * i));
         }
-        Report.number(map.size());
-        Report.truth(map.isEmpty());
-        Report.number(map.get(3) + map.get(6));
-        Report.truth(map.get(99) == null);
-        Report.truth(map.containsKey(7));
-        Report.truth(map.containsValue(36));
-        Report.truth(map.containsValue(null));
-        Report.number(map.remove(3));
-        Report.truth(map.remove(3) == null);
-        Report.number(map.hashCode());
+        System.out.println(map.size());
+        System.out.println(map.isEmpty());
+        System.out.println(map.get(3) + map.get(6));
+        System.out.println(map.get(99) == null);
+        System.out.println(map.containsKey(7));
+        System.out.println(map.containsValue(36));
+        System.out.println(map.containsValue(null));
+        System.out.println(map.remove(3).intValue());
+        System.out.println(map.remove(3) == null);
+        System.out.println(map.hashCode());
         Map<Integer, Integer> other = new HashMap<Integer, Integer>(map);
-        Report.truth(map.equals(other));
-        Report.truth(map.equals(map));
-        Report.truth(map.equals(Integer.valueOf(1)));
+        System.out.println(map.equals(other));
+        System.out.println(map.equals(map));
+        System.out.println(map.equals(Integer.valueOf(1)));
         tell(map.keySet());
         tell(map.values());
-        Report.truth(map.entrySet().equals(other.entrySet()));
-        Report.number(map.entrySet().hashCode());
-        Report.truth(map.entrySet().removeAll(new HashSet<Object>(Arrays.asList(1, 2, 3))));
+        System.out.println(map.entrySet().equals(other.entrySet()));
+        System.out.println(map.entrySet().hashCode());
+        System.out.println(map.entrySet().removeAll(new HashSet<Object>(Arrays.asList(1, 2, 3))));
         other.put(50, 1);
         map.putAll(other);
-        Report.number(map.size());
-        Report.truth(map.keySet().remove(50));
-        Report.truth(map.values().contains(4));
+        System.out.println(map.size());
+        System.out.println(map.keySet().remove(50));
+        System.out.println(map.values().contains(4));
         map.clear();
-        Report.number(map.size());
+        System.out.println(map.size());
         try {
             new AbstractMap<Integer, Integer>() {
                 public Set<Map.Entry<Integer, Integer>> entrySet() {
@@ -198,12 +198,12 @@ public class Own {
                 }
             }.put(1, 1);
         } catch (UnsupportedOperationException e) {
-            Report.number(6);
+            System.out.println(6);
         }
     }
 
     static void value(Integer value) {
-        Report.number(value == null ? -9 : value);
+        System.out.println(value == null ? -9 : value);
     }
 
     static void defaults() {
@@ -216,11 +216,11 @@ public class Own {
         value(map.getOrDefault(9, 5));
         value(map.putIfAbsent(2, 7));
         value(map.putIfAbsent(3, 7));
-        Report.truth(map.remove(3, 1));
-        Report.truth(map.remove(3, 30));
-        Report.truth(map.remove(99, null));
-        Report.truth(map.replace(4, 1, 2));
-        Report.truth(map.replace(4, 40, 44));
+        System.out.println(map.remove(3, 1));
+        System.out.println(map.remove(3, 30));
+        System.out.println(map.remove(99, null));
+        System.out.println(map.replace(4, 1, 2));
+        System.out.println(map.replace(4, 40, 44));
         value(map.replace(4, 45));
         value(map.replace(98, 45));
         Function<Integer, Integer> made = new Function<Integer, Integer>() {
@@ -255,25 +255,25 @@ public class Own {
                 seen[0] = seen[0] * 31 + key * 100 + value;
             }
         });
-        Report.number(seen[0]);
-        Report.number(map.size());
+        System.out.println(seen[0]);
+        System.out.println(map.size());
     }
 
     static void thrown(RuntimeException e, String message, Throwable cause) {
-        Report.truth(e.getMessage() == message);
-        Report.truth(e.getCause() == cause);
+        System.out.println(e.getMessage() == message);
+        System.out.println(e.getCause() == cause);
         try {
             throw e;
         } catch (NoSuchElementException caught) {
-            Report.number(1);
+            System.out.println(1);
         } catch (ConcurrentModificationException caught) {
-            Report.number(2);
+            System.out.println(2);
         } catch (NumberFormatException caught) {
-            Report.number(3);
+            System.out.println(3);
         } catch (SecurityException caught) {
-            Report.number(4);
+            System.out.println(4);
         } catch (IllegalArgumentException caught) {
-            Report.number(5);
+            System.out.println(5);
         }
     }
 

@@ -23,14 +23,14 @@ public class Queues {
     }
 
     static void tell(Collection<Integer> all) {
-        Report.number(all.size());
+        System.out.println(all.size());
         for (Integer element : all) {
-            Report.number(element);
+            System.out.println(element.intValue());
         }
     }
 
     static void tell(Integer element) {
-        Report.number(element == null ? -1 : element);
+        System.out.println(element == null ? -1 : element);
     }
 
     public static void main(String[] arguments) {
@@ -53,7 +53,7 @@ public class Queues {
         PriorityQueue<Integer> down = new PriorityQueue<Integer>(Collections.<Integer>reverseOrder());
         down.addAll(Arrays.asList(1, 5, 3));
         heap(new PriorityQueue<Integer>((Collection<Integer>) down), 30);
-        Report.truth(down.comparator() == Collections.<Integer>reverseOrder());
+        System.out.println(down.comparator() == Collections.<Integer>reverseOrder());
         own();
         faults();
     }
@@ -64,10 +64,10 @@ public class Queues {
             switch (choose(30)) {
                 case 0: deque.addFirst(value); break;
                 case 1: deque.addLast(value); break;
-                case 2: Report.truth(deque.offerFirst(value)); break;
-                case 3: Report.truth(deque.offerLast(value)); break;
-                case 4: Report.truth(deque.add(value)); break;
-                case 5: Report.truth(deque.offer(value)); break;
+                case 2: System.out.println(deque.offerFirst(value)); break;
+                case 3: System.out.println(deque.offerLast(value)); break;
+                case 4: System.out.println(deque.add(value)); break;
+                case 5: System.out.println(deque.offer(value)); break;
                 case 6: deque.push(value); break;
                 case 7: tell(deque.pollFirst()); break;
                 case 8: tell(deque.pollLast()); break;
@@ -75,31 +75,31 @@ public class Queues {
                 case 10: tell(deque.peekFirst()); break;
                 case 11: tell(deque.peekLast()); break;
                 case 12: tell(deque.peek()); break;
-                case 13: Report.truth(deque.removeFirstOccurrence(value)); break;
-                case 14: Report.truth(deque.removeLastOccurrence(value)); break;
-                case 15: Report.truth(deque.remove((Object) value)); break;
-                case 16: Report.truth(deque.contains(value)); break;
-                case 17: Report.truth(deque.addAll(Arrays.asList(value, 3, 4))); break;
-                case 18: Report.truth(deque.removeAll(Arrays.asList(value, 3))); break;
+                case 13: System.out.println(deque.removeFirstOccurrence(value)); break;
+                case 14: System.out.println(deque.removeLastOccurrence(value)); break;
+                case 15: System.out.println(deque.remove((Object) value)); break;
+                case 16: System.out.println(deque.contains(value)); break;
+                case 17: System.out.println(deque.addAll(Arrays.asList(value, 3, 4))); break;
+                case 18: System.out.println(deque.removeAll(Arrays.asList(value, 3))); break;
                 case 19: throwing(deque, choose(7)); break;
                 case 20: walk(deque.iterator()); break;
                 case 21: walk(deque.descendingIterator()); break;
                 case 22:
-                    Report.number(deque.toArray().length);
-                    Report.number(deque.toArray(new Integer[2]).length);
+                    System.out.println(deque.toArray().length);
+                    System.out.println(deque.toArray(new Integer[2]).length);
                     break;
                 case 23:
                     if (choose(9) == 0) {
                         deque.clear();
                     }
-                    Report.truth(deque.isEmpty());
+                    System.out.println(deque.isEmpty());
                     break;
                 default: deque.addLast(step);
             }
             if (step % 10 == 0) {
                 tell(deque);
             }
-            Report.number(deque.size());
+            System.out.println(deque.size());
         }
         tell(deque);
         for (int which = 0; which < 7; which++) {
@@ -121,13 +121,13 @@ public class Queues {
                 default: tell(deque.pop());
             }
         } catch (NoSuchElementException e) {
-            Report.number(-2);
+            System.out.println(-2);
         }
     }
 
     static void walk(Iterator<Integer> all) {
         while (all.hasNext()) {
-            Report.number(all.next());
+            System.out.println(all.next().intValue());
             if (choose(6) == 0) {
                 all.remove();
             }
@@ -135,7 +135,7 @@ public class Queues {
         try {
             all.next();
         } catch (NoSuchElementException e) {
-            Report.number(-3);
+            System.out.println(-3);
         }
     }
 
@@ -146,38 +146,38 @@ public class Queues {
             switch (choose(14)) {
                 case 0:
                 case 1:
-                case 2: Report.truth(queue.offer(value)); break;
+                case 2: System.out.println(queue.offer(value)); break;
                 case 3:
-                case 4: Report.truth(queue.add(value)); break;
+                case 4: System.out.println(queue.add(value)); break;
                 case 5: tell(queue.poll()); break;
                 case 6: tell(queue.peek()); break;
-                case 7: Report.truth(queue.remove((Object) value)); break;
-                case 8: Report.truth(queue.contains(value)); break;
+                case 7: System.out.println(queue.remove((Object) value)); break;
+                case 8: System.out.println(queue.contains(value)); break;
                 case 9:
                     try {
                         tell(choose(2) == 0 ? queue.remove() : queue.element());
                     } catch (NoSuchElementException e) {
-                        Report.number(-2);
+                        System.out.println(-2);
                     }
                     break;
                 case 10: walk(queue.iterator()); break;
                 case 11:
-                    Report.number(queue.toArray().length);
-                    Report.number(queue.toArray(new Integer[1]).length);
+                    System.out.println(queue.toArray().length);
+                    System.out.println(queue.toArray(new Integer[1]).length);
                     break;
                 case 12:
                     if (choose(12) == 0) {
                         queue.clear();
                     }
                     break;
-                default: Report.truth(queue.addAll(Arrays.asList(value, 3)));
+                default: System.out.println(queue.addAll(Arrays.asList(value, 3)));
             }
             tell(queue);
         }
         while (!queue.isEmpty()) {
             tell(queue.poll());
         }
-        Report.truth(queue.comparator() == null);
+        System.out.println(queue.comparator() == null);
     }
 
     /** At most three elements. */
@@ -210,24 +210,24 @@ public class Queues {
         try {
             queue.element();
         } catch (NoSuchElementException e) {
-            Report.number(31);
+            System.out.println(31);
         }
         try {
             queue.remove();
         } catch (NoSuchElementException e) {
-            Report.number(32);
+            System.out.println(32);
         }
-        Report.truth(queue.addAll(Arrays.asList(1, 2)));
+        System.out.println(queue.addAll(Arrays.asList(1, 2)));
         try {
             queue.addAll(queue);
         } catch (IllegalArgumentException e) {
-            Report.number(33);
+            System.out.println(33);
         }
-        Report.truth(queue.add(3));
+        System.out.println(queue.add(3));
         try {
             queue.add(4);
         } catch (IllegalStateException e) {
-            Report.number(34);
+            System.out.println(34);
         }
         tell(queue.element());
         tell(queue.remove());
@@ -240,22 +240,22 @@ public class Queues {
         try {
             new ArrayDeque<Integer>().add(null);
         } catch (NullPointerException e) {
-            Report.number(41);
+            System.out.println(41);
         }
         try {
             new ArrayDeque<Integer>().addFirst(null);
         } catch (NullPointerException e) {
-            Report.number(42);
+            System.out.println(42);
         }
         try {
             new PriorityQueue<Integer>().offer(null);
         } catch (NullPointerException e) {
-            Report.number(43);
+            System.out.println(43);
         }
         try {
             new PriorityQueue<Integer>(0);
         } catch (IllegalArgumentException e) {
-            Report.number(44);
+            System.out.println(44);
         }
         try {
             PriorityQueue<Integer> queue = new PriorityQueue<Integer>(Arrays.asList(1, 2));
@@ -263,20 +263,20 @@ public class Queues {
             queue.add(3);
             all.next();
         } catch (ConcurrentModificationException e) {
-            Report.number(45);
+            System.out.println(45);
         }
         try {
             new PriorityQueue<Integer>(Arrays.asList(1, 2)).iterator().remove();
         } catch (IllegalStateException e) {
-            Report.number(46);
+            System.out.println(46);
         }
         try {
             new ArrayDeque<Integer>().iterator().remove();
         } catch (IllegalStateException e) {
-            Report.number(47);
+            System.out.println(47);
         }
-        Report.truth(new ArrayDeque<Integer>().contains(null));
-        Report.truth(new ArrayDeque<Integer>().removeLastOccurrence(null));
-        Report.truth(new PriorityQueue<Integer>().contains(null));
+        System.out.println(new ArrayDeque<Integer>().contains(null));
+        System.out.println(new ArrayDeque<Integer>().removeLastOccurrence(null));
+        System.out.println(new PriorityQueue<Integer>().contains(null));
     }
 }

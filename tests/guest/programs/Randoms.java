@@ -18,31 +18,31 @@ public class Randoms {
         for (int i = 0; i < seeds.length; i++) {
             Random random = new Random(seeds[i]);
             for (int j = 0; j < 20; j++) {
-                Report.number(random.nextInt());
-                Report.number(random.nextLong());
-                Report.truth(random.nextBoolean());
-                Report.number(random.nextInt(1 + j * j));
-                Report.number(random.nextInt(1 << j));
-                Report.number(random.nextInt(Integer.MAX_VALUE - j));
-                Report.number(random.nextInt((1 << 30) + 1 + j));
+                System.out.println(random.nextInt());
+                System.out.println(random.nextLong());
+                System.out.println(random.nextBoolean());
+                System.out.println(random.nextInt(1 + j * j));
+                System.out.println(random.nextInt(1 << j));
+                System.out.println(random.nextInt(Integer.MAX_VALUE - j));
+                System.out.println(random.nextInt((1 << 30) + 1 + j));
             }
             byte[] bytes = new byte[11];
             random.nextBytes(bytes);
             for (int j = 0; j < bytes.length; j++) {
-                Report.number(bytes[j]);
+                System.out.println(bytes[j]);
             }
             random.setSeed(seeds[i] + 3);
-            Report.number(random.nextLong());
+            System.out.println(random.nextLong());
             Open open = new Open(seeds[i]);
             for (int bits = 1; bits <= 32; bits++) {
-                Report.number(open.bits(bits));
+                System.out.println(open.bits(bits));
             }
         }
         try {
             new Random().nextInt(0);
-            Report.number(-1);
+            System.out.println(-1);
         } catch (IllegalArgumentException e) {
-            Report.number(1);
+            System.out.println(1);
         }
     }
 }

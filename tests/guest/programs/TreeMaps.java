@@ -28,22 +28,22 @@ public class TreeMaps {
     }
 
     static void tell(Integer number) {
-        Report.number(number == null ? -99 : number);
+        System.out.println(number == null ? -99 : number);
     }
 
     static void tell(Map.Entry<Integer, Integer> entry) {
-        Report.number(entry == null ? -98 : entry.getKey() * 1000L + (entry.getValue() == null ? 999 : entry.getValue()));
+        System.out.println(entry == null ? -98 : entry.getKey() * 1000L + (entry.getValue() == null ? 999 : entry.getValue()));
     }
 
     static void tell(Map<Integer, Integer> map) {
-        Report.number(map.size());
+        System.out.println(map.size());
         for (Map.Entry<Integer, Integer> entry : map.entrySet()) {
             tell(entry);
         }
     }
 
     static void tell(Collection<Integer> all) {
-        Report.number(all.size());
+        System.out.println(all.size());
         for (Integer element : all) {
             tell(element);
         }
@@ -81,9 +81,9 @@ public class TreeMaps {
             try {
                 step(map, key, value, part);
             } catch (IllegalArgumentException e) {
-                Report.number(-11);
+                System.out.println(-11);
             } catch (NoSuchElementException e) {
-                Report.number(-12);
+                System.out.println(-12);
             }
             if (step % 5 == 0) {
                 tell(map);
@@ -103,8 +103,8 @@ public class TreeMaps {
             case 6:
             case 7: tell(map.remove(key)); break;
             case 8: tell(map.get(key)); break;
-            case 9: Report.truth(map.containsKey(key)); break;
-            case 10: Report.truth(map.containsValue(value)); break;
+            case 9: System.out.println(map.containsKey(key)); break;
+            case 10: System.out.println(map.containsValue(value)); break;
             case 11: tell(map.firstKey()); break;
             case 12: tell(map.lastKey()); break;
             case 13: tell(map.firstEntry()); break;
@@ -147,21 +147,21 @@ public class TreeMaps {
                 }
                 break;
             case 34:
-                Report.number(((Map<Integer, Integer>) map).hashCode());
-                Report.truth(((Map<Integer, Integer>) map).equals(new HashMap<Integer, Integer>(map)));
-                Report.truth(map.isEmpty());
+                System.out.println(((Map<Integer, Integer>) map).hashCode());
+                System.out.println(((Map<Integer, Integer>) map).equals(new HashMap<Integer, Integer>(map)));
+                System.out.println(map.isEmpty());
                 break;
             case 35:
                 tell(map.putIfAbsent(key, value));
                 break;
             case 36:
                 Set<Integer> keys = map.keySet();
-                Report.truth(keys.remove(key));
-                Report.truth(keys.contains(key));
-                Report.truth(map.entrySet().contains(new AbstractMap.SimpleEntry<Integer, Integer>(key, value)));
-                Report.truth(map.entrySet().remove(new AbstractMap.SimpleEntry<Integer, Integer>(key + 1, value)));
-                Report.truth(map.values().contains(value));
-                Report.truth(map.values().remove(value));
+                System.out.println(keys.remove(key));
+                System.out.println(keys.contains(key));
+                System.out.println(map.entrySet().contains(new AbstractMap.SimpleEntry<Integer, Integer>(key, value)));
+                System.out.println(map.entrySet().remove(new AbstractMap.SimpleEntry<Integer, Integer>(key + 1, value)));
+                System.out.println(map.values().contains(value));
+                System.out.println(map.values().remove(value));
                 break;
             default:
                 if (choose(5) == 0 && part == 1) {
@@ -185,23 +185,23 @@ public class TreeMaps {
         down.putAll(tree.headMap(50));
         tell(new TreeMap<Integer, Integer>(down));
         tell(new TreeMap<Integer, Integer>((Map<Integer, Integer>) down));
-        Report.truth(down.comparator() == Collections.<Integer>reverseOrder());
-        Report.truth(tree.comparator() == null);
-        Report.truth(tree.descendingMap().comparator() == Collections.<Integer>reverseOrder());
-        Report.truth(tree.headMap(3).comparator() == null);
+        System.out.println(down.comparator() == Collections.<Integer>reverseOrder());
+        System.out.println(tree.comparator() == null);
+        System.out.println(tree.descendingMap().comparator() == Collections.<Integer>reverseOrder());
+        System.out.println(tree.headMap(3).comparator() == null);
         computed(new TreeMap<Integer, Integer>());
         computed(new TreeMap<Integer, Integer>(BY_DIGIT).descendingMap());
         Object copy = tree.clone();
-        Report.truth(((TreeMap<?, ?>) copy).equals(tree));
-        Report.number(tree.get(Integer.valueOf(3)) == null ? -1 : 1);
-        Report.truth(tree.navigableKeySet().first() == tree.firstKey());
+        System.out.println(((TreeMap<?, ?>) copy).equals(tree));
+        System.out.println(tree.get(Integer.valueOf(3)) == null ? -1 : 1);
+        System.out.println(tree.navigableKeySet().first() == tree.firstKey());
         tell(tree.subMap(100, 130).keySet());
         tell(tree.subMap(100, true, 130, true).descendingKeySet());
-        Report.truth(tree.subMap(100, 100).isEmpty());
+        System.out.println(tree.subMap(100, 100).isEmpty());
         tell(tree.subMap(100, 200).get(150));
         tell(tree.subMap(100, 200).get(250));
         tell(tree.subMap(100, 200).remove(250));
-        Report.truth(tree.subMap(100, 200).containsKey(250));
+        System.out.println(tree.subMap(100, 200).containsKey(250));
     }
 
     static void computed(Map<Integer, Integer> map) {
@@ -224,7 +224,7 @@ public class TreeMaps {
                 case 3: tell(map.merge(key, 2, sum)); break;
                 case 4: tell(map.getOrDefault(key, -4)); break;
                 case 5: tell(map.replace(key, i)); break;
-                default: Report.truth(map.replace(key, 3, i) | map.remove(key, 1));
+                default: System.out.println(map.replace(key, 3, i) | map.remove(key, 1));
             }
             tell(map);
         }
@@ -238,21 +238,21 @@ public class TreeMaps {
             }
             try {
                 fault(map, which);
-                Report.number(0);
+                System.out.println(0);
             } catch (NullPointerException e) {
-                Report.number(1);
+                System.out.println(1);
             } catch (IllegalArgumentException e) {
-                Report.number(2);
+                System.out.println(2);
             } catch (NoSuchElementException e) {
-                Report.number(3);
+                System.out.println(3);
             } catch (ConcurrentModificationException e) {
-                Report.number(4);
+                System.out.println(4);
             } catch (ClassCastException e) {
-                Report.number(5);
+                System.out.println(5);
             } catch (IllegalStateException e) {
-                Report.number(6);
+                System.out.println(6);
             } catch (UnsupportedOperationException e) {
-                Report.number(7);
+                System.out.println(7);
             }
         }
     }
@@ -295,9 +295,9 @@ public class TreeMaps {
                 case 2:
                 case 3:
                 case 4:
-                case 5: Report.truth(set.add(value)); break;
-                case 6: Report.truth(set.remove(value)); break;
-                case 7: Report.truth(set.contains(value)); break;
+                case 5: System.out.println(set.add(value)); break;
+                case 6: System.out.println(set.remove(value)); break;
+                case 7: System.out.println(set.contains(value)); break;
                 case 8: tell(set.lower(value)); break;
                 case 9: tell(set.floor(value)); break;
                 case 10: tell(set.ceiling(value)); break;
@@ -321,15 +321,15 @@ public class TreeMaps {
                         tell(set.first());
                         tell(set.last());
                     } catch (NoSuchElementException e) {
-                        Report.number(-12);
+                        System.out.println(-12);
                     }
                     break;
-                case 23: Report.truth(set.addAll(Arrays.asList(value, 3, 4))); break;
-                case 24: Report.truth(set.removeAll(Arrays.asList(value, 3))); break;
+                case 23: System.out.println(set.addAll(Arrays.asList(value, 3, 4))); break;
+                case 24: System.out.println(set.removeAll(Arrays.asList(value, 3))); break;
                 case 25:
-                    Report.number(((Set<Integer>) set).hashCode());
-                    Report.truth(((Set<Integer>) set).equals(new TreeSet<Integer>((Collection<Integer>) set)));
-                    Report.truth(set.isEmpty());
+                    System.out.println(((Set<Integer>) set).hashCode());
+                    System.out.println(((Set<Integer>) set).equals(new TreeSet<Integer>((Collection<Integer>) set)));
+                    System.out.println(set.isEmpty());
                     break;
                 case 26:
                     for (Iterator<Integer> all = set.iterator(); all.hasNext(); ) {
@@ -351,8 +351,8 @@ public class TreeMaps {
         down.addAll(set);
         tell(new TreeSet<Integer>(down));
         tell(new TreeSet<Integer>((Collection<Integer>) down));
-        Report.truth(new TreeSet<Integer>(down).comparator() == Collections.<Integer>reverseOrder());
-        Report.truth(((TreeSet<?>) ((TreeSet<Integer>) set).clone()).equals(set));
+        System.out.println(new TreeSet<Integer>(down).comparator() == Collections.<Integer>reverseOrder());
+        System.out.println(((TreeSet<?>) ((TreeSet<Integer>) set).clone()).equals(set));
         tell(new TreeSet<Integer>(BY_DIGIT));
     }
 }

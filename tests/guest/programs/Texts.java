@@ -27,19 +27,19 @@ public class Texts {
         for (int i = 0; i < NUMBERS.length; i++) {
             for (int which = 0; which < 24; which++) {
                 try {
-                    Report.number(read(NUMBERS[i], which));
+                    System.out.println(read(NUMBERS[i], which));
                 } catch (NumberFormatException e) {
-                    Report.number(-77);
+                    System.out.println(-77);
                 }
             }
         }
         for (int which = 0; which < 17; which++) {
             try {
-                Report.number(read(null, which));
+                System.out.println(read(null, which));
             } catch (NumberFormatException e) {
-                Report.number(-78);
+                System.out.println(-78);
             } catch (NullPointerException e) {
-                Report.number(-79);
+                System.out.println(-79);
             }
         }
         truths();
@@ -48,27 +48,27 @@ public class Texts {
     }
 
     static void printed(long a) {
-        Report.text(Long.toString(a));
-        Report.text(Long.valueOf(a).toString());
-        Report.text(Long.toHexString(a));
-        Report.text(Long.toOctalString(a));
-        Report.text(Long.toBinaryString(a));
-        Report.text(Integer.toString((int) a));
-        Report.text(Integer.valueOf((int) a).toString());
-        Report.text(Integer.toHexString((int) a));
-        Report.text(Integer.toOctalString((int) a));
-        Report.text(Integer.toBinaryString((int) a));
-        Report.text(Integer.toUnsignedString((int) a));
-        Report.text(Integer.toUnsignedString((int) a, 16));
-        Report.text(Short.toString((short) a));
-        Report.text(Short.valueOf((short) a).toString());
-        Report.text(Byte.toString((byte) a));
-        Report.text(Byte.valueOf((byte) a).toString());
-        Report.text(Character.toString((char) a));
-        Report.text(Character.valueOf((char) a).toString());
+        System.out.println(Long.toString(a));
+        System.out.println(Long.valueOf(a).toString());
+        System.out.println(Long.toHexString(a));
+        System.out.println(Long.toOctalString(a));
+        System.out.println(Long.toBinaryString(a));
+        System.out.println(Integer.toString((int) a));
+        System.out.println(Integer.valueOf((int) a).toString());
+        System.out.println(Integer.toHexString((int) a));
+        System.out.println(Integer.toOctalString((int) a));
+        System.out.println(Integer.toBinaryString((int) a));
+        System.out.println(Integer.toUnsignedString((int) a));
+        System.out.println(Integer.toUnsignedString((int) a, 16));
+        System.out.println(Short.toString((short) a));
+        System.out.println(Short.valueOf((short) a).toString());
+        System.out.println(Byte.toString((byte) a));
+        System.out.println(Byte.valueOf((byte) a).toString());
+        System.out.println(Character.toString((char) a));
+        System.out.println(Character.valueOf((char) a).toString());
         for (int radix = 0; radix < 40; radix += 7) {
-            Report.text(Long.toString(a, radix));
-            Report.text(Integer.toString((int) a, radix));
+            System.out.println(Long.toString(a, radix));
+            System.out.println(Integer.toString((int) a, radix));
         }
     }
 
@@ -104,16 +104,16 @@ public class Texts {
     static void truths() {
         String[] texts = {"true", "TRUE", "tRuE", "false", "", "truex", "tru", null};
         for (int i = 0; i < texts.length; i++) {
-            Report.truth(Boolean.parseBoolean(texts[i]));
-            Report.truth(Boolean.valueOf(texts[i]).booleanValue());
-            Report.truth(new Boolean(texts[i]).booleanValue());
+            System.out.println(Boolean.parseBoolean(texts[i]));
+            System.out.println(Boolean.valueOf(texts[i]).booleanValue());
+            System.out.println(new Boolean(texts[i]).booleanValue());
         }
-        Report.text(Boolean.valueOf(true).toString());
+        System.out.println(Boolean.valueOf(true).toString());
     }
 
     static void collections() {
         ArrayList<Object> list = new ArrayList<Object>();
-        Report.text(list.toString());
+        System.out.println(list.toString());
         list.add(Integer.valueOf(1));
         list.add("two");
         list.add(null);
@@ -122,35 +122,35 @@ public class Texts {
         list.add(Byte.valueOf((byte) 6));
         list.add(Boolean.valueOf(true));
         list.add(Character.valueOf('c'));
-        Report.text(list.toString());
-        Report.text(Objects.toString(list));
-        Report.text(Objects.toString(null));
+        System.out.println(list.toString());
+        System.out.println(Objects.toString(list));
+        System.out.println(Objects.toString(null));
         Map<Object, Object> map = new LinkedHashMap<Object, Object>();
         map.put("key", list);
         map.put(Integer.valueOf(2), map);
-        Report.text(((LinkedHashMap<?, ?>) map).toString());
+        System.out.println(((LinkedHashMap<?, ?>) map).toString());
         list.add(new AbstractMap.SimpleEntry<Object, Object>("a", "b"));
         list.add(new HashMap<Object, Object>());
         list.add(new ArrayDeque<Object>());
         list.add(list);
-        Report.text(list.toString());
-        Report.text(new AbstractMap.SimpleImmutableEntry<Object, Object>("a", null).toString());
-        Report.text(Objects.toString(Collections.synchronizedList(list.subList(0, 3))));
-        Report.text(Objects.toString(Collections.synchronizedMap(new HashMap<Object, Object>())));
-        Report.text(Arrays.toString(new int[] {1, -2}));
-        Report.text(Arrays.toString(new long[] {1, -2}));
-        Report.text(Arrays.toString(new short[] {1, -2}));
-        Report.text(Arrays.toString(new byte[] {}));
-        Report.text(Arrays.toString(new char[] {'a', 'b'}));
-        Report.text(Arrays.toString(new boolean[] {true, false}));
-        Report.text(Arrays.toString(new Object[] {"x", null}));
-        Report.text(Arrays.toString((int[]) null));
-        Report.text(Arrays.toString((long[]) null));
-        Report.text(Arrays.toString((short[]) null));
-        Report.text(Arrays.toString((byte[]) null));
-        Report.text(Arrays.toString((char[]) null));
-        Report.text(Arrays.toString((boolean[]) null));
-        Report.text(Arrays.toString((Object[]) null));
+        System.out.println(list.toString());
+        System.out.println(new AbstractMap.SimpleImmutableEntry<Object, Object>("a", null).toString());
+        System.out.println(Objects.toString(Collections.synchronizedList(list.subList(0, 3))));
+        System.out.println(Objects.toString(Collections.synchronizedMap(new HashMap<Object, Object>())));
+        System.out.println(Arrays.toString(new int[] {1, -2}));
+        System.out.println(Arrays.toString(new long[] {1, -2}));
+        System.out.println(Arrays.toString(new short[] {1, -2}));
+        System.out.println(Arrays.toString(new byte[] {}));
+        System.out.println(Arrays.toString(new char[] {'a', 'b'}));
+        System.out.println(Arrays.toString(new boolean[] {true, false}));
+        System.out.println(Arrays.toString(new Object[] {"x", null}));
+        System.out.println(Arrays.toString((int[]) null));
+        System.out.println(Arrays.toString((long[]) null));
+        System.out.println(Arrays.toString((short[]) null));
+        System.out.println(Arrays.toString((byte[]) null));
+        System.out.println(Arrays.toString((char[]) null));
+        System.out.println(Arrays.toString((boolean[]) null));
+        System.out.println(Arrays.toString((Object[]) null));
     }
 
     static String word(int i) {
@@ -167,16 +167,16 @@ public class Texts {
             sorted.put(word(i * i), Integer.valueOf(i));
             list.add(word(i * i));
         }
-        Report.text(((HashMap<?, ?>) hashed).toString());
-        Report.text(sorted.toString());
-        Report.text(new TreeSet<String>(list).toString());
-        Report.number(list.indexOf(word(9)));
-        Report.number(hashed.get(word(9)).intValue() + 100 * sorted.get(word(9)).intValue());
-        Report.number(Objects.hash(word(3), "a"));
+        System.out.println(((HashMap<?, ?>) hashed).toString());
+        System.out.println(sorted.toString());
+        System.out.println(new TreeSet<String>(list).toString());
+        System.out.println(list.indexOf(word(9)));
+        System.out.println(hashed.get(word(9)).intValue() + 100 * sorted.get(word(9)).intValue());
+        System.out.println(Objects.hash(word(3), "a"));
         Collections.sort(list);
-        Report.text(((ArrayList<?>) list).toString());
-        Report.number(Collections.binarySearch(list, word(4)) < 0 ? -1 : 1);
-        Report.number(Collections.frequency(list, word(4)));
-        Report.text(Collections.max(list));
+        System.out.println(((ArrayList<?>) list).toString());
+        System.out.println(Collections.binarySearch(list, word(4)) < 0 ? -1 : 1);
+        System.out.println(Collections.frequency(list, word(4)));
+        System.out.println(Collections.max(list));
     }
 }
