@@ -1,56 +1,43 @@
 //! What each word that changes a state keeps. Each law is a function with an empty body: what it promises is its contract.
 
-ghost use Rattle.std.specs.Prelude.{◌≡◌, unwrap_or, ℤ, ◌+◌, Bool, find, ◌<◌, ◌≤◌, ◌^◌, ℕ, true, List, [], ◌∷◌, ◌++◌, Contains, Option, Some, None, Ok, length, slice_index_or};
+ghost use Rattle.std.specs.Prelude.{◌≡◌, unwrap_or, ℤ, ◌+◌, Bool, find, ◌<◌, ◌≤◌, ◌^◌, ℕ, true, List, ◌∷◌, Some, Ok, length, slice_index_or};
 ghost use Rattle.et_base.specs.declared.value.Value.{Value};
 ghost use Rattle.et_base.specs.declared.value.Value.TheVariants as values;
 ghost use Rattle.et_code.specs.declared.body.TableRow.{TableRow};
 ghost use Rattle.et_code.specs.Kept.{IsKeptCode};
 ghost use Rattle.et_code.specs.Bodies.{Body};
-ghost use Rattle.et_code.specs.Decoding.{instruction_at};
-ghost use Rattle.et_code.specs.declared.instr.Instr.{Instr};
-ghost use Rattle.et_event.specs.Answered.{EventAnswers};
-ghost use Rattle.et_event.specs.BuiltIns.{with_first_taken, with_queue_of, with_referent_of, with_thread_for};
+ghost use Rattle.et_event.specs.BuiltIns.{with_thread_for};
 ghost use Rattle.et_event.specs.Calls.{frame_returned};
-ghost use Rattle.et_event.specs.Frames.{receiver_of, method_frame, frame_entered, frames_after_return};
+ghost use Rattle.et_event.specs.Frames.{method_frame, frames_after_return};
 ghost use Rattle.et_event.specs.declared.errors.GuestError.TheVariants as errors;
 ghost use Rattle.et_event.specs.declared.rows.MonitorRow.{MonitorRow};
 ghost use Rattle.et_event.specs.Errors.{error_class};
 ghost use Rattle.et_event.specs.Heap.{get_field, put_field, load_element, store_element, array_length, check_cast, instance_of, new_array_of, get_static, put_static, new_instance, new_array, new_reference_array};
-ghost use Rattle.et_event.specs.Initialization.{state_of, initializer_frame, with_state, begins_class, initialized, initialization_step};
+ghost use Rattle.et_event.specs.Initialization.{state_of, with_state, begins_class, initialized, initialization_step};
 ghost use Rattle.et_event.specs.declared.rows.Elements.{Elements};
-ghost use Rattle.et_event.specs.PoolOperands.Operand.{Operand};
-ghost use Rattle.et_event.specs.Checks.{entries_of};
-ghost use Rattle.et_event.specs.Kinds.{or_zero, narrowed, kind_of_elements, are_elements, kept_element};
 ghost use Rattle.et_event.specs.Operands.{operand_kind, returned_width};
-ghost use Rattle.et_event.specs.declared.errors.GuestError.{GuestError};
-ghost use Rattle.et_event.specs.Moments.{Moment, Doing, current_frame, thread_of, begins, fits_heap, later, instance_made, array_made, slot_written, static_written, ends_event, goes, waits, throws};
-ghost use Rattle.et_event.specs.Monitors.{Lock, monitor_of, entered, left, lock_for};
+ghost use Rattle.et_event.specs.Moments.{Moment, Doing, current_frame, begins, fits_heap, later, instance_made, array_made, static_written, ends_event, goes};
+ghost use Rattle.et_event.specs.Monitors.{Lock, monitor_of, entered, left};
 ghost use Rattle.et_event.specs.Sites.{Site, running_method, code_of_frame, class_operand, natural_of};
-ghost use Rattle.et_event.specs.Sound.{is_of_kind, IsPc, IsCaller, IsVoid, returned_of, AreSoundFrames, HasThreadObject, IsSoundObject, IsSoundMonitor, IsSoundClassState, IsSoundFor};
+ghost use Rattle.et_event.specs.Sound.{is_of_kind, IsPc, IsCaller, returned_of, AreSoundFrames, HasThreadObject, IsSoundObject, IsSoundMonitor, IsSoundClassState, IsSoundFor};
 ghost use Rattle.et_event.specs.Strings.{interned};
 ghost use Rattle.et_event.specs.Sync.{monitor_event, end_of_thread};
 ghost use Rattle.et_event.specs.Throw.{throw, caught, unwound, unwound_clinit, failed, dropped};
 ghost use Rattle.et_state.specs.declared.stage.Stage.TheVariants as stages;
-ghost use Rattle.et_state.specs.declared.stage.Turn.TheVariants as turns;
-ghost use Rattle.et_parts.specs.declared.places.Place.{Place};
-ghost use Rattle.et_parts.specs.Places.{IsPlace, site_at};
-ghost use Rattle.et_state.specs.Threads.{turn_of, FrameState, ThreadState, most_frames, most_threads, rest_of, in_clinit, with_pending, as_entered, as_ended};
-ghost use Rattle.et_heap.specs.Objects.{ObjectState, IsHeld, object_at, with_object_at, free_monitor, new_object};
+ghost use Rattle.et_state.specs.Threads.{FrameState, ThreadState, most_threads, rest_of};
+ghost use Rattle.et_heap.specs.Objects.{ObjectState, IsHeld, object_at, with_object_at, new_object};
 ghost use Rattle.et_state.specs.declared.class_state.ClassState.{ClassState};
 ghost use Rattle.et_state.specs.declared.class_state.ClassState.TheVariants as classes;
 ghost use Rattle.et_state.specs.Sound.{IsSound};
-ghost use Rattle.et_state.specs.State.{Kept, MachineState, kept_of};
-ghost use Rattle.et_state.specs.Words.{thread_at, with_thread, top, with_top, HasFrame, class_state_at, with_string};
-ghost use Rattle.et_program.specs.Entries.{Linked, class_at, method_at, field_at};
+ghost use Rattle.et_state.specs.State.{Kept};
+ghost use Rattle.et_state.specs.Words.{with_thread, top, with_top, HasFrame, class_state_at, with_string};
+ghost use Rattle.et_program.specs.Entries.{Linked, class_at, field_at};
 ghost use Rattle.et_program.specs.Members.{base_array};
 ghost use Rattle.et_program.specs.Resolution.{resolve_class};
-ghost use Rattle.et_state.specs.declared.records.Record.{Record};
-ghost use Rattle.et_state.specs.declared.ends.EventEnd.{EventEnd};
 ghost use Rattle.et_state.specs.Outcome.{Outcome};
 ghost use Rattle.et_sound.specs.Outcomes.{KeepsSound};
-ghost use Rattle.et_class.specs.Descriptors.{width_of};
-ghost use Rattle.et_event.specs.Programs.{MakesSound, HasInstanceField, HasSlots, HasInitializers, IsArrayClass, MayHold};
-ghost use Rattle.et_sound.specs.WellFormed.{IsWellFormed, IsUnderWayAt, IsFurther, MayBeThread, IsThere, KeepsFrame, MayTake, MayEnter, StandsAt};
+ghost use Rattle.et_event.specs.Programs.{MakesSound, HasSlots, HasInitializers, IsArrayClass, MayHold};
+ghost use Rattle.et_sound.specs.WellFormed.{IsWellFormed, IsUnderWayAt, IsFurther, MayBeThread, IsThere, KeepsFrame, MayTake, StandsAt};
 
 /// A sound state is well formed.
 pub fn sound_states_are_well_formed()
@@ -78,31 +65,6 @@ pub fn thread_becomes()
         IsWellFormed p (record { heap = s.heap; guest = with_thread s.guest t x }) }
 {}
 
-/// .. which has other frames.
-pub fn frames_may_change()
-    ensures { (p : Linked) (s : Kept) (t : ℕ) (frames : List FrameState) → IsWellFormed p s →
-        t < length s.guest.threads → AreSoundFrames p frames → length frames ≤ most_frames →
-        MayBeThread p s t (record (thread_at s.guest t) { frames = frames }) }
-{}
-
-/// .. whose exception becomes pending, or is caught (JVMS 2.10).
-pub fn exceptions_may_pend()
-    ensures { (p : Linked) (s : Kept) (t : ℕ) (pending : Option ℕ) → IsWellFormed p s → t
-        < length s.guest.threads → MayBeThread p s t (with_pending pending (thread_at s.guest t)) }
-{}
-
-/// .. which is entered.
-pub fn threads_may_be_entered()
-    ensures { (p : Linked) (s : Kept) (t : ℕ) → IsWellFormed p s →
-        t < length s.guest.threads → MayBeThread p s t (as_entered (thread_at s.guest t)) }
-{}
-
-/// .. which ends.
-pub fn threads_may_end()
-    ensures { (p : Linked) (s : Kept) (t : ℕ) → IsWellFormed p s →
-        t < length s.guest.threads → MayBeThread p s t (as_ended (thread_at s.guest t)) }
-{}
-
 // OBJECTS
 
 /// An object becomes another one of its class.
@@ -111,60 +73,6 @@ pub fn object_becomes()
         IsWellFormed p s → IsHeld s.heap o → IsSoundObject p x →
         IsSoundMonitor s.guest x.monitor → x.class ≡ (object_at s.heap o).class →
         IsWellFormed p (record { heap = with_object_at s.heap o x; guest = s.guest }) }
-{}
-
-/// An object is made.
-pub fn object_is_made()
-    ensures { (p : Linked) (s : Kept) (x : ObjectState) →
-        IsWellFormed p s → IsSoundObject p x → x.monitor ≡ free_monitor →
-        IsWellFormed p (record { heap = s.heap ++ Some x ∷ []; guest = s.guest }) }
-{}
-
-/// A slot of an object is written (JVMS 2.4, 6.5 putfield), and all fits as before.
-pub fn slot_is_written()
-    ensures well { (p : Linked) (e : Moment) (o i : ℕ) (v : Value) (d : Doing) →
-        IsWellFormed p d.state → IsHeld d.state.heap o → MayHold p
-        (object_at d.state.heap o).class i v → IsWellFormed p (slot_written e o i v d).state }
-    ensures fits { (e : Moment) (o i : ℕ) (v : Value) (d : Doing) → IsHeld d.state.heap o →
-        fits_heap d.state.heap ≡ true → fits_heap (slot_written e o i v d).state.heap ≡ true }
-{}
-
-/// An object may hold a value of its type in the slot of a field (JVMS 2.4), also as the field keeps it, and an array of a
-/// kind may hold what an element keeps of a value of that kind.
-pub fn slots_may_be_written()
-    ensures field { (p : Linked) (c f : ℕ) (v : Value) → HasSlots p →
-        HasInstanceField p c f → is_of_kind (operand_kind (field_at p f).descriptor) v ≡ true →
-        MayHold p c (field_at p f).slot v }
-    ensures narrowed { (k : Option Operand) (descriptor : List ℕ) (v : Value) →
-        is_of_kind k v ≡ true → is_of_kind k (narrowed descriptor v) ≡ true }
-    ensures element { (p : Linked) (kind : Elements) (c i : ℕ) (v : Value) →
-        HasSlots p → are_elements kind (class_at p c).info.element ≡ true →
-        is_of_kind (Some (kind_of_elements kind)) v ≡ true → MayHold p c i (kept_element kind v) }
-{}
-
-/// What is read from a field takes no more entries than its type.
-pub fn reads_have_width()
-    ensures { (descriptor : List ℕ) (v : Value) → is_of_kind (operand_kind descriptor) v ≡ true →
-        length (entries_of (or_zero (operand_kind descriptor) v)) ≤ width_of descriptor }
-{}
-
-/// What an object refers to weakly is set.
-pub fn referent_is_set()
-    ensures { (p : Linked) (o : ℕ) (r : Option ℕ) (d : Doing) → IsWellFormed p d.state →
-        IsHeld d.state.heap o → IsWellFormed p (with_referent_of o r d).state }
-{}
-
-/// The queue of a reference is set.
-pub fn queue_is_set()
-    ensures { (p : Linked) (o : ℕ) (q : Option ℕ) (d : Doing) → IsWellFormed p d.state →
-        IsHeld d.state.heap o → IsWellFormed p (with_queue_of o q d).state }
-{}
-
-/// The first reference that waits in a queue is taken out of it.
-pub fn first_is_taken()
-    ensures { (p : Linked) (q : ℕ) (d : Doing) → IsWellFormed p d.state → IsHeld d.state.heap q →
-        ((r : ℕ) → Contains (object_at d.state.heap q).waiting r → IsHeld d.state.heap r) →
-        IsWellFormed p (with_first_taken q d).state }
 {}
 
 /// The monitor of an object or of a class is entered once (JVMS 2.11.10), and all fits as before. Before that nobody has
@@ -230,39 +138,12 @@ pub fn top_changes()
         KeepsFrame p f f' → AreSoundFrames p (f ∷ below) → AreSoundFrames p (f' ∷ below) }
 {}
 
-/// What stands behind an instruction of the code is a pc of it (JVMS 4.9.1).
-pub fn next_is_a_pc()
-    ensures { (b : Body) (pc : ℕ) (x : Instr × ℕ) →
-        IsPc b pc → instruction_at b.code pc ≡ Ok x → IsPc b x.1 }
-{}
-
 /// A method is entered: below its frame stands its caller, at its call (JVMS 2.6).
 pub fn callee_is_entered()
     ensures { (p : Linked) (m : ℕ) (body : Body) (arguments : List Value)
         (f : FrameState) (below : List FrameState) → MayTake p m body arguments →
         IsCaller p f (method_frame p m body arguments) → AreSoundFrames p (f ∷ below) →
         AreSoundFrames p (method_frame p m body arguments ∷ f ∷ below) }
-{}
-
-/// The first method of a thread is entered, which returns nothing.
-pub fn first_method_is_entered()
-    ensures { (p : Linked) (m : ℕ) (body : Body) (arguments : List Value) →
-        MayTake p m body arguments → IsVoid p (method_frame p m body arguments) →
-        AreSoundFrames p (method_frame p m body arguments ∷ []) }
-{}
-
-/// An initializer begins (JVMS 5.5).
-pub fn initializer_begins()
-    ensures { (p : Linked) (c : ℕ) (frames : List FrameState) → c < length p.classes →
-        AreSoundFrames p frames → AreSoundFrames p (initializer_frame c ∷ frames) }
-{}
-
-/// .. and enters its method, which takes and returns nothing (JVMS 2.9).
-pub fn initializer_is_entered()
-    ensures { (p : Linked) (c m : ℕ) (body : Body) (f : FrameState) (below : List FrameState) →
-        f.stage ≡ stages.Before c → m < length p.methods → (method_at p m).code ≡ Some body →
-        IsVoid p (in_clinit m body.max_stack body.max_locals f) → AreSoundFrames p (f ∷ below) →
-        AreSoundFrames p (in_clinit m body.max_stack body.max_locals f ∷ below) }
 {}
 
 /// A frame is dropped.
@@ -292,39 +173,6 @@ pub fn new_objects_keep_well_formed()
         IsWellFormed e.program (array_made e class elements d).state }
     ensures string { (e : Moment) (bytes : List ℕ) (d : Doing) → MakesSound e.program →
         IsWellFormed e.program d.state → IsWellFormed e.program (interned e bytes d).state }
-{}
-
-/// An event begins in a well-formed state.
-pub fn events_begin_well_formed()
-    ensures { (p : Linked) (e : Moment) →
-        IsSoundFor p e.before → e.before.guest.clock < 2 ^ 40 → IsWellFormed p (begins e).state }
-{}
-
-/// An event that ends in a well-formed state leaves a sound one: where it is done and what it made fits, or made nothing;
-/// where the thread waits; and where an exception is thrown.
-pub fn events_end_sound()
-    ensures fits { (p : Linked) (d : Doing) → IsWellFormed p d.state → KeepsSound p
-        (ends_event d) }
-    ensures goes { (p : Linked) (d : Doing) →
-        fits_heap d.state.heap ≡ true → IsWellFormed p d.state → KeepsSound p (goes d) }
-    ensures waits { (p : Linked) (e : Moment) →
-        IsSoundFor p e.before → e.before.guest.clock < 2 ^ 40 → KeepsSound p (waits e) }
-    ensures throws { (e : Moment) (error : GuestError) (d : Doing) →
-        MakesSound e.program → IsUnderWayAt e d → KeepsSound e.program (throws e error d) }
-{}
-
-/// What a call that does an event leaves is sound, where the outcome of the event is.
-pub fn answers_are_sound()
-    ensures { (p : Linked) (o : Outcome Kept) (end : EventEnd)
-        (m m' : MachineState) (out out' : List Record) → EventAnswers o end m m' out out' →
-        IsSoundFor p (kept_of m) → KeepsSound p o → IsSoundFor p (kept_of m') }
-{}
-
-/// A thread whose turn is an instruction stands at it, at the place that `et_parts` looks up.
-pub fn instructions_stand_at_places()
-    ensures { (e : Moment) (place : Place) → IsSoundFor e.program e.before →
-        e.before.guest.clock < 2 ^ 40 → turn_of (thread_of e) ≡ turns.Instruction →
-        IsPlace e.program (current_frame e) place → StandsAt e (site_at place) }
 {}
 
 // INSTRUCTIONS on fields and elements (JVMS 2.11.5)
@@ -444,16 +292,6 @@ pub fn class_rows_keep_sound()
 {}
 
 // CALLS (JVMS 2.6)
-
-/// The frame of a method is pushed, whose monitor is entered.
-pub fn entered_frames_keep_well_formed()
-    ensures { (e : Moment) (m : ℕ) (body : Body) (arguments : List Value) (d : Doing) →
-        IsUnderWayAt e d →
-        MayEnter d (lock_for (method_at e.program m) (receiver_of e.program m arguments)) →
-        length (thread_at d.state.guest e.thread).frames < most_frames → AreSoundFrames e.program
-        (method_frame e.program m body arguments ∷ (thread_at d.state.guest e.thread).frames) →
-        IsWellFormed e.program (frame_entered e m body arguments d).state }
-{}
 
 /// A frame returns what has the width of its type, and its monitor is left once; an initializer
 /// makes its class done.
