@@ -14,7 +14,6 @@ pub mod Initializing
 pub mod Classes
 pub mod Initializers
 pub mod Calls
-pub mod Standing
 pub mod Keeping
 pub mod Going
 mod Shapes

@@ -8,16 +8,12 @@ use Rattle.et_program.specs.declared.errors.LinkError.{LinkError}
 use Rattle.et_heap.specs.Objects.{new_object}
 use Rattle.et_state.specs.Threads.{ThreadState, with_pending, as_entered, has_frame, most_frames}
 use Rattle.et_state.specs.Interned.{object_of}
-use Rattle.et_state.specs.State.{Kept, MachineState, kept_of}
+use Rattle.et_state.specs.State.{Kept}
 use Rattle.et_state.specs.Words.{thread_at, with_string}
-use Rattle.et_state.specs.declared.records.Record.{Record}
-use Rattle.et_state.specs.declared.ends.EventEnd.{EventEnd}
-use Rattle.et_state.specs.declared.ends.EventEnd.TheVariants as ends_as
 use Rattle.et_state.specs.Outcome.{Outcome}
 use Rattle.et_state.specs.Outcome as outcome
 use Rattle.et_event.specs.declared.errors.GuestError.{GuestError}
 use Rattle.et_event.specs.declared.errors.GuestError.TheVariants.{NullPointerException, StackOverflowError}
-use Rattle.et_event.specs.Answered.{EventAnswers}
 use Rattle.et_event.specs.Checks.{Reference, ill_typed_unless, resolved, throws_unless, not_null, waits_unless, frame_fits}
 use Rattle.et_event.specs.Errors.{class_called, error_class, error_of}
 use Rattle.et_event.specs.Moments.{Moment, Doing, begins, doing_with_guest, with_thread_state, next_object, instance_made, array_made, pending_now, entry_given_up, fits_heap, ends_event, goes, waits, throws, later}
@@ -117,27 +113,3 @@ pub where_frame_fits : (e : Moment) (d : Doing) (go : Outcome Kept) → MakesSou
 where_frame_fits e d go makes g h =
     let n : ℕ = length (thread_at d.state.guest e.thread).frames in
     unless_thrown e d StackOverflowError (ltb n most_frames) go makes g (λ few. h (ltb-true n most_frames few))
-
--- WHAT IS ANSWERED
-
-pub answers_sound : (p : Linked) (o : Outcome Kept) (end : EventEnd) (m m' : MachineState) (out out' : List Record) → EventAnswers o end m m' out out' → IsSoundFor p (kept_of m) → KeepsSound p o → IsSoundFor p (kept_of m')
-answers_sound p (outcome.Goes next records) ends_as.Done m m' out out' h sound keeps = subst (λ (x : Kept). IsSoundFor p x) (sym h.0.kept) (keeps h.0.event.sound)
-answers_sound p (outcome.Goes next records) ends_as.Waited m m' out out' h sound keeps = absurd h
-answers_sound p (outcome.Goes next records) (ends_as.IllTyped named at) m m' out out' h sound keeps = absurd h
-answers_sound p (outcome.Goes next records) ends_as.ObjectLimit m m' out out' h sound keeps = absurd h
-answers_sound p (outcome.Goes next records) (ends_as.Native named) m m' out out' h sound keeps = absurd h
-answers_sound p (outcome.Waits next) ends_as.Done m m' out out' h sound keeps = absurd h
-answers_sound p (outcome.Waits next) ends_as.Waited m m' out out' h sound keeps = subst (λ (x : Kept). IsSoundFor p x) (sym h.0.kept) (keeps h.0.event.sound)
-answers_sound p (outcome.Waits next) (ends_as.IllTyped named at) m m' out out' h sound keeps = absurd h
-answers_sound p (outcome.Waits next) ends_as.ObjectLimit m m' out out' h sound keeps = absurd h
-answers_sound p (outcome.Waits next) (ends_as.Native named) m m' out out' h sound keeps = absurd h
-answers_sound p (outcome.IllTyped method pc) ends_as.Done m m' out out' h sound keeps = absurd h
-answers_sound p (outcome.IllTyped method pc) ends_as.Waited m m' out out' h sound keeps = absurd h
-answers_sound p (outcome.IllTyped method pc) (ends_as.IllTyped named at) m m' out out' h sound keeps = subst (λ (x : MachineState). IsSoundFor p (kept_of x)) (sym h.2) sound
-answers_sound p (outcome.IllTyped method pc) ends_as.ObjectLimit m m' out out' h sound keeps = absurd h
-answers_sound p (outcome.IllTyped method pc) (ends_as.Native named) m m' out out' h sound keeps = absurd h
-answers_sound p outcome.ObjectLimit ends_as.Done m m' out out' h sound keeps = absurd h
-answers_sound p outcome.ObjectLimit ends_as.Waited m m' out out' h sound keeps = absurd h
-answers_sound p outcome.ObjectLimit (ends_as.IllTyped named at) m m' out out' h sound keeps = absurd h
-answers_sound p outcome.ObjectLimit ends_as.ObjectLimit m m' out out' h sound keeps = subst (λ (x : MachineState). IsSoundFor p (kept_of x)) (sym h.0) sound
-answers_sound p outcome.ObjectLimit (ends_as.Native named) m m' out out' h sound keeps = absurd h

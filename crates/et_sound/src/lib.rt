@@ -2,5 +2,4 @@
 //! states, and so does an event, which is made of such words.
 #![tactic(auto)]
 
-pub mod event_laws;
 pub mod laws;

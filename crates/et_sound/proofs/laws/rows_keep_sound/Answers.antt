@@ -1,5 +1,5 @@
 use Rattle.et_sound.proofs.Instructions.{row_sound as proof}
-use Rattle.et_sound.proofs.event_laws.rows_keep_sound.Goals as goal
+use Rattle.et_sound.proofs.laws.rows_keep_sound.Goals as goal
 
 pub returns : goal.returns
 returns c = proof

@@ -1,5 +1,5 @@
 use Rattle.et_sound.proofs.Resolving.{resolved_method, selected_method, selected_special}
-use Rattle.et_sound.proofs.event_laws.methods_keep_descriptors.Goals as goal
+use Rattle.et_sound.proofs.laws.methods_keep_descriptors.Goals as goal
 
 pub returns-clause-resolved : goal.returns-clause-resolved
 returns-clause-resolved c = resolved_method
