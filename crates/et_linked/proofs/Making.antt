@@ -1,16 +1,15 @@
 -- A new object of a built-in class that declares no field is sound.
-use Rattle.std.proofs.Common.{◌≡◌, ℕ, ◌+◌, ◌<◌, ◌≤◌, true, false, ◌==◌, ◌||◌, List, [], ◌∷◌, ◌++◌, length, Option, Some, refl, sym, ◌∙◌, ap, subst, inr, arith}
+use Rattle.std.proofs.Common.{◌≡◌, ℕ, ◌+◌, ◌<◌, ◌≤◌, true, false, ◌==◌, ◌||◌, List, [], ◌∷◌, ◌++◌, length, Option, Some, sym, ◌∙◌, ap, subst, inr, arith}
 use mathlib.Core.Logic.{⊎_elim}
 use Rattle.std.specs.Prelude.{All, codes, unwrap_or}
 use Rattle.std.specs.List.{slice_index_or, list_any}
-use Rattle.std.specs.Str.{bytes_eq}
 use Rattle.std.proofs.lemmas.Bool.{eqb-true, or_cases, both_ways}
 use Rattle.std.proofs.lemmas.List.{length-replicate}
 use Rattle.std.proofs.lemmas.List.Elements.{All-nil, All-cons, All-head, All-tail, All-append, All-map}
 use Rattle.et_base.specs.declared.value.Value.{Value}
 use Rattle.et_base.specs.declared.value.Value.TheVariants.{Unset}
 use Rattle.et_pool.specs.Entries.{Constants}
-use Rattle.et_hierarchy.specs.Outline.{Outline, no_outline}
+use Rattle.et_hierarchy.specs.Outline.{no_outline}
 use Rattle.et_hierarchy.specs.Links.{links}
 use Rattle.et_hierarchy.specs.Ancestry.{Ancestry, IsAncestry}
 use Rattle.et_program.specs.declared.info.FieldInfo.{FieldInfo}
@@ -19,7 +18,7 @@ use Rattle.et_program.specs.Entries.{ClassEntry, Linked, no_class, no_field, cla
 use Rattle.et_program.specs.Members.{is_subclass, is_above}
 use Rattle.et_program.specs.Loaded.{LoadedClass}
 use Rattle.et_program.specs.Files.{boots, set_of}
-use Rattle.et_program.specs.MembersOf.{numbered, fields_of, boot_fields, file_fields, file_field}
+use Rattle.et_program.specs.MembersOf.{numbered, fields_of, file_fields, file_field}
 use Rattle.et_program.proofs.DeclaredFields.{all_fields}
 use Rattle.et_program.specs.Slots.{placed, placed_behind, slots_above}
 use Rattle.et_program.specs.Classes.{Heads, set_class, array_class}

@@ -3,12 +3,11 @@ use Rattle.std.proofs.Common.{◌≡◌, ℕ, zero, suc, ◌+◌, ◌<◌, Bool,
 use Rattle.std.specs.Prelude.{All, nat_lt}
 use Rattle.std.specs.List.{slice_index_or, list_any, list_all, flat_map, filter_map, cons_option}
 use Rattle.std.specs.Option.{option_map_or, option_and_then}
-use Rattle.std.specs.Str.{bytes_eq}
 use Rattle.std.proofs.lemmas.Bool.{and_parts, ltb-true, false≢true}
 use Rattle.std.proofs.lemmas.List.{length-map}
 use Rattle.std.proofs.lemmas.List.Elements.{All-nil, All-cons, All-head, All-tail, All-append, All-push}
 use Rattle.et_boot.specs.Classes.{BootClassOf, no_boot_class}
-use Rattle.et_hierarchy.specs.Outline.{Outline, class_place, no_outline}
+use Rattle.et_hierarchy.specs.Outline.{class_place, no_outline}
 use Rattle.et_hierarchy.specs.Links.{LinkEntry, links, links_of, no_links}
 use Rattle.et_hierarchy.specs.Ancestry.{Ancestry, ancestry_at, ancestry_of, class_added, added_all, supers_over, superinterfaces_over, IsAncestry}
 use Rattle.et_program.specs.Loaded.{LoadedClass}

@@ -27,7 +27,7 @@ use Rattle.et_program.specs.Heads.{is_initializer, initializer_of, has_constant,
 use Rattle.et_program.specs.Loaded.{LoadedClass}
 use Rattle.et_program.specs.LinkFaults.{IsLinkable}
 use Rattle.et_program.proofs.DeclaredFields.{all_fields}
-use Rattle.et_program.specs.MembersOf.{numbered, methods_of, fields_of, boot_field, boot_fields, file_field, file_fields, is_boot_static, AreBootPools, HasPools, file_pool}
+use Rattle.et_program.specs.MembersOf.{methods_of, fields_of, boot_field, boot_fields, file_field, file_fields, is_boot_static, AreBootPools, HasPools, file_pool}
 use Rattle.et_program.specs.ProgramOf.{class_names_of, heads_of, program_with, IsProgramOf}
 use Rattle.et_program.specs.Slots.{is_static_field, is_instance_of, slots_above, slot_of_field}
 use Rattle.et_event.specs.Errors.{class_called}

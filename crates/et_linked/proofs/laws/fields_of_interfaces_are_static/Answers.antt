@@ -1,7 +1,0 @@
-use Rattle.std.proofs.lemmas.List.Elements.{All-weaker}
-use Rattle.et_linked.specs.Fields.{HasStaticFields, KeepsFieldRules}
-use Rattle.et_linked.proofs.Static.{fields_static as proof}
-use Rattle.et_linked.proofs.laws.fields_of_interfaces_are_static.Goals as goal
-
-pub returns : goal.returns
-returns c = λ files p rules linkable is. proof files p (All-weaker KeepsFieldRules HasStaticFields (λ x h. h.interface) files rules) linkable is
