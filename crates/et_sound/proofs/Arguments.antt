@@ -1,9 +1,9 @@
 -- The arguments of a call: how many they are, and the receiver among them.
-use Rattle.std.proofs.Common.{◌≡◌, ℕ, zero, suc, ◌-◌, ◌≤◌, Bool, true, false, List, [], ◌∷◌, ◌++◌, length, take, drop, reverse, Option, Some, None, refl, ap, subst, arith, Contains, inl, inr, append-nil}
+use Rattle.std.proofs.Common.{◌≡◌, ℕ, zero, suc, ◌-◌, ◌≤◌, Bool, true, false, List, [], ◌∷◌, length, take, drop, reverse, Option, Some, None, refl, ap, subst, arith, Contains, inl, inr}
 use Rattle.std.specs.Prelude.{if◌then◌else◌, option_map}
-use Rattle.std.proofs.lemmas.List.{length-reverse, length-drop, reverse-append}
-use Rattle.std.proofs.lemmas.Grind.{flat_map-append}
+use Rattle.std.proofs.lemmas.List.{length-reverse, length-drop}
 use Rattle.std.proofs.lemmas.List.Elements.{Contains-append_left, Contains-append_right, Contains-append_cases}
+use Rattle.std.proofs.lemmas.Option.{same_Some, none-some}
 use Rattle.et_base.specs.declared.value.Value.{Value}
 use Rattle.et_base.specs.declared.value.Value.TheVariants.{Unset, Int, Long, LongHigh, Null, Ref}
 use Rattle.et_class.specs.Names.{has}
@@ -14,6 +14,7 @@ use Rattle.et_program.specs.Entries.{Linked, method_at, is_static}
 use Rattle.et_program.specs.declared.info.MethodInfo.{MethodInfo}
 use Rattle.et_event.specs.Frames.{first_reference, receiver_of}
 use Rattle.et_event.specs.Monitors.{Lock, OfObject, OfClass, lock_for}
+use Rattle.et_state.proofs.Places.{refs_reversed}
 
 -- HOW MANY
 
@@ -49,32 +50,14 @@ refs_taken (x ∷ xs) (suc n) o c = elim (Contains-append_cases (refs_of_value x
   | inr d ↦ Contains-append_right (refs_of_value x) (refs_of xs) o (refs_taken xs n o d)
 ]
 
-refs_append : (xs ys : List Value) → refs_of (xs ++ ys) ≡ refs_of xs ++ refs_of ys
-refs_append xs ys = flat_map-append refs_of_value xs ys
-
-refs_reversed : (xs : List Value) (o : ℕ) → Contains (refs_of (reverse xs)) o → Contains (refs_of xs) o
-refs_reversed [] o c = c
-refs_reversed (x ∷ xs) o c =
-    let c' : Contains (refs_of (reverse xs ++ x ∷ [])) o = subst (λ (vs : List Value). Contains (refs_of vs) o) (reverse-append (x ∷ []) xs) c in
-    elim (Contains-append_cases (refs_of (reverse xs)) (refs_of (x ∷ [])) o (subst (λ (os : List ℕ). Contains os o) (refs_append (reverse xs) (x ∷ [])) c')) [
-      | inl d ↦ Contains-append_right (refs_of_value x) (refs_of xs) o (refs_reversed xs o d)
-      | inr d ↦ Contains-append_left (refs_of_value x) (refs_of xs) o (subst (λ (os : List ℕ). Contains os o) (append-nil (refs_of_value x)) d)
-    ]
-
-none_some : (o : ℕ) → None ≡ Some o → ⊥
-none_some o e = cc
-
-some_same : (q o : ℕ) → Some q ≡ Some o → q ≡ o
-some_same q o e = cc
-
 first_contained : (vs : List Value) (o : ℕ) → first_reference vs ≡ Some o → Contains (refs_of vs) o
-first_contained [] o e = absurd (none_some o e)
-first_contained (Unset ∷ vs) o e = absurd (none_some o e)
-first_contained (Int n ∷ vs) o e = absurd (none_some o e)
-first_contained (Long n ∷ vs) o e = absurd (none_some o e)
-first_contained (LongHigh ∷ vs) o e = absurd (none_some o e)
-first_contained (Null ∷ vs) o e = absurd (none_some o e)
-first_contained (Ref q ∷ vs) o e = subst (λ (k : ℕ). Contains (refs_of (Ref q ∷ vs)) k) (some_same q o e) (Contains-here q (refs_of vs))
+first_contained [] o e = absurd (none-some o e)
+first_contained (Unset ∷ vs) o e = absurd (none-some o e)
+first_contained (Int n ∷ vs) o e = absurd (none-some o e)
+first_contained (Long n ∷ vs) o e = absurd (none-some o e)
+first_contained (LongHigh ∷ vs) o e = absurd (none-some o e)
+first_contained (Null ∷ vs) o e = absurd (none-some o e)
+first_contained (Ref q ∷ vs) o e = subst (λ (k : ℕ). Contains (refs_of (Ref q ∷ vs)) k) (same_Some q o e) (Contains-here q (refs_of vs))
 
 -- it is among the operands
 pub receiver_contained : (ops : List Value) (count o : ℕ) → first_reference (reverse (take count ops)) ≡ Some o → Contains (refs_of ops) o
@@ -101,7 +84,7 @@ locked true false m (Some q) o e = (refl, ap (λ (k : ℕ). Some k) (object_lock
 locked false static m r o e = absurd (no_lock o None refl e)
 
 first_of : (static : Bool) (r : Option ℕ) (o : ℕ) → (if static then None else r) ≡ Some o → r ≡ Some o
-first_of true r o e = absurd (none_some o e)
+first_of true r o e = absurd (none-some o e)
 first_of false r o e = e
 
 -- where it is that of an object, that one is the receiver, and the method isn't static

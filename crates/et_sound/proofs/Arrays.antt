@@ -3,7 +3,7 @@ use Rattle.std.proofs.Common.{◌≡◌, ℕ, zero, suc, ◌+◌, ◌-◌, ◌�
 use Rattle.std.specs.Prelude.{ℤ, pos, int_le, IsSome}
 use Rattle.std.specs.List.{list_all}
 use Rattle.std.proofs.lemmas.Bool.{cases_eq}
-use Rattle.std.proofs.lemmas.List.{get_or-set_other, get_or_append_left, get_or-append_right}
+use Rattle.std.proofs.lemmas.List.{get_or-set_other, get_or_append_left}
 use Rattle.et_base.specs.declared.value.Value.{Value}
 use Rattle.et_base.specs.declared.value.Value.TheVariants.{Ref}
 use Rattle.et_class.specs.Looks.{class_name_at}
@@ -39,6 +39,7 @@ use Rattle.et_sound.proofs.Values.{array_holds}
 use Rattle.et_sound.specs.Places.{IsAtRow}
 use Rattle.et_event.specs.Runnable.{IsRunnable}
 use Rattle.et_sound.proofs.Entering.{runs_here, StandsIn, stands_in}
+use Rattle.et_sound.proofs.Steps.{IsLast, last_one}
 
 -- MORE OBJECTS: those that were held are held, of the same classes
 
@@ -60,17 +61,6 @@ more_then p d x y a b = record {
 }
 
 -- an array is made
-
-record IsLast (heap : Objects) (y : ObjectState) : Type 0 where
-  held : IsHeld (heap ++ Some y ∷ []) (length heap)
-  class : (object_at (heap ++ Some y ∷ []) (length heap)).class ≡ y.class
-
-last_one : (heap : Objects) (y : ObjectState) → IsLast heap y
-last_one heap y =
-    let le : length heap ≤ length heap = omega arith in
-    let none : length heap - length heap ≡ 0 = omega arith in
-    let there : at (heap ++ Some y ∷ []) (length heap) ≡ Some y = get_or-append_right heap (Some y ∷ []) (length heap) (length heap) None refl le ∙ ap (λ (k : ℕ). at (Some y ∷ []) k) none in
-    record { held = subst (λ (x : Option ObjectState). is_there x) (sym there) tt; class = ap (λ (x : Option ObjectState). (found x).class) there }
 
 made_more : (e : Moment) (class n : ℕ) (d : Doing) → HasSlots e.program → IsArrayClass e.program class → IsWellFormed e.program d.state → IsMore e.program d (array_made e class n d)
 made_more e class n d slots array h =

@@ -6,6 +6,7 @@ use Rattle.std.specs.Str.{bytes_eq}
 use Rattle.std.proofs.lemmas.Bool.{true≢false}
 use Rattle.std.proofs.lemmas.List.{length-set}
 use Rattle.std.proofs.lemmas.List.Elements.{Contains-append_right}
+use Rattle.std.proofs.lemmas.Option.{same_Some}
 use Rattle.et_base.specs.declared.value.Value.{Value}
 use Rattle.et_base.specs.declared.value.Value.TheVariants.{Ref}
 use Rattle.et_class.specs.Descriptors.{MethodType, method_type, is_void, types_of, after_dimensions, after_name}
@@ -148,9 +149,6 @@ object_held e o is named =
     let there : Contains (ended_roots x) o = Contains-append_right (option_to_list x.pending) _ o (Contains-append_right (option_to_list x.entry) (option_to_list x.object) o here) in
     is.sound.held.roots o (ended_root e.before.guest e.thread o is.unended.thread is.unended.unended there)
 
-same_object : (o q : ℕ) → Some o ≡ Some q → o ≡ q
-same_object o q e = cc
-
 run_sound : (e : Moment) (object : Option ℕ) → IsRunnable e.program → IsEntry e → (thread_of e).object ≡ object → KeepsSound e.program (enters_run e object)
 run_sound e None may is named = tt
 run_sound e (Some o) may is named =
@@ -169,7 +167,7 @@ run_sound e (Some o) may is named =
     let lock : MayEnter x (lock_for (method_at p k) (receiver_of p k args)) = may_enter e x (lock_for (method_at p k) (receiver_of p k args)) is.sound on
     (λ q locked.
     let own_lock : IsLockOf p k args q = lock_of p k args q locked in
-    let there : IsHeld e.before.heap q = subst (λ (i : ℕ). IsHeld e.before.heap i) (same_object o q own_lock.receiver) held in
+    let there : IsHeld e.before.heap q = subst (λ (i : ℕ). IsHeld e.before.heap i) (same_Some o q own_lock.receiver) held in
     (there, object_count e q is.sound there)) in
     let few : length args ≤ 1 = omega arith in
     let named : is_initializing p k ≡ false = ap (λ (name : List ℕ). bytes_eq name (codes "<clinit>")) (selected.method.named ∙ method.named) in

@@ -6,6 +6,7 @@ use Rattle.std.specs.Str.{bytes_eq}
 use Rattle.std.proofs.lemmas.Bool.{and_parts, ltb-true, false≢true}
 use Rattle.std.proofs.lemmas.List.{length-append, length-set}
 use Rattle.std.proofs.lemmas.Slice.Eq.{bytes_eq-Decides}
+use Rattle.std.proofs.lemmas.Option.{same_Some}
 use Rattle.et_base.specs.declared.value.Value.{Value}
 use Rattle.et_base.specs.declared.value.Value.TheVariants.{Unset, Int, Long, LongHigh, Null, Ref}
 use Rattle.et_class.specs.Descriptors.{MethodType, method_type, types_of, after_dimensions, after_name}
@@ -93,9 +94,6 @@ target_typed : method_type target_type ≡ Some (record { parameters = codes "Lj
 unfolding types_of after_dimensions after_name
 target_typed = refl
 
-same_type : (a b : MethodType) → Some a ≡ Some b → a ≡ b
-same_type a b e = cc
-
 abbrev IsReference : Value → Type 0
 IsReference v = is_of_kind (Some operand.Reference) v ≡ true
 
@@ -120,7 +118,7 @@ second_reference (Ref o ∷ vs) e = behind_receiver vs e (Ref o)
 target_reference : (m : MethodInfo) (type : MethodType) (arguments : List Value) → method_type m.descriptor ≡ Some type → are_arguments false type arguments ≡ true → (b : BuiltIn) → built_in_of m ≡ Some b → b ≡ built_in.SetTarget → IsReference (argument arguments 1)
 target_reference m type arguments typed are b is target =
     let descriptor : m.descriptor ≡ target_type = targets m (is ∙ ap (λ (k : BuiltIn). Some k) target) in
-    let same : type ≡ record { parameters = codes "Ljava/lang/Runnable;" ∷ []; returned = codes "V" } = same_type type (record { parameters = codes "Ljava/lang/Runnable;" ∷ []; returned = codes "V" }) (sym typed ∙ (ap method_type descriptor ∙ target_typed)) in
+    let same : type ≡ record { parameters = codes "Ljava/lang/Runnable;" ∷ []; returned = codes "V" } = same_Some type (record { parameters = codes "Ljava/lang/Runnable;" ∷ []; returned = codes "V" }) (sym typed ∙ (ap method_type descriptor ∙ target_typed)) in
     second_reference arguments (subst (λ (t : MethodType). are_arguments false t arguments ≡ true) same are)
 
 -- THE SLOTS THAT THE MACHINE USES may hold any value

@@ -93,11 +93,11 @@ found_in p name descriptor c (Some f) h =
       descriptor = described (field_at p f) name descriptor c (subst (λ (k : ℕ). is_field name descriptor c (get_or p.fields k no_field) ≡ true) same h.passes);
     }
 
-either : (P : ℕ → Type 0) (a b : Option ℕ) → IfSome a P → IfSome b P → IfSome (option_or a b) P
+pub either : (P : ℕ → Type 0) (a b : Option ℕ) → IfSome a P → IfSome b P → IfSome (option_or a b) P
 either P None b h i = i
 either P (Some x) b h i = h
 
-first_found : (P : ℕ → Type 0) (member : ℕ → Option ℕ) → ((c : ℕ) → IfSome (member c) P) → (cs : List ℕ) → IfSome (first_in member cs) P
+pub first_found : (P : ℕ → Type 0) (member : ℕ → Option ℕ) → ((c : ℕ) → IfSome (member c) P) → (cs : List ℕ) → IfSome (first_in member cs) P
 first_found P member h [] = tt
 first_found P member h (c ∷ cs) = either P (member c) (first_in member cs) (h c) (first_found P member h cs)
 

@@ -3,6 +3,7 @@ use Rattle.std.proofs.Common.{◌≡◌, ℕ, zero, suc, ◌+◌, ◌-◌, ◌<�
 use Rattle.std.specs.Prelude.{codes}
 use Rattle.std.proofs.lemmas.Bool.{cases_eq, cases_lt}
 use Rattle.std.proofs.lemmas.List.{length-set, length-append, get_or-set_other, get_or_append_left, get_or-append_right}
+use Rattle.std.proofs.lemmas.Option.{same_Some}
 use Rattle.et_program.specs.Entries.{Linked}
 use Rattle.et_program.specs.Members.{is_subclass}
 use Rattle.et_heap.proofs.HeapLists.{held_within}
@@ -46,9 +47,6 @@ heap_well p s heap h longer same objects = record {
 
 -- AN OBJECT BECOMES y
 
-the_same : (x y : ObjectState) → Some x ≡ Some y → x ≡ y
-the_same x y e = cc
-
 abbrev IsSoundIn : Linked → Kept → ObjectState → Type 0
 IsSoundIn p s x = IsSoundObject p x × IsSoundMonitor s.guest x.monitor
 
@@ -64,7 +62,7 @@ each_so p s o y h lt sound k x is =
     elim (cases_eq k o) [
       | inl e ↦
           let at_o : at (with_object_at s.heap o y) o ≡ Some x = subst (λ (j : ℕ). at (with_object_at s.heap o y) j ≡ Some x) e is in
-          let same : y ≡ x = the_same y x (sym (get_or-set_same s.heap o (Some y) None lt) ∙ at_o) in
+          let same : y ≡ x = same_Some y x (sym (get_or-set_same s.heap o (Some y) None lt) ∙ at_o) in
           subst (λ (z : ObjectState). IsSoundIn p s z) same sound
       | inr ne ↦ h.objects k x (sym (get_or-set_other s.heap o k (Some y) None ne) ∙ is)
     ]
@@ -92,7 +90,7 @@ old_object : (heap : Objects) (y : Option ObjectState) (o : ℕ) → o < length 
 old_object heap y o lt = get_or_append_left heap (y ∷ []) None o lt
 
 new_one : (p : Linked) (s : Kept) (y x : ObjectState) (k : ℕ) → IsSoundIn p s y → at (Some y ∷ []) k ≡ Some x → IsSoundIn p s x
-new_one p s y x zero sound e = subst (λ (z : ObjectState). IsSoundIn p s z) (the_same y x e) sound
+new_one p s y x zero sound e = subst (λ (z : ObjectState). IsSoundIn p s z) (same_Some y x e) sound
 new_one p s y x (suc k) sound e = absurd (nothing e)
   where
     nothing : at [] k ≡ Some x → ⊥

@@ -14,7 +14,7 @@ use Rattle.et_program.specs.declared.errors.LinkError.{LinkError}
 use Rattle.et_program.specs.declared.errors.LinkError.TheVariants.{NoSuchMethod, IncompatibleClassChange, AbstractMethod}
 use Rattle.et_program.specs.declared.info.MethodInfo.{MethodInfo}
 use Rattle.et_base.proofs.Positions.{Passes, position_passes}
-use Rattle.et_sound.proofs.Fields.{ok_is}
+use Rattle.et_sound.proofs.Fields.{ok_is, first_found, either}
 use Rattle.et_sound.specs.Methods.{IsMethod, IsInstanceMethod}
 
 -- THE METHOD of a class
@@ -61,14 +61,6 @@ selectable_found p special name descriptor c =
     weaker (λ k. IsMethod p name descriptor k × (is_selectable p special k ≡ true)) (IsInstanceMethod p name descriptor) (selectable_in p special name descriptor c)
     (λ m h. record { method = h.0; instance = not-true (is_static p m) (and_parts (special || not (is_private p m)) (not (is_static p m)) h.1).1 })
     (kept_found (IsMethod p name descriptor) (is_selectable p special) (method_in p name descriptor c) (method_found p name descriptor c))
-
-either : (P : ℕ → Type 0) (a b : Option ℕ) → IfSome a P → IfSome b P → IfSome (option_or a b) P
-either P None b h i = i
-either P (Some x) b h i = h
-
-first_found : (P : ℕ → Type 0) (member : ℕ → Option ℕ) → ((c : ℕ) → IfSome (member c) P) → (cs : List ℕ) → IfSome (first_in member cs) P
-first_found P member h [] = tt
-first_found P member h (c ∷ cs) = either P (member c) (first_in member cs) (h c) (first_found P member h cs)
 
 -- THE MAXIMALLY SPECIFIC ONES
 

@@ -29,6 +29,7 @@ use Rattle.et_event.specs.Strings.{interned, string_object}
 use Rattle.et_event.specs.PlainRows.{is_plain}
 use Rattle.et_parts.proofs.SiteAnswers.{moment}
 use Rattle.et_sound.proofs.Keeping.{taken_int, taken_long}
+use Rattle.et_sound.proofs.Outcomes.{if_case}
 
 -- an ArithmeticException is thrown
 abbrev pub error_thrown : Linked → Kept → ℕ → Doing
@@ -60,10 +61,6 @@ has_first (f ∷ fs) h = refl
 not_given_up : (d x : Doing) (b : Bool) → b ≡ true → (if b then d else x) ≡ d
 not_given_up d x true h = refl
 not_given_up d x false h = cc
-
-if_case : {A : Type 0} (P : A → Type 0) (b : Bool) (x y : A) → P x → P y → P (if b then x else y)
-if_case P true x y h i = h
-if_case P false x y h i = i
 
 unless_case : (P : Outcome Kept → Type 0) (e : Moment) (b : Bool) (o : Outcome Kept) → P (ill_typed e) → (b ≡ true → P o) → P (ill_typed_unless e b o)
 unless_case P e true o n h = h refl

@@ -199,11 +199,11 @@ dropped_going e d g =
     record { well = dropped_well e.program e d g.well g.thread; thread = subst (λ (k : ℕ). e.thread < k) (sym n) g.thread }
 
 -- an object that was made last
-record IsLast (heap : Objects) (y : ObjectState) : Type 0 where
-  held : IsHeld (heap ++ Some y ∷ []) (length heap)
-  class : (object_at (heap ++ Some y ∷ []) (length heap)).class ≡ y.class
+pub record IsLast (heap : Objects) (y : ObjectState) : Type 0 where
+  pub held : IsHeld (heap ++ Some y ∷ []) (length heap)
+  pub class : (object_at (heap ++ Some y ∷ []) (length heap)).class ≡ y.class
 
-last_one : (heap : Objects) (y : ObjectState) → IsLast heap y
+pub last_one : (heap : Objects) (y : ObjectState) → IsLast heap y
 last_one heap y =
     let le : length heap ≤ length heap = omega arith in
     let none : length heap - length heap ≡ 0 = omega arith in
