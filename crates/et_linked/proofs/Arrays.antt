@@ -4,7 +4,7 @@ use Rattle.std.specs.Prelude.{All, IsSome, codes, unwrap_or, pos, negsuc, int_le
 use Rattle.std.specs.List.{prefix_len, slice_index_or, list_any, list_all, flat_map, position_from}
 use Rattle.std.specs.Option.{ok_or, option_to_list}
 use Rattle.std.specs.Str.{bytes_eq}
-use Rattle.std.proofs.lemmas.Bool.{and_parts, both_ways, cases_lt, not-true, leb-true, eqb-true, eq-eqb, false≢true}
+use Rattle.std.proofs.lemmas.Bool.{and_parts, both_ways, cases_lt, not-true, leb-true, eqb-true, eq-eqb, false≢true, or_parts}
 use Rattle.std.proofs.lemmas.List.{length-append}
 use Rattle.std.proofs.lemmas.List.Elements.{All-nil, All-cons, All-append, All-map, All-contains, Contains-append_right}
 use Rattle.et_base.proofs.Lists.{Contains-none, Contains-here, Contains-there}
@@ -98,15 +98,10 @@ record IsMaker (met : List (List ℕ)) (slots : List (Option Item)) (i : Instr) 
 abbrev AreMakers : List (List ℕ) → List Constants → MethodInfo → Type 0
 AreMakers met pools x = (body : Body) (pc : ℕ) (i : Instr × ℕ) → x.code ≡ Some body → IsStart body.code pc → instruction_at body.code pc ≡ Ok i → IsMaker met (slice_index_or pools x.class no_constants).slots i.0
 
-or_false : (a b : Bool) → (a || b) ≡ false → (a ≡ false) × (b ≡ false)
-or_false false false e = (refl, refl)
-or_false false true e = cc
-or_false true b e = cc
-
 plain_makes : (met : List (List ℕ)) (i : Instr) → IsPlain i → IsMaker met (slots_of thread_pool) i
 plain_makes met i w =
-    let one = or_false (i.opcode == 0xbc) ((i.opcode == 0xbd) || (i.opcode == 0xc5)) w.makes in
-    let two = or_false (i.opcode == 0xbd) (i.opcode == 0xc5) one.1 in
+    let one = or_parts (i.opcode == 0xbc) ((i.opcode == 0xbd) || (i.opcode == 0xc5)) w.makes in
+    let two = or_parts (i.opcode == 0xbd) (i.opcode == 0xc5) one.1 in
     let nothing : made_by (slots_of thread_pool) i ≡ [] = made_none (i.opcode == 0xbc) (i.opcode == 0xbd) _ _ one.0 two.0 in
     record {
       few = few_slots;

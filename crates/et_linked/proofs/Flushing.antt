@@ -4,6 +4,7 @@ use Rattle.std.specs.Prelude.{codes, nat_le, option_to_list}
 use Rattle.std.proofs.lemmas.Bool.{and_parts, and_from, leb-true, le-leb}
 use Rattle.std.proofs.lemmas.List.Elements.{Contains-append_right}
 use Rattle.std.proofs.lemmas.List.Sums.{sum_by-cons}
+use Rattle.std.proofs.lemmas.Option.{same_Some, none-some}
 use Rattle.et_graph.specs.Graph.{IsReached}
 use Rattle.et_base.proofs.Lists.{Contains-here}
 use Rattle.et_program.specs.Entries.{Linked}
@@ -29,12 +30,6 @@ abbrev flushed : Kept → (ℕ → Bool) → Kept
 flushed s here = record { heap = flushed_heap here s.heap; guest = s.guest }
 
 -- OBJECTS
-
-none_is : (y : ObjectState) → None ≡ Some y → ⊥
-none_is y e = cc
-
-the_same : (x y : ObjectState) → Some x ≡ Some y → x ≡ y
-the_same x y e = cc
 
 abbrev with_less : (ℕ → Bool) → ObjectState → ObjectState
 with_less here x = record x { referent = kept_referent here x.referent }
@@ -67,14 +62,14 @@ monitor_with_less g here x h = h
 
 object_left : (p : Linked) (g : GuestState) (here : ℕ → Bool) (coming : ℕ → List ℕ) (begins : ℕ → Bool) (k : ℕ) (b : Bool) (o : Option ObjectState) (y : ObjectState)
     → ((x : ObjectState) → o ≡ Some x → IsSoundIn p g x) → joined_place coming begins k (left_place here b o) ≡ Some y → IsSoundIn p g y
-object_left p g here coming begins k true None y sound e = absurd (none_is y e)
-object_left p g here coming begins k false None y sound e = absurd (none_is y e)
-object_left p g here coming begins k false (Some x) y sound e = absurd (none_is y e)
+object_left p g here coming begins k true None y sound e = absurd (none-some y e)
+object_left p g here coming begins k false None y sound e = absurd (none-some y e)
+object_left p g here coming begins k false (Some x) y sound e = absurd (none-some y e)
 object_left p g here coming begins k true (Some x) y sound e =
     let was : IsSoundIn p g x = sound x refl in
     let ws : List ℕ = x.waiting ++ coming k in
     let waits : Bool = x.waits || begins k in
-    subst (λ (z : ObjectState). IsSoundIn p g z) (the_same (waiting_as ws waits (with_less here x)) y e)
+    subst (λ (z : ObjectState). IsSoundIn p g z) (same_Some (waiting_as ws waits (with_less here x)) y e)
     (sound_waiting p ws waits (with_less here x) (sound_with_less p here x was.0), monitor_with_less g here x was.1)
 
 -- THREADS

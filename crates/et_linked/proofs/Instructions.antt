@@ -22,7 +22,7 @@ use Rattle.et_linked.proofs.Classes.{past}
 abbrev passes : (Row → Bool) → (ℕ → Bool) → ℕ × Row → Bool
 passes test good r = not (test r.1) || good r.0
 
-good_if : (a b : Bool) → (not a || b) ≡ true → a ≡ true → b ≡ true
+pub good_if : (a b : Bool) → (not a || b) ≡ true → a ≡ true → b ≡ true
 good_if a b h e = ⊎_elim (λ n. absurd (both_ways a (not-true a n) e)) (λ y. y) (or_cases (not a) b h)
 
 among : (test : Row → Bool) (good : ℕ → Bool) (rs : List (ℕ × Row)) → list_all (passes test good) rs ≡ true → (opcode : ℕ) (row : Row) → row_among rs opcode ≡ Some row → test row ≡ true → good opcode ≡ true

@@ -5,8 +5,8 @@ use Rattle.std.specs.List.{slice_index_or, list_any, list_all, flat_map}
 use Rattle.std.proofs.lemmas.List.Elements.{All-nil, All-cons, All-head, All-tail, All-append, All-push, All-contains, All-contains_itself, Contains-append_left, Contains-append_right}
 use Rattle.std.proofs.lemmas.List.Sorted.{All-permutation, IsPermutation-reverse}
 use Rattle.std.proofs.lemmas.List.{reverse-reverse}
-use Rattle.std.proofs.lemmas.Bool.{eqb-true, and_parts}
-use Rattle.et_base.proofs.Lists.{Contains-none, Contains-here, Contains-cons, any_contains}
+use Rattle.std.proofs.lemmas.Bool.{and_parts}
+use Rattle.et_base.proofs.Lists.{Contains-none, Contains-cons}
 use Rattle.et_program.specs.Slots.{places_from}
 use Rattle.et_hierarchy.specs.Ancestry.{class_added, added_all}
 use Rattle.et_program.specs.MembersOf.{numbered}
@@ -65,32 +65,6 @@ places_ascend {X} t n (x ∷ xs) = by (t x) (all_places (λ m. n < m) t (n + 1) 
 pub all_before : {X : Type 0} (P : X → Type 0) (xs ys : List X) → All P (xs ++ ys) → All P xs
 all_before P [] ys h = All-nil P
 all_before P (x ∷ xs) ys h = All-cons P x xs (All-head P x (xs ++ ys) h) (all_before P xs ys (All-tail P x (xs ++ ys) h))
-
-added_has : (seen : List ℕ) (x : ℕ) → Contains (class_added seen x) x
-added_has seen x = by (list_any (λ y. x == y) seen) refl
-  where
-    by : (b : Bool) → list_any (λ y. x == y) seen ≡ b → Contains (cond b seen (seen ++ x ∷ [])) x
-    by true e = any_contains (λ y. x == y) x (λ y t. sym (eqb-true x y t)) seen e
-    by false e = Contains-append_right seen (x ∷ []) x (Contains-here x [])
-
-added_keeps : (seen : List ℕ) (y x : ℕ) → Contains seen x → Contains (class_added seen y) x
-added_keeps seen y x h = by (list_any (λ z. y == z) seen)
-  where
-    by : (b : Bool) → Contains (cond b seen (seen ++ y ∷ [])) x
-    by true = h
-    by false = Contains-append_left seen (y ∷ []) x h
-
-all_keep : (seen xs : List ℕ) (x : ℕ) → Contains seen x → Contains (added_all seen xs) x
-all_keep seen [] x h = h
-all_keep seen (y ∷ ys) x h = all_keep (class_added seen y) ys x (added_keeps seen y x h)
-
-pub added_all_has : (seen xs : List ℕ) (x : ℕ) → Contains xs x → Contains (added_all seen xs) x
-added_all_has seen [] x h = absurd (Contains-none x h)
-added_all_has seen (y ∷ ys) x h =
-    elim (Contains-cons y ys x h) [
-      | inl e ↦ all_keep (class_added seen y) ys x (subst (λ (z : ℕ). Contains (class_added seen y) z) e (added_has seen y))
-      | inr d ↦ added_all_has (class_added seen y) ys x d
-    ]
 
 pub flat_has : (f : ℕ → List ℕ) (xs : List ℕ) (t x : ℕ) → Contains xs t → Contains (f t) x → Contains (flat_map f xs) x
 flat_has f [] t x h c = absurd (Contains-none t h)

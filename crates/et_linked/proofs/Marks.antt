@@ -15,7 +15,7 @@ broken_before : (ms ns : List Mark) (place kind : ℕ) → Breaks ms place kind 
 broken_before [] ns place kind h = absurd h
 broken_before (m ∷ ms) ns place kind h = ⊎_elim (λ here. inl here) (λ later. inr (broken_before ms ns place kind later)) h
 
-broken_behind : (ms ns : List Mark) (place kind : ℕ) → Breaks ns place kind → Breaks (ms ++ ns) place kind
+pub broken_behind : (ms ns : List Mark) (place kind : ℕ) → Breaks ns place kind → Breaks (ms ++ ns) place kind
 broken_behind [] ns place kind h = h
 broken_behind (m ∷ ms) ns place kind h = inr (broken_behind ms ns place kind h)
 

@@ -5,7 +5,7 @@ use Rattle.std.specs.Prelude.{All, IsSome, codes, nat_le, unwrap_or}
 use Rattle.std.specs.List.{slice_index_or, list_all}
 use Rattle.std.specs.Option.{option_map_or}
 use Rattle.std.specs.Str.{bytes_eq}
-use Rattle.std.proofs.lemmas.Bool.{and_parts, or_cases, both_ways, not-true, leb-true, eqb-true, false≢true}
+use Rattle.std.proofs.lemmas.Bool.{and_parts, or_cases, both_ways, not-true, leb-true, eqb-true, false≢true, or_parts}
 use Rattle.std.proofs.lemmas.List.Elements.{All-nil, All-cons, All-append, All-map}
 use Rattle.et_boot.specs.Classes.{thread_pool, thread_run}
 use Rattle.et_pool.specs.Entries.{Item, Constants, slots_of}
@@ -128,18 +128,13 @@ run_well files pools has_pools x h = record {
 abbrev abstract_flags : ℕ → Bool
 abstract_flags flags = has flags FINAL || has flags NATIVE || has flags PRIVATE || has flags STATIC || has flags SYNCHRONIZED
 
-or_false : (a b : Bool) → (a || b) ≡ false → (a ≡ false) × (b ≡ false)
-or_false false false e = (refl, refl)
-or_false false true e = cc
-or_false true b e = cc
-
 not_both : (flags : ℕ) → is_method_flags flags ≡ true → has flags STATIC ≡ true → has flags ABSTRACT ≡ false
 not_both flags h s =
     ⊎_elim
     (λ n. not-true (has flags ABSTRACT) n)
     (λ n.
-    let one = or_false (has flags FINAL || has flags NATIVE || has flags PRIVATE || has flags STATIC) (has flags SYNCHRONIZED) (not-true (abstract_flags flags) n) in
-    let two = or_false (has flags FINAL || has flags NATIVE || has flags PRIVATE) (has flags STATIC) one.0 in
+    let one = or_parts (has flags FINAL || has flags NATIVE || has flags PRIVATE || has flags STATIC) (has flags SYNCHRONIZED) (not-true (abstract_flags flags) n) in
+    let two = or_parts (has flags FINAL || has flags NATIVE || has flags PRIVATE) (has flags STATIC) one.0 in
     absurd (both_ways (has flags STATIC) two.1 s))
     (or_cases (not (has flags ABSTRACT)) (not (abstract_flags flags)) (and_parts _ (not (has flags ABSTRACT) || not (abstract_flags flags)) h).1)
 

@@ -1,5 +1,5 @@
 -- The class of a class file has the name of a class.
-use Rattle.std.proofs.Common.{ℕ, ◌+◌, List, [], ◌∷◌, ◌++◌, length, refl, inl, inr}
+use Rattle.std.proofs.Common.{ℕ, ◌+◌, List, ◌++◌, length, refl, inl, inr}
 use mathlib.Core.Logic.{⊎_elim}
 use Rattle.std.proofs.lemmas.Bool.{cases_Bool}
 use Rattle.et_base.specs.Marks.{Mark, Breaks}
@@ -12,10 +12,7 @@ use Rattle.et_class.specs.Rules.{pool_marks, header_marks, members_marks, header
 use Rattle.et_class.specs.Classes.{IsClassFile}
 use Rattle.et_program.specs.Loaded.{loaded_class}
 use Rattle.et_linked.specs.ClassNames.{HasClassName}
-
-broken_behind : (ms ns : List Mark) (place kind : ℕ) → Breaks ns place kind → Breaks (ms ++ ns) place kind
-broken_behind [] ns place kind h = h
-broken_behind (m ∷ ms) ns place kind h = inr (broken_behind ms ns place kind h)
+use Rattle.et_linked.proofs.Marks.{broken_behind}
 
 pub has_class_name : (bytes : List ℕ) (c : ClassOf) → IsClassFile bytes c → HasClassName (loaded_class c)
 has_class_name bytes c is =

@@ -12,6 +12,7 @@ use Rattle.et_hierarchy.specs.Links.{links, links_of, no_links}
 use Rattle.et_hierarchy.specs.Ancestry.{Ancestry, ancestry_at, supers_over, IsAncestry}
 use Rattle.et_hierarchy.specs.Initialization.{interfaces_to_run, with_interfaces, init_order}
 use Rattle.et_hierarchy.proofs.LinkLemmas.{are_within}
+use Rattle.et_hierarchy.proofs.Repeats.{added_all_has}
 use Rattle.et_program.specs.Entries.{ClassEntry, Linked, class_at}
 use Rattle.et_program.specs.Files.{set_of}
 use Rattle.et_program.specs.Heads.{has_to_run}
@@ -23,7 +24,7 @@ use Rattle.et_link.proofs.TabledLemmas.{order_within}
 use Rattle.et_linked.proofs.Making.{class_in}
 use Rattle.et_linked.proofs.Classes.{length_all, class_cases, array_in}
 use Rattle.et_linked.proofs.Supers.{IsClass, IsInterface, kinds, interfaces, below}
-use Rattle.et_linked.proofs.Lists.{all_added, all_flat, all_before, added_all_has, flat_has, reverse_all, reverse_has}
+use Rattle.et_linked.proofs.Lists.{all_added, all_flat, all_before, flat_has, reverse_all, reverse_has}
 
 module _ (files : List LoadedClass) (rows : List Ancestry) (pools : List Constants) (is : IsAncestry (links (set_of files)) rows) (linkable : IsLinkable files) where
   abbrev set : List Outline

@@ -1,18 +1,17 @@
 -- The constants and the initialization of the classes of a program.
-use Rattle.std.proofs.Common.{◌≡◌, ℕ, suc, ◌+◌, ◌<◌, ◌≤◌, Bool, true, false, ◌&&◌, ◌==◌, List, [], ◌∷◌, ◌++◌, length, map, take, Option, None, Some, IfSome, is_some, refl, sym, ◌∙◌, ap, subst, arith}
+use Rattle.std.proofs.Common.{◌≡◌, ℕ, ◌+◌, ◌<◌, ◌≤◌, Bool, true, false, ◌&&◌, ◌==◌, List, [], length, take, Option, None, Some, IfSome, is_some, refl, sym, ◌∙◌, ap, subst, arith}
 use Rattle.std.specs.Prelude.{All, count_by, codes, if◌then◌else◌}
 use Rattle.std.specs.List.{slice_index_or, filter}
 use Rattle.std.specs.Option.{option_to_list}
 use Rattle.std.specs.Str.{bytes_eq}
 use Rattle.std.proofs.lemmas.Bool.{and_parts, not-true, eqb-true, false_from_ne_true, false≢true}
-use Rattle.std.proofs.lemmas.List.{length-map, get_or_default, get_or-append-add}
+use Rattle.std.proofs.lemmas.List.{length-map, get_or_default}
 use Rattle.std.proofs.lemmas.List.Elements.{All-nil, All-append, All-map, All-weaker}
 use Rattle.et_code.specs.Bodies.{Body}
 use Rattle.et_class.specs.Names.{has}
 use Rattle.et_class.specs.declared.flags.TheConstants.{STATIC}
 use Rattle.et_pool.specs.Entries.{Constants}
 use Rattle.et_pool.specs.Descriptors.{is_void, types_of}
-use Rattle.et_boot.specs.Classes.{BootClassOf}
 use Rattle.et_hierarchy.specs.Outline.{outline_at}
 use Rattle.et_hierarchy.specs.Links.{LinkEntry, links, links_of, no_links}
 use Rattle.et_hierarchy.specs.Ancestry.{Ancestry, IsAncestry}
@@ -27,7 +26,7 @@ use Rattle.et_program.specs.Heads.{is_initializer, initializer_of, has_constant,
 use Rattle.et_program.specs.Loaded.{LoadedClass}
 use Rattle.et_program.specs.LinkFaults.{IsLinkable}
 use Rattle.et_program.proofs.DeclaredFields.{all_fields}
-use Rattle.et_program.specs.MembersOf.{methods_of, fields_of, boot_field, boot_fields, file_field, file_fields, is_boot_static, AreBootPools, HasPools, file_pool}
+use Rattle.et_program.specs.MembersOf.{methods_of, fields_of, boot_field, boot_fields, file_field, file_fields, is_boot_static, HasPools}
 use Rattle.et_program.specs.ProgramOf.{class_names_of, heads_of, program_with, IsProgramOf}
 use Rattle.et_program.specs.Slots.{is_static_field, is_instance_of, slots_above, slot_of_field}
 use Rattle.et_event.specs.Errors.{class_called}
@@ -41,12 +40,12 @@ use Rattle.et_event.specs.InitializationOrder.{IsStaticOf, HasConstants, IsInOrd
 use Rattle.et_linked.proofs.Counts.{placed_at, StandsIn, places_at}
 use Rattle.et_linked.proofs.Making.{named_in}
 use Rattle.et_linked.proofs.TextClasses.{system_place, system_within}
-use Rattle.et_linked.proofs.Places.{at_mapped}
 use Rattle.et_linked.specs.Fields.{HasStaticConstants, HasTypedConstants}
 use Rattle.et_linked.proofs.Classes.{length_all, class_cases}
 use Rattle.et_linked.proofs.Supers.{IsInterface}
 use Rattle.et_linked.proofs.Lists.{all_numbered, all_places, all_before, Ascends, places_ascend}
 use Rattle.et_linked.proofs.Order.{orders, own, within_all, run_kinds}
+use Rattle.et_linked.proofs.Threads.{pool_is}
 
 -- FIELDS WITH CONSTANTS
 
@@ -71,18 +70,6 @@ constants_of_files files =
 
 abbrev IsTypedIf : List Constants → FieldInfo → Type 0
 IsTypedIf pools f = (k : LoadedConstant) → has_constant f ≡ true → constant_at (slice_index_or pools f.class no_constants).slots f.constant ≡ Some k → is_of_kind (operand_kind f.descriptor) (value_like k) ≡ true
-
-length-pools : (cs : List BootClassOf) (ps : List Constants) → AreBootPools cs ps → length ps ≡ length cs
-length-pools [] [] h = refl
-length-pools [] (q ∷ ps) h = absurd h
-length-pools (c ∷ cs) [] h = absurd h
-length-pools (c ∷ cs) (q ∷ ps) h = ap suc (length-pools cs ps h.1)
-
-pool_is : (files : List LoadedClass) (pools : List Constants) → HasPools files pools → (i : ℕ) (c : LoadedClass) → i < length files → slice_index_or files i c ≡ c → slice_index_or pools (length boots + i) no_constants ≡ c.pool
-pool_is files pools h i c lt e =
-    ap (λ (ps : List Constants). slice_index_or ps (length boots + i) no_constants) h.are
-    ∙ (ap (λ (n : ℕ). slice_index_or (h.built_in ++ map file_pool files) (n + i) no_constants) (sym (length-pools boots h.built_in h.are_spelled))
-    ∙ (get_or-append-add h.built_in (map file_pool files) i no_constants ∙ (at_mapped file_pool files i c no_constants lt ∙ ap file_pool e)))
 
 constants_typed : (files : List LoadedClass) (pools : List Constants) → HasPools files pools → All HasTypedConstants files → All (IsTypedIf pools) (fields_of files)
 constants_typed files pools has_pools typed =

@@ -101,7 +101,7 @@ well_methods bytes c is =
 
 -- ITS CODE
 
-found : {X : Type 0} (t : X → Bool) (Q : X → Type 0) (xs : List X) → All (λ x. t x ≡ true → Q x) xs → (a : X) → find t xs ≡ Some a → Q a
+pub found : {X : Type 0} (t : X → Bool) (Q : X → Type 0) (xs : List X) → All (λ x. t x ≡ true → Q x) xs → (a : X) → find t xs ≡ Some a → Q a
 found t Q [] h a e = absurd (none e)
   where
     none : None ≡ Some a → ⊥

@@ -5,6 +5,7 @@ use Rattle.std.specs.List.{slice_index_or}
 use Rattle.std.specs.Str.{bytes_eq}
 use Rattle.std.proofs.lemmas.List.{length-replicate, get_or-replicate}
 use Rattle.std.proofs.lemmas.List.Elements.{All-nil, All-cons, All-same, All-append, All-replicate, All-contains}
+use Rattle.std.proofs.lemmas.Option.{none-some, same_Some}
 use Rattle.et_base.specs.declared.value.Value.{Value}
 use Rattle.et_base.specs.declared.value.Value.TheVariants.{Unset}
 use Rattle.et_program.specs.Entries.{ClassEntry, Linked, field_at}
@@ -28,6 +29,7 @@ use Rattle.et_event.specs.PoolOperands.Operand.TheVariants as operand
 use Rattle.et_event.specs.Operands.{operand_kind}
 use Rattle.et_event.specs.Sound.{is_of_kind, IsSoundObject, IsSoundMonitor, IsSoundThread, IsSoundClassState, IsSoundStatic, IsSoundFor}
 use Rattle.et_state.specs.Start.{argument_class, is_class_of_file, first_class_state, class_states_from, start}
+use Rattle.et_state.proofs.Places.{refs_of-unset}
 use Rattle.et_event.specs.Start.{start_records}
 use Rattle.et_linked.specs.ClassNames.{HasClassName}
 use Rattle.et_linked.proofs.Arguments.{arguments_sound}
@@ -38,23 +40,16 @@ use Rattle.et_linked.proofs.Arguments.{arguments_sound}
 abbrev first_heap : ℕ → Objects
 first_heap c = None ∷ Some (new_object c 0 0) ∷ []
 
-no_refs : (n : ℕ) → refs_of (replicate n Unset) ≡ []
-no_refs zero = refl
-no_refs (suc n) = no_refs n
-
 roots_held : (p : Linked) → All (IsHeld (start p).heap) (roots_of (start p).guest)
 roots_held p =
     let P = IsHeld (first_heap (argument_class p)) in
     let refs : List ℕ = refs_of (replicate (length p.statics) Unset) in
-    All-cons P 1 (refs ++ []) tt (All-append P refs [] (All-same P refs [] (no_refs (length p.statics)) (All-nil P)) (All-nil P))
-
-none_is : (o : ℕ) → None ≡ Some o → ⊥
-none_is o e = cc
+    All-cons P 1 (refs ++ []) tt (All-append P refs [] (All-same P refs [] (refs_of-unset (length p.statics)) (All-nil P)) (All-nil P))
 
 no_referent : (c u o : ℕ) → (object_at (first_heap c) u).referent ≡ Some o → ⊥
-no_referent c zero o e = none_is o e
-no_referent c (suc zero) o e = none_is o e
-no_referent c (suc (suc u)) o e = none_is o e
+no_referent c zero o e = none-some o e
+no_referent c (suc zero) o e = none-some o e
+no_referent c (suc (suc u)) o e = none-some o e
 
 start_held : (p : Linked) → IsSound (start p)
 start_held p =
@@ -75,18 +70,12 @@ no_owner h = search (rules, h)
 free_sound : (g : GuestState) → IsSoundMonitor g free_monitor
 free_sound g = record { count = omega arith; owned = (λ h. absurd (no_owner h), λ lt. absurd (omega arith)); owner = tt }
 
-no_object_is : (x : ObjectState) → None ≡ Some x → ⊥
-no_object_is x e = cc
-
-the_same : (x y : ObjectState) → Some x ≡ Some y → x ≡ y
-the_same x y e = cc
-
 array_alone : (p : Linked) (g : GuestState) (c o : ℕ) (x : ObjectState) → IsSoundObject p (new_object c 0 0) → at (first_heap c) o ≡ Some x → IsSoundObject p x × IsSoundMonitor g x.monitor
-array_alone p g c zero x sound e = absurd (no_object_is x e)
+array_alone p g c zero x sound e = absurd (none-some x e)
 array_alone p g c (suc zero) x sound e =
-    let same : new_object c 0 0 ≡ x = the_same (new_object c 0 0) x e in
+    let same : new_object c 0 0 ≡ x = same_Some (new_object c 0 0) x e in
     (subst (λ (y : ObjectState). IsSoundObject p y) same sound, subst (λ (y : ObjectState). IsSoundMonitor g y.monitor) same (free_sound g))
-array_alone p g c (suc (suc o)) x sound e = absurd (no_object_is x e)
+array_alone p g c (suc (suc o)) x sound e = absurd (none-some x e)
 
 -- THE THREAD
 

@@ -3,7 +3,7 @@ use Rattle.std.proofs.Common.{◌≡◌, ℕ, ◌+◌, ◌<◌, Bool, true, fals
 use mathlib.Core.Logic.{⊎_elim}
 use Rattle.std.specs.Prelude.{All}
 use Rattle.std.specs.List.{slice_index_or, list_all, filter}
-use Rattle.std.proofs.lemmas.Bool.{cases_Bool, and_parts, or_cases, not-true, both_ways}
+use Rattle.std.proofs.lemmas.Bool.{cases_Bool, and_parts, both_ways}
 use Rattle.std.proofs.lemmas.List.{length-map, get_or-append-add}
 use Rattle.std.proofs.lemmas.List.Elements.{All-nil, All-cons, All-map}
 use Rattle.et_boot.specs.Classes.{BootClassOf, no_boot_class}
@@ -29,6 +29,7 @@ use Rattle.et_linked.proofs.Places.{at_map, at_mapped}
 use Rattle.et_linked.specs.Fields.{HasStaticFields}
 use Rattle.et_linked.proofs.Above.{interface_is, knows_interfaces}
 use Rattle.et_linked.proofs.Lists.{all_numbered}
+use Rattle.et_linked.proofs.Instructions.{good_if}
 
 -- class k is an interface only if the field is static
 abbrev IsWell : List Outline → FieldInfo → Type 0
@@ -50,9 +51,6 @@ all_well table (f ∷ fs) h =
     let parts = and_parts (is_well table f) (list_all (is_well table) fs) h in
     All-cons (λ g. is_well table g ≡ true) f fs parts.0 (all_well table fs parts.1)
 
-well_by : (a b : Bool) → (not a || b) ≡ true → a ≡ true → b ≡ true
-well_by a b h e = ⊎_elim (λ n. absurd (both_ways a (not-true a n) e)) (λ y. y) (or_cases (not a) b h)
-
 module _ (files : List LoadedClass) (static : All HasStaticFields files) where
   -- the class of file i
   pub file_at : (i : ℕ) (c : LoadedClass) → i < length files → slice_index_or files i c ≡ c → outline_at (set_of files) (length boots + i) ≡ file_outline c
@@ -63,7 +61,7 @@ module _ (files : List LoadedClass) (static : All HasStaticFields files) where
   boot_well : (f : FieldInfo) → f.class < length boots → is_well boots f ≡ true → IsWell (set_of files) f
   boot_well f lt h e =
       let o : outline_at (set_of files) f.class ≡ boot_outline (slice_index_or boots f.class no_boot_class) = at_map boot_outline boots (map file_outline files) f.class no_boot_class no_outline lt in
-      well_by (has (slice_index_or boots f.class no_boot_class).flags INTERFACE) (has f.flags STATIC) h (sym (ap (λ (x : Outline). x.is_interface) o) ∙ e)
+      good_if (has (slice_index_or boots f.class no_boot_class).flags INTERFACE) (has f.flags STATIC) h (sym (ap (λ (x : Outline). x.is_interface) o) ∙ e)
 
   boots_within : (static : Bool) → All (λ (f : FieldInfo). f.class < length boots) (numbered (boot_fields static) 0 boots)
   boots_within static =

@@ -1,17 +1,15 @@
 -- The one built-in method with code, `run` of Thread, and the pool of its class.
-use Rattle.std.proofs.Common.{◌≡◌, ℕ, ◌+◌, ◌<◌, ◌^◌, true, false, ◌||◌, ◌==◌, zero, suc, List, [], ◌∷◌, ◌++◌, length, map, Option, Result, Ok, refl, sym, ◌∙◌, ap, subst, arith, append-nil}
+use Rattle.std.proofs.Common.{◌≡◌, ℕ, ◌+◌, ◌<◌, ◌^◌, true, false, ◌||◌, ◌==◌, zero, suc, List, [], ◌∷◌, ◌++◌, length, map, Result, Ok, refl, sym, ◌∙◌, ap, subst, arith, append-nil}
 use Rattle.std.specs.Prelude.{All, IfOk}
 use Rattle.std.specs.List.{list_any, slice_index_or}
 use Rattle.std.proofs.lemmas.List.{get_or-append-add}
 use Rattle.std.proofs.lemmas.List.Elements.{All-nil, All-cons}
 use Rattle.et_boot.specs.Classes.{BootClassOf, no_boot_class, thread_pool, thread_run}
-use Rattle.et_pool.specs.Entries.{Item, Constants, slots_of}
+use Rattle.et_pool.specs.Entries.{Constants, slots_of}
 use Rattle.et_pool.specs.Looks.{class_name_at}
 use Rattle.et_pool.specs.Pools.{IsPool}
 use Rattle.et_pool.specs.Spelling.{IsEntry, IsPoolSpelled, pool_bytes}
 use Rattle.et_pool.specs.Text.{is_modified}
-use Rattle.et_pool.specs.Broken.{Broken}
-use Rattle.et_pool.proofs.OneAnswer.{exactly_one}
 use Rattle.et_pool.proofs.Spelled.{spelled_pool}
 use Rattle.et_code.specs.declared.instr.Instr.{Instr}
 use Rattle.et_code.specs.declared.instr.CodeFault.{CodeFault}
@@ -25,6 +23,7 @@ use Rattle.et_program.specs.Loaded.{LoadedClass}
 use Rattle.et_program.specs.MembersOf.{AreBootPools, HasPools, IsBootPool, file_pool}
 use Rattle.et_linked.proofs.Places.{at_mapped, one_of}
 use Rattle.et_event.specs.Sites.{no_constants}
+use Rattle.et_link.proofs.BuiltInLemmas.{one_pool}
 
 -- ITS INSTRUCTIONS make no array, and name no <clinit>
 
@@ -127,17 +126,6 @@ spelled = record {
   stands = ([], sym (append-nil (pool_bytes thread_pool)));
   after_is = refl;
 }
-
-abbrev answer : List (Option Item) × ℕ → Result (List (Option Item) × ℕ) Broken
-answer x = Ok x
-
-same_answer : (a b : List (Option Item) × ℕ) → answer a ≡ answer b → a ≡ b
-same_answer a b e = cc
-
-one_pool : (bytes : List ℕ) (a b : List (Option Item)) (i j : ℕ) → IsPool bytes 0 a i → IsPool bytes 0 b j → a ≡ b
-one_pool bytes a b i j h g =
-    let one = exactly_one bytes 0 in
-    ap (λ (x : List (Option Item) × ℕ). x.0) (same_answer (a, i) (b, j) (one.only (answer (a, i)) h ∙ sym (one.only (answer (b, j)) g)))
 
 boot_pool_at : (cs : List BootClassOf) (ps : List Constants) → AreBootPools cs ps → (k : ℕ) → k < length cs → IsBootPool (slice_index_or cs k no_boot_class) (slice_index_or ps k no_constants)
 boot_pool_at [] [] h k lt = absurd (omega arith)

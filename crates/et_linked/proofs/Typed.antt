@@ -1,13 +1,14 @@
 -- The constant of a field of a class file is of the type of the field (JVMS 4.7.2).
-use Rattle.std.proofs.Common.{◌≡◌, ℕ, ℤ, Bool, true, false, cond, ◌||◌, ◌==◌, List, [], ◌∷◌, length, Option, None, Some, option_map, refl, sym, ap, subst}
+use Rattle.std.proofs.Common.{◌≡◌, ℕ, ℤ, Bool, true, false, ◌||◌, ◌==◌, List, [], ◌∷◌, length, Option, None, Some, option_map, refl, sym, ap, subst}
 use mathlib.Core.Logic.{⊎_elim}
-use Rattle.std.specs.Prelude.{All, if◌then◌else◌}
+use Rattle.std.specs.Prelude.{if◌then◌else◌}
 use Rattle.std.specs.Int.{w16, from_be_bytes}
 use Rattle.std.specs.List.{find}
 use Rattle.std.specs.Option.{option_or}
 use Rattle.std.specs.Str.{bytes_eq}
 use Rattle.std.proofs.lemmas.Bool.{and_parts, or_cases, eqb-true, false≢true}
-use Rattle.std.proofs.lemmas.List.Elements.{All-head, All-tail, All-map}
+use Rattle.std.proofs.lemmas.List.Elements.{All-map}
+use Rattle.std.proofs.lemmas.Option.{none-some}
 use Rattle.et_base.specs.declared.value.Value.TheVariants.{Int, Long, Null}
 use Rattle.et_pool.specs.Entries.{Item, Text, Word, Wide, Name, Pair, Handle}
 use Rattle.et_pool.specs.Looks.{slot_at, utf8_at, tag_at, tag_of_slot, integer_of_slot, long_of_slot, named_by}
@@ -29,6 +30,7 @@ use Rattle.et_program.specs.MembersOf.{pool_text}
 use Rattle.et_event.specs.Programs.{value_like}
 use Rattle.et_linked.specs.Fields.{HasTypedConstants, KeepsFieldRules}
 use Rattle.et_linked.proofs.Files.{IsWellField, well_fields, constant_by, static_fields, static_constants}
+use Rattle.et_linked.proofs.PromisedFiles.{found}
 
 -- TYPES
 
@@ -69,9 +71,6 @@ string_fits type bytes h = ap (λ (t : List ℕ). is_of_kind (operand_kind t) Nu
 
 -- ENTRIES of the pool
 
-nothing : (k : LoadedConstant) → None ≡ Some k → ⊥
-nothing k e = cc
-
 some_is : (type : List ℕ) (c k : LoadedConstant) → Some c ≡ Some k → Fits type c → Fits type k
 some_is type c k e h = subst (Fits type) (same e) h
   where
@@ -83,45 +82,31 @@ constant_in slots s = option_or (option_map AnInt (integer_of_slot s)) (option_o
 
 word_fits : (type : List ℕ) (tag : ℕ) (n : ℤ) (k : LoadedConstant) (b : Bool) → (tag == INTEGER) ≡ b → is_constant_for (Some type) tag ≡ true → option_or (option_map AnInt (if b then Some n else None)) None ≡ Some k → Fits type k
 word_fits type tag n k true t h e = some_is type (AnInt n) k e (int_fits type n (subst (λ (i : ℕ). is_constant_for (Some type) i ≡ true) (eqb-true tag INTEGER t) h))
-word_fits type tag n k false t h e = absurd (nothing k e)
+word_fits type tag n k false t h e = absurd (none-some k e)
 
 wide_fits : (type : List ℕ) (tag : ℕ) (n : ℤ) (k : LoadedConstant) (b : Bool) → (tag == LONG) ≡ b → is_constant_for (Some type) tag ≡ true → option_or (option_map ALong (if b then Some n else None)) None ≡ Some k → Fits type k
 wide_fits type tag n k true t h e = some_is type (ALong n) k e (long_fits type n (subst (λ (i : ℕ). is_constant_for (Some type) i ≡ true) (eqb-true tag LONG t) h))
-wide_fits type tag n k false t h e = absurd (nothing k e)
+wide_fits type tag n k false t h e = absurd (none-some k e)
 
 name_fits : (type : List ℕ) (tag : ℕ) (o : Option (List ℕ)) (k : LoadedConstant) (b : Bool) → (tag == STRING) ≡ b → is_constant_for (Some type) tag ≡ true → option_map AString (if b then o else None) ≡ Some k → Fits type k
-name_fits type tag None k true t h e = absurd (nothing k e)
+name_fits type tag None k true t h e = absurd (none-some k e)
 name_fits type tag (Some bytes) k true t h e = some_is type (AString bytes) k e (string_fits type bytes (subst (λ (i : ℕ). is_constant_for (Some type) i ≡ true) (eqb-true tag STRING t) h))
-name_fits type tag o k false t h e = absurd (nothing k e)
+name_fits type tag o k false t h e = absurd (none-some k e)
 
 slot_fits : (slots : List (Option Item)) (type : List ℕ) (s : Option Item) (k : LoadedConstant) → is_constant_for (Some type) (tag_of_slot s) ≡ true → constant_in slots s ≡ Some k → Fits type k
-slot_fits slots type None k h e = absurd (nothing k e)
-slot_fits slots type (Some (Text bytes)) k h e = absurd (nothing k e)
+slot_fits slots type None k h e = absurd (none-some k e)
+slot_fits slots type (Some (Text bytes)) k h e = absurd (none-some k e)
 slot_fits slots type (Some (Word tag bits)) k h e = word_fits type tag _ k (tag == INTEGER) refl h e
 slot_fits slots type (Some (Wide tag bits)) k h e = wide_fits type tag _ k (tag == LONG) refl h e
 slot_fits slots type (Some (Name tag index)) k h e = name_fits type tag (utf8_at slots index) k (tag == STRING) refl h e
-slot_fits slots type (Some (Pair tag first second)) k h e = absurd (nothing k e)
-slot_fits slots type (Some (Handle kind index)) k h e = absurd (nothing k e)
+slot_fits slots type (Some (Pair tag first second)) k h e = absurd (none-some k e)
+slot_fits slots type (Some (Handle kind index)) k h e = absurd (none-some k e)
 
 entry_fits : (slots : List (Option Item)) (type : Option (List ℕ)) (i : ℕ) (k : LoadedConstant) → is_constant_for type (tag_at slots i) ≡ true → constant_at slots i ≡ Some k → Fits (or_empty type) k
 entry_fits slots None i k h e = absurd (false≢true h)
 entry_fits slots (Some type) i k h e = slot_fits slots type (slot_at slots i) k h e
 
 -- FIELDS
-
-found : {X : Type 0} (t : X → Bool) (Q : X → Type 0) (xs : List X) → All (λ x. t x ≡ true → Q x) xs → (a : X) → find t xs ≡ Some a → Q a
-found t Q [] h a e = absurd (none e)
-  where
-    none : None ≡ Some a → ⊥
-    none q = cc
-found {X} t Q (x ∷ xs) h a e = by (t x) refl (found t Q xs (All-tail (λ z. t z ≡ true → Q z) x xs h) a) e
-  where
-    same : Some x ≡ Some a → x ≡ a
-    same q = cc
-
-    by : (b : Bool) → t x ≡ b → (find t xs ≡ Some a → Q a) → cond b (Some x) (find t xs) ≡ Some a → Q a
-    by true y rest q = subst Q (same q) (All-head (λ z. t z ≡ true → Q z) x xs h y)
-    by false n rest q = rest q
 
 if_true : (b : Bool) (n m : ℕ) → b ≡ true → (if b then n else m) ≡ n
 if_true true n m e = refl
