@@ -1,3 +1,4 @@
+mod Interfaces
 pub mod Lists
 pub mod Classes
 pub mod Elements

@@ -37,7 +37,7 @@ use Rattle.et_event.specs.Sound.{HasField, IsSoundObject}
 use Rattle.et_heap.specs.Objects.{new_object}
 use Rattle.et_event.specs.Programs.{HasInstanceField, HasSlots, KeepsFree, IsTarget, KeepsTarget, HasMachineSlots}
 use Rattle.et_event.specs.Interfaces.{KnowsInterfaces}
-use Rattle.et_linked.specs.Interfaces.{HaveStaticFields}
+use Rattle.et_linked.proofs.Interfaces.{HaveStaticFields}
 use Rattle.et_program.proofs.Standing.{place_in_set}
 use Rattle.et_linked.proofs.PlacesAbove.{link_at}
 use Rattle.et_linked.proofs.BuiltIn.{boot_place}

@@ -13,7 +13,7 @@ use Rattle.et_program.specs.LinkFaults.{IsLinkable}
 use Rattle.et_program.specs.ProgramOf.{class_names_of, program_with, IsProgramOf}
 use Rattle.et_link.proofs.TabledLemmas.{methods_within}
 use Rattle.et_linked.specs.ClassNames.{HasClassName}
-use Rattle.et_linked.specs.Interfaces.{HaveStaticFields}
+use Rattle.et_linked.proofs.Interfaces.{HaveStaticFields}
 use Rattle.et_linked.proofs.Making.{makes_sound, errors_hold}
 use Rattle.et_linked.proofs.Names.{has_class_name}
 use Rattle.et_linked.proofs.Slotted.{has_slots}

@@ -35,7 +35,7 @@ use Rattle.et_event.specs.Kinds.{is_array_element}
 use Rattle.et_event.specs.Operands.{operand_kind}
 use Rattle.et_event.specs.Sound.{is_of_kind, kind_of_element, slots_by, HasField, IsSoundObject}
 use Rattle.et_event.specs.Programs.{HasInstanceField, HasSlots}
-use Rattle.et_linked.specs.Interfaces.{HaveStaticFields}
+use Rattle.et_linked.proofs.Interfaces.{HaveStaticFields}
 use Rattle.et_linked.proofs.PlacesAbove.{NoField}
 use Rattle.et_linked.proofs.Arguments.{no_field_of}
 use Rattle.et_linked.proofs.BuiltIn.{object_fieldless, cloneable_fieldless, serializable_fieldless}

@@ -23,7 +23,7 @@ use Rattle.et_program.proofs.DeclaredFields.{all_fields}
 use Rattle.et_program.specs.ProgramOf.{program_with, IsProgramOf}
 use Rattle.et_program.specs.Slots.{slots_above}
 use Rattle.et_link.proofs.TabledLemmas.{length-placed, fields_within}
-use Rattle.et_linked.specs.Interfaces.{HaveStaticFields}
+use Rattle.et_linked.proofs.Interfaces.{HaveStaticFields}
 use Rattle.et_linked.proofs.Counts.{placed_at}
 use Rattle.et_linked.proofs.Places.{at_map, at_mapped}
 use Rattle.et_linked.specs.Fields.{HasStaticFields}

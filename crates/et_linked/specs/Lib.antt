@@ -2,4 +2,3 @@ pub mod Fields
 pub mod Rules
 pub mod Programs
 pub mod ClassNames
-pub mod Interfaces
