@@ -75,7 +75,7 @@ impl Locals {
         requires few { count < 2 ^ 16 }
         ensures { IfOk result (λ l. l ≡ with_free count entries.now) }
     {
-        let mut held = Vec::new(alloc);
+        let mut held = Vec::with_capacity(alloc, entries.len())?;
         for i in 0..entries.len() {
             held.push(Held {
                 local: i as u16,
@@ -89,7 +89,7 @@ impl Locals {
     pub(crate) fn copied(&self, alloc: Global) -> Result<Self, NoMemory>
         ensures { IfOk result (λ l. l ≡ self.now) }
     {
-        let held = self.held.iter().copied().collect(alloc)?;
+        let held = Vec::from_slice(alloc, &self.held)?;
         Ok(Locals {
             count: self.count,
             held,

@@ -109,7 +109,7 @@ impl Types {
     pub fn copied(&self, alloc: Global) -> Result<Self, NoMemory>
         ensures { IfOk result (λ t. t ≡ self.now) }
     {
-        let operands = self.operands.iter().copied().collect(alloc)?;
+        let operands = Vec::from_slice(alloc, &self.operands)?;
         let locals = self.locals.copied(alloc)?;
         Ok(Types { operands, locals })
     }
