@@ -37,16 +37,12 @@ none_in (suc n) (suc pc) found = none_in n pc found
 pub none_there : (n : ℕ) (found : List TypesOf) (slots : List ℕ) → slots ≡ replicate n 0 → (pc : ℕ) → types_at (shown found slots) pc ≡ None
 none_there n found slots e pc = ap (λ (xs : List ℕ). types_at (shown found xs) pc) e ∙ none_in n pc found
 
--- TYPES ARE PUT at the end
+-- MORE TYPES at the end
 
 get_kept : (found : List TypesOf) (ts : TypesOf) (k : ℕ) → k < length found → slice_get (found ++ ts ∷ []) k ≡ slice_get found k
 get_kept [] ts k lt = absurd (omega (arith, lt))
 get_kept (x ∷ found) ts zero lt = refl
 get_kept (x ∷ found) ts (suc k) lt = get_kept found ts k (omega (arith, lt))
-
-get_last : (found : List TypesOf) (ts : TypesOf) → slice_get (found ++ ts ∷ []) (length found) ≡ Some ts
-get_last [] ts = refl
-get_last (x ∷ found) ts = get_last found ts
 
 in_kept : (found : List TypesOf) (ts : TypesOf) (s : ℕ) → s ≤ length found → in_slot (found ++ ts ∷ []) s ≡ in_slot found s
 in_kept found ts zero le = refl
@@ -61,21 +57,6 @@ same_found (x ∷ xs) (y ∷ ys) e f = ap (λ (z : Option TypesOf). z ∷ xs) (f
 
 pub long_shown : (found : List TypesOf) (slots : List ℕ) → length (shown found slots) ≡ length slots
 long_shown found slots = length-map slots (in_slot found)
-
-pub put_in : (found : List TypesOf) (slots : List ℕ) (pc : ℕ) (ts : TypesOf) → pc < length slots → AreApart slots (length found) → shown (found ++ ts ∷ []) (set slots pc (length found + 1)) ≡ set (shown found slots) pc (Some ts)
-put_in found slots pc ts lt a =
-    let last : length found + 1 ≡ suc (length found) = omega arith in
-    let long : length (shown (found ++ ts ∷ []) (set slots pc (length found + 1))) ≡ length slots = long_shown (found ++ ts ∷ []) (set slots pc (length found + 1)) ∙ length-set slots pc (length found + 1) in
-    let long' : length (set (shown found slots) pc (Some ts)) ≡ length slots = length-set (shown found slots) pc (Some ts) ∙ long_shown found slots in
-    same_found (shown (found ++ ts ∷ []) (set slots pc (length found + 1))) (set (shown found slots) pc (Some ts)) (long ∙ sym long')
-    (λ q _. found_in (found ++ ts ∷ []) (set slots pc (length found + 1)) q ∙ elim (cases_eq q pc) [
-      | inl same ↦ subst (λ (k : ℕ). in_slot (found ++ ts ∷ []) (slot_at (set slots pc (length found + 1)) k) ≡ types_at (set (shown found slots) pc (Some ts)) k) (sym same)
-          (ap (in_slot (found ++ ts ∷ [])) (get_or-set_same slots pc (length found + 1) 0 lt ∙ last)
-          ∙ (get_last found ts ∙ sym (get_or-set_same (shown found slots) pc (Some ts) None (omega (arith, lt, long_shown found slots)))))
-      | inr ne ↦ ap (in_slot (found ++ ts ∷ [])) (get_or-set_other slots pc q (length found + 1) 0 ne)
-          ∙ (in_kept found ts (slot_at slots q) (a.there q)
-          ∙ (sym (found_in found slots q) ∙ sym (get_or-set_other (shown found slots) pc q (Some ts) None ne)))
-    ])
 
 pub put_apart : (slots : List ℕ) (pc count : ℕ) → pc < length slots → AreApart slots count → AreApart (set slots pc (count + 1)) (count + 1)
 put_apart slots pc count lt a =
@@ -126,6 +107,35 @@ change_in found slots pc k us lt e a =
       | inr ne ↦ in_set_there found k (slot_at slots q) us (λ f. ne (sym (a.apart pc q (omega (arith, e)) (e ∙ sym f))))
           ∙ (sym (found_in found slots q) ∙ sym (get_or-set_other (shown found slots) pc q (Some us) None ne))
     ])
+
+-- .. or over those that are of no place
+
+in_set_below : (found : List TypesOf) (k s : ℕ) (us : TypesOf) → s ≤ k → in_slot (set found k us) s ≡ in_slot found s
+in_set_below found k s us le = in_set_there found k s us (λ e. omega (arith, le, e))
+
+pub put_over : (found : List TypesOf) (slots : List ℕ) (pc used : ℕ) (ts : TypesOf) → pc < length slots → used < length found → AreApart slots used → shown (set found used ts) (set slots pc (used + 1)) ≡ set (shown found slots) pc (Some ts)
+put_over found slots pc used ts lt room a =
+    let last : used + 1 ≡ suc used = omega arith in
+    let long : length (shown (set found used ts) (set slots pc (used + 1))) ≡ length slots = long_shown (set found used ts) (set slots pc (used + 1)) ∙ length-set slots pc (used + 1) in
+    let long' : length (set (shown found slots) pc (Some ts)) ≡ length slots = length-set (shown found slots) pc (Some ts) ∙ long_shown found slots in
+    same_found (shown (set found used ts) (set slots pc (used + 1))) (set (shown found slots) pc (Some ts)) (long ∙ sym long')
+    (λ q _. found_in (set found used ts) (set slots pc (used + 1)) q ∙ elim (cases_eq q pc) [
+      | inl same ↦ subst (λ (k : ℕ). in_slot (set found used ts) (slot_at (set slots pc (used + 1)) k) ≡ types_at (set (shown found slots) pc (Some ts)) k) (sym same)
+          (ap (in_slot (set found used ts)) (get_or-set_same slots pc (used + 1) 0 lt ∙ last)
+          ∙ (get_set_here found used ts room ∙ sym (get_or-set_same (shown found slots) pc (Some ts) None (omega (arith, lt, long_shown found slots)))))
+      | inr ne ↦ ap (in_slot (set found used ts)) (get_or-set_other slots pc q (used + 1) 0 ne)
+          ∙ (in_set_below found used (slot_at slots q) ts (a.there q)
+          ∙ (sym (found_in found slots q) ∙ sym (get_or-set_other (shown found slots) pc q (Some ts) None ne)))
+    ])
+
+-- .. which leave what is found as it was
+pub more_shown : (found : List TypesOf) (slots : List ℕ) (ts : TypesOf) → AreApart slots (length found) → shown (found ++ ts ∷ []) slots ≡ shown found slots
+more_shown found slots ts a =
+    same_found (shown (found ++ ts ∷ []) slots) (shown found slots) (long_shown (found ++ ts ∷ []) slots ∙ sym (long_shown found slots))
+    (λ q _. found_in (found ++ ts ∷ []) slots q ∙ (in_kept found ts (slot_at slots q) (a.there q) ∙ sym (found_in found slots q)))
+
+pub apart_within : (slots : List ℕ) (used count : ℕ) → used ≤ count → AreApart slots used → AreApart slots count
+apart_within slots used count le a = record { there = λ place. omega (arith, le, a.there place); apart = a.apart }
 
 -- TYPES THAT JOIN with those in a slot
 

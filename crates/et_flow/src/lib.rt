@@ -7,5 +7,5 @@ mod search;
 mod states;
 mod types;
 
-pub use search::{Flow, Lead, find_typing};
+pub use search::{Flow, Lead, Search, find_typing};
 pub use types::{EntryType, Types};

@@ -156,9 +156,65 @@ fn follow<F: Flow>(
     Ok(true)
 }
 
+/// What one search leaves to the next one: its room.
+#[derive(Drop)]
+pub struct Search {
+    states: States,
+    work: Vec<u32>,
+    types: Types,
+    lead: Lead,
+}
+
+impl Search {
+    /// No search was made yet.
+    pub fn new(alloc: Global) -> Result<Self, NoMemory> {
+        let types = Types::first(alloc, &[], 0)?;
+        let lead = Lead::nowhere(alloc)?;
+        Ok(Search {
+            states: States::new(alloc),
+            work: Vec::new(alloc),
+            types,
+            lead,
+        })
+    }
+}
+
+/// Whether code has a typing, of which it begins with these types. Nothing was found yet, and the places of the states are those
+/// of the code.
+fn search_all<F: Flow>(
+    alloc: Global,
+    flow: &F,
+    entry: &Types,
+    states: &mut States,
+    work: &mut Vec<u32>,
+    types: &mut Types,
+    lead: &mut Lead,
+) -> Result<bool, NoMemory>
+    requires some { 0 < length states.old }
+    requires few { length states.old < 2 ^ 32 }
+    requires none { (pc : ℕ) → types_at states.old pc ≡ None }
+    requires idle { work.old.items ≡ [] }
+    requires within { IsWithin (length states.old) (λ pc ts. F.leads pc flow.now ts) }
+    requires monotone { IsMonotone (λ pc ts. F.leads pc flow.now ts) }
+    requires straight { IsStraight (λ pc ts. F.leads pc flow.now ts) (λ q. F.straight q flow.now) }
+    ensures found { IfOk result (λ b. b ≡ true → HasTyping (λ pc ts. F.leads pc flow.now ts) entry.now) }
+    ensures none { IfOk result (λ b. b ≡ false → HasTyping (λ pc ts. F.leads pc flow.now ts) entry.now → ⊥) }
+{
+    if !join_at(alloc, states, work, 0, entry)? {
+        return Ok(false);
+    }
+    while let Some(place) = work.pop() {
+        if !follow(alloc, flow, states, work, place, types, lead)? {
+            return Ok(false);
+        }
+    }
+    Ok(true)
+}
+
 /// Whether code of so many places has a typing, of which it begins with these types.
 pub fn find_typing<F: Flow>(
     alloc: Global,
+    search: &mut Search,
     flow: &F,
     count: usize,
     entry: &Types,
@@ -171,25 +227,16 @@ pub fn find_typing<F: Flow>(
     ensures found { IfOk result (λ b. b ≡ true → HasTyping (λ pc ts. F.leads pc flow.now ts) entry.now) }
     ensures none { IfOk result (λ b. b ≡ false → HasTyping (λ pc ts. F.leads pc flow.now ts) entry.now → ⊥) }
 {
-    let mut states = States::new(alloc, count)?;
-    let mut work = Vec::new(alloc);
-    if !join_at(alloc, &mut states, &mut work, 0, entry)? {
-        return Ok(false);
-    }
-    let mut types = entry.copied(alloc)?;
-    let mut lead = Lead::nowhere(alloc)?;
-    while let Some(place) = work.pop() {
-        if !follow(
-            alloc,
-            flow,
-            &mut states,
-            &mut work,
-            place,
-            &mut types,
-            &mut lead,
-        )? {
-            return Ok(false);
-        }
-    }
-    Ok(true)
+    search.states.begin(count)?;
+    search.work.clear();
+    let found = search_all(
+        alloc,
+        flow,
+        entry,
+        &mut search.states,
+        &mut search.work,
+        &mut search.types,
+        &mut search.lead,
+    )?;
+    Ok(found)
 }

@@ -3,6 +3,7 @@ ghost use Rattle.std.specs.Prelude.{◌≡◌, ℕ, ◌<◌, ◌≤◌, ◌++◌
 ghost use Rattle.et_flow.specs.declared.states.Joined.TheVariants as outcome;
 ghost use Rattle.et_flow.specs.Flows.{types_at, IsJoinable};
 ghost use Rattle.et_flow.specs.Searching.{HasJoined};
+ghost use Rattle.et_flow.specs.Slots.{shown, AreApart};
 
 use crate::types::Types;
 use et_base::NoMemory;
@@ -20,15 +21,20 @@ pub(crate) enum Joined {
     Changed,
 }
 
-/// The types found at places. Only the places at which something was found take room for types.
+/// For how many places the room of the types stays for the next search.
+const KEPT: usize = 64;
+
+/// The types found at places. Only the places at which something was found take room for types: the first of `found` are
+/// theirs, and those behind are of no place.
 #[derive(Drop)]
 pub(crate) struct States {
     slots: Vec<usize>,
     found: Vec<Types>,
+    used: usize,
 }
 
 impl Model for States {
-    ghost use Rattle.std.specs.Prelude.{List, Option, length};
+    ghost use Rattle.std.specs.Prelude.{◌≤◌, List, Option, length};
     ghost use Rattle.et_flow.specs.Types.{TypesOf};
     ghost use Rattle.et_flow.specs.Slots.{shown, AreApart};
 
@@ -36,20 +42,44 @@ impl Model for States {
 
     ghost view = { λ s. shown s.found.items s.slots.items };
 
-    ghost invariant = { λ s. AreApart s.slots.items (length s.found.items) };
+    ghost invariant = { λ s. AreApart s.slots.items s.used × (s.used ≤ length s.found.items) };
+}
+
+/// Makes room for the types of one more place than have some.
+fn make_room(alloc: Global, found: &mut Vec<Types>, used: usize) -> Result<(), NoMemory>
+    requires { used ≤ length found.old.items }
+    ensures room { OnOk result (used < length found.new.items) }
+    ensures kept { OnOk result ((slots : List ℕ) → AreApart slots used →
+        shown found.new.items slots ≡ shown found.old.items slots) }
+    ensures long { length found.old.items ≤ length found.new.items }
+{
+    if used == found.len() {
+        let none = Types::first(alloc, &[], 0)?;
+        found.push(none)?;
+    }
+    Ok(())
 }
 
 impl States {
-    /// Nothing was found at so many places.
-    pub(crate) fn new(alloc: Global, count: usize) -> Result<Self, NoMemory>
-        ensures long { IfOk result (λ s. length s ≡ count) }
-        ensures none { IfOk result (λ s. (pc : ℕ) → types_at s pc ≡ None) }
-    {
-        let slots = vec![in alloc; 0; count]?;
-        Ok(States {
-            slots,
+    /// There are no places.
+    pub(crate) fn new(alloc: Global) -> Self {
+        States {
+            slots: Vec::new(alloc),
             found: Vec::new(alloc),
-        })
+            used: 0,
+        }
+    }
+
+    /// Nothing was found at so many places.
+    pub(crate) fn begin(&mut self, count: usize) -> Result<(), NoMemory>
+        ensures long { OnOk result (length self.new ≡ count) }
+        ensures none { OnOk result ((pc : ℕ) → types_at self.new pc ≡ None) }
+    {
+        self.used = 0;
+        self.found.truncate(KEPT);
+        self.slots.clear();
+        self.slots.resize(count, 0)?;
+        Ok(())
     }
 
     /// Makes types those that were found at a place. `false` where nothing was.
@@ -72,9 +102,10 @@ impl States {
         requires none { types_at self.old place ≡ None }
         ensures { OnOk result (self.new ≡ slice_set self.old place (Some types.now)) }
     {
-        let types = types.copied(alloc)?;
-        self.found.push(types)?;
-        self.slots[place as usize] = self.found.len();
+        make_room(alloc, &mut self.found, self.used)?;
+        self.found[self.used].copy_from(types)?;
+        self.used += 1;
+        self.slots[place as usize] = self.used;
         Ok(())
     }
 

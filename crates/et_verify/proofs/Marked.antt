@@ -1,6 +1,6 @@
 -- The places of instructions, and their targets, are flagged one after another.
-use Rattle.std.proofs.Common.{◌≡◌, ℕ, ◌<◌, Bool, true, false, List, length, set, get_or, map, refl, sym, ◌∙◌, ap, subst, inl, inr, arith, get_or-set_other}
-use Rattle.std.specs.Prelude.{Result, Ok, Err, Option, Some, None, option_map}
+use Rattle.std.proofs.Common.{◌≡◌, ℕ, ◌<◌, Bool, true, false, List, length, set, map, refl, sym, ◌∙◌, subst, inl, inr, arith, get_or-set_other}
+use Rattle.std.specs.Prelude.{Result, Ok, Err, Some, None, option_map}
 use Rattle.std.specs.Result.{result_ok}
 use Rattle.std.proofs.lemmas.Bool.{cases_eq}
 use Rattle.et_code.specs.declared.instr.Instr.{Instr}
@@ -8,8 +8,7 @@ use Rattle.et_code.specs.declared.instr.CodeFault.{CodeFault}
 use Rattle.et_code.specs.Decoding.{instruction_at}
 use Rattle.et_code.specs.Rules.{flag, offsets}
 use Rattle.et_code.specs.Starts.{is_start}
-use Rattle.et_code.proofs.Decoded.{decoded_fits}
-use Rattle.et_code.proofs.Starting.{Flagged, flags_more, flags_last}
+use Rattle.et_code.proofs.Starting.{Flagged, flags_last}
 use Rattle.et_event.specs.Sites.{target}
 use Rattle.et_verify.specs.Targets.{KeepsFlags, AreFlagged, place_behind}
 

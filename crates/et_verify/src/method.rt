@@ -16,13 +16,13 @@ ghost use Rattle.et_verify.specs.Typings.{parameter_entries, argument_entries, l
 use crate::leads::{catching_rows, find_handlers, is_flagged, may_enter, may_go, next_places};
 use crate::rows::step;
 use crate::simple::instruction_at;
-use crate::targets::marks_of;
+use crate::targets::mark_method;
 use et_base::numbers::{u8_at, u16_at};
 use et_base::{MethodId, NoMemory};
 use et_class::flags::{STATIC, has};
 use et_code::{RawCode, TableRow};
 use et_event::{Operand, row_of};
-use et_flow::{EntryType, Flow, Lead, Types, find_typing};
+use et_flow::{EntryType, Flow, Lead, Search, Types, find_typing};
 use et_parts::{Place, code_of};
 use et_pool::{CallShape, Returned};
 use et_program::{MethodInfo, Program};
@@ -148,22 +148,22 @@ fn push_parameter(locals: &mut Vec<EntryType>, kind: Option<Operand>) -> Result<
     Ok(())
 }
 
-/// The local variables of the receiver, if there is one, and of parameters of these kinds.
-fn arguments_of(
-    alloc: Global,
+/// Makes types the local variables of the receiver, if there is one, and of parameters of these kinds.
+fn put_arguments(
+    locals: &mut Vec<EntryType>,
     is_static: bool,
     kinds: &[Option<Operand>],
-) -> Result<Vec<EntryType>, NoMemory>
-    ensures { IfOk result (λ r. r.items ≡ argument_entries is_static kinds.now) }
+) -> Result<(), NoMemory>
+    ensures { OnOk result (locals.new.items ≡ argument_entries is_static kinds.now) }
 {
-    let mut locals = Vec::new(alloc);
+    locals.clear();
     if !is_static {
         locals.push(EntryType::Reference)?;
     }
     for kind in kinds {
-        push_parameter(&mut locals, *kind)?;
+        push_parameter(locals, *kind)?;
     }
-    Ok(locals)
+    Ok(())
 }
 
 /// Whether a method is entered without a receiver: it is static, or named `<clinit>`.
@@ -177,6 +177,7 @@ fn has_no_receiver(info: &MethodInfo) -> bool
 /// The types with which a method begins; `None` where its arguments are more than its local variables.
 fn first_types(
     alloc: Global,
+    arguments: &mut Vec<EntryType>,
     is_static: bool,
     kinds: &[Option<Operand>],
     count: usize,
@@ -188,17 +189,42 @@ fn first_types(
     ensures none { IfOk result (λ r. IfNone r
         (count < length (argument_entries is_static kinds.now))) }
 {
-    let arguments = arguments_of(alloc, is_static, kinds)?;
+    put_arguments(arguments, is_static, kinds)?;
     if arguments.len() > count {
         return Ok(None);
     }
-    let types = Types::first(alloc, &arguments, count)?;
+    let types = Types::first(alloc, arguments, count)?;
     Ok(Some(types))
+}
+
+/// What is kept from one method to the next: the room of its flags, its arguments and the search.
+#[derive(Drop)]
+pub(crate) struct Room {
+    starts: Vec<bool>,
+    targets: Vec<bool>,
+    places: Vec<u32>,
+    arguments: Vec<EntryType>,
+    search: Search,
+}
+
+impl Room {
+    /// Nothing is kept yet.
+    pub(crate) fn new(alloc: Global) -> Result<Self, NoMemory> {
+        let search = Search::new(alloc)?;
+        Ok(Room {
+            starts: Vec::new(alloc),
+            targets: Vec::new(alloc),
+            places: Vec::new(alloc),
+            arguments: Vec::new(alloc),
+            search,
+        })
+    }
 }
 
 /// Whether a method with code has a typing.
 fn code_has_typing(
     alloc: Global,
+    room: &mut Room,
     program: &Program,
     method: MethodId,
     shape: &CallShape,
@@ -214,10 +240,24 @@ fn code_has_typing(
 {
     let info = program.method(method);
     let count = code.max_locals as usize;
-    let Some(entry) = first_types(alloc, has_no_receiver(info), shape.kinds(), count)? else {
+    let arguments = &mut room.arguments;
+    let Some(entry) = first_types(
+        alloc,
+        arguments,
+        has_no_receiver(info),
+        shape.kinds(),
+        count,
+    )?
+    else {
         return Ok(false);
     };
-    let marks = marks_of(alloc, &code.code, &code.table)?;
+    mark_method(
+        &mut room.starts,
+        &mut room.targets,
+        &mut room.places,
+        &code.code,
+        &code.table,
+    )?;
     let handling = catching_rows(alloc, program, program.pool(info.class), &code.table)?;
     let flow = MethodFlow {
         program,
@@ -226,16 +266,17 @@ fn code_has_typing(
         code,
         returned: shape.returned(),
         handling: &handling,
-        starts: &marks.starts,
-        targets: &marks.targets,
+        starts: &room.starts,
+        targets: &room.targets,
     };
-    let found = find_typing(alloc, &flow, code.code.len(), &entry)?;
+    let found = find_typing(alloc, &mut room.search, &flow, code.code.len(), &entry)?;
     Ok(found)
 }
 
 /// Whether a method has a typing, if it has code.
 pub(crate) fn has_typing(
     alloc: Global,
+    room: &mut Room,
     program: &Program,
     method: MethodId,
 ) -> Result<bool, NoMemory>
@@ -254,6 +295,6 @@ pub(crate) fn has_typing(
         return Ok(false);
     };
     let _few = code_of(info);
-    let found = code_has_typing(alloc, program, method, shape, code.raw())?;
+    let found = code_has_typing(alloc, room, program, method, shape, code.raw())?;
     Ok(found)
 }

@@ -13,7 +13,6 @@ use crate::leads::push_targets;
 use crate::simple::simple_at;
 use et_base::NoMemory;
 use et_code::{TableRow, decode};
-use std::alloc::Global;
 
 /// Flags a place, where the code has it.
 fn mark(flags: &mut [bool], place: u32)
@@ -63,27 +62,33 @@ fn mark_targets(
     Ok(Some(next))
 }
 
-/// Flags the targets of all instructions, and answers a flag for each place of the code: whether an instruction begins there.
-fn mark_code(alloc: Global, flags: &mut [bool], code: &[u8]) -> Result<Vec<bool>, NoMemory>
+/// Flags the targets of all instructions in `flags`, and makes `starts` a flag for each place of the code: whether an instruction
+/// begins there. The targets of each instruction are put into `targets` first.
+fn mark_code(
+    flags: &mut [bool],
+    starts: &mut Vec<bool>,
+    targets: &mut Vec<u32>,
+    code: &[u8],
+) -> Result<(), NoMemory>
     requires few { length code.now < 2 ^ 16 }
     ensures kept { OnOk result (KeepsFlags flags.old flags.new) }
-    ensures starts { IfOk result (λ starts. (place : ℕ) →
-        flag starts.items place ≡ is_start code.now place) }
-    ensures marked { IfOk result (λ starts. (pc : ℕ) (i : InstrOf) (next : ℕ) →
-        flag starts.items pc ≡ true → instruction_at code.now pc ≡ Ok (i, next) →
+    ensures starts { OnOk result ((place : ℕ) →
+        flag starts.new.items place ≡ is_start code.now place) }
+    ensures marked { OnOk result ((pc : ℕ) (i : InstrOf) (next : ℕ) →
+        flag starts.new.items pc ≡ true → instruction_at code.now pc ≡ Ok (i, next) →
         AreFlagged flags.new (map (target_at pc) (offsets code.now i))) }
 {
-    let mut starts = vec![in alloc; false; code.len()]?;
-    let mut targets = Vec::new(alloc);
+    starts.clear();
+    starts.resize(code.len(), false)?;
     let mut pc = 0;
     while pc < code.len() {
         starts[pc] = true;
-        let Some(next) = mark_targets(flags, &mut targets, code, pc as u32)? else {
-            return Ok(starts);
+        let Some(next) = mark_targets(flags, targets, code, pc as u32)? else {
+            return Ok(());
         };
         pc = next;
     }
-    Ok(starts)
+    Ok(())
 }
 
 /// Flags the handlers of an exception table.
@@ -96,24 +101,25 @@ fn mark_handlers(flags: &mut [bool], table: &[TableRow])
     }
 }
 
-/// Flags for each place of the code: whether an instruction begins there, and whether it is a target.
-#[derive(Drop)]
-pub(crate) struct Marks {
-    pub starts: Vec<bool>,
-    pub targets: Vec<bool>,
-}
-
-/// The flags of a method's code.
-pub(crate) fn marks_of(alloc: Global, code: &[u8], table: &[TableRow]) -> Result<Marks, NoMemory>
+/// Makes flags for each place of a method's code: whether an instruction begins there, and whether it is a target. `places` is
+/// room for the targets of one instruction.
+pub(crate) fn mark_method(
+    starts: &mut Vec<bool>,
+    targets: &mut Vec<bool>,
+    places: &mut Vec<u32>,
+    code: &[u8],
+    table: &[TableRow],
+) -> Result<(), NoMemory>
     requires few { length code.now < 2 ^ 16 }
-    ensures starts { IfOk result (λ marks. (place : ℕ) →
-        flag marks.starts.items place ≡ is_start code.now place) }
-    ensures targets { IfOk result (λ marks.
-        HasTargets marks.starts.items code.now table.now marks.targets.items) }
+    ensures starts { OnOk result ((place : ℕ) →
+        flag starts.new.items place ≡ is_start code.now place) }
+    ensures targets { OnOk result
+        (HasTargets starts.new.items code.now table.now targets.new.items) }
 {
-    let mut targets = vec![in alloc; false; code.len()]?;
-    mark(&mut targets, 0);
-    let starts = mark_code(alloc, &mut targets, code)?;
-    mark_handlers(&mut targets, table);
-    Ok(Marks { starts, targets })
+    targets.clear();
+    targets.resize(code.len(), false)?;
+    mark(targets, 0);
+    mark_code(targets, starts, places, code)?;
+    mark_handlers(targets, table);
+    Ok(())
 }

@@ -2,7 +2,7 @@
 ghost use Rattle.std.specs.Prelude.{◌≡◌, ◌<◌, ℕ, Err, length};
 ghost use Rattle.et_verify.specs.Verdicts.{Verifies};
 
-use crate::method::has_typing;
+use crate::method::{Room, has_typing};
 use et_base::{MethodId, NoMemory};
 use et_program::Program;
 use std::alloc::Global;
@@ -37,7 +37,7 @@ impl From<NoMemory> for VerifyFault {
 /// The time is linear in the code, but for code in which local variables lose their types on a way back: what stands between
 /// a target of branches and the next ones is looked at again as often as a local variable at the target does. The room is, at
 /// each target of the largest method, a byte for each operand and four for each local variable that was written on the way
-/// there, some 60 more, and ten for each byte of the code.
+/// there, some 60 more, and ten for each byte of the code. Methods leave the room of 64 targets at most to those behind them.
 pub fn verify(alloc: Global, program: &Program) -> Result<u32, VerifyFault>
     ensures verdict { Verifies program.now result }
     ensures within { (m : ℕ) → result ≡ Err (VerifyFault.Rejected m) →
@@ -46,9 +46,10 @@ pub fn verify(alloc: Global, program: &Program) -> Result<u32, VerifyFault>
     // A law: it tells the prover, and does nothing.
     program.is_linked();
     let methods = program.file_methods();
+    let mut room = Room::new(alloc)?;
     let mut count = 0;
     for method in methods {
-        if !has_typing(alloc, program, *method)? {
+        if !has_typing(alloc, &mut room, program, *method)? {
             return Err(VerifyFault::Rejected { method: *method });
         }
         if program.method(*method).code.is_some() {

@@ -53,12 +53,12 @@ find_typing-requires-clause-monotone c = leads_monotone c.args.program.now c.arg
 pub find_typing-requires-clause-straight : goal.find_typing-requires-clause-straight
 find_typing-requires-clause-straight c =
     let body : Body = body_of c.args.code.now in
-    let starts : List Bool = c.in_ok-marks.marks.starts.items in
-    let targets : List Bool = c.in_ok-marks.marks.targets.items in
-    let flags : (k : ℕ) → flag starts k ≡ is_start body.code k = (λ (k : ℕ). c.in_ok-marks.ensures.starts k ∙ ap (λ (bytes : List ℕ). is_start bytes k) c.deref.ensures.value) in
+    let starts : List Bool = c.mark_method.new.starts.items in
+    let targets : List Bool = c.mark_method.new.targets.items in
+    let flags : (k : ℕ) → flag starts k ≡ is_start body.code k = (λ (k : ℕ). c.in_ok-mark_method.ensures.starts k ∙ ap (λ (bytes : List ℕ). is_start bytes k) c.deref.ensures.value) in
     let marked : HasTargets starts body.code body.table targets =
     subst (λ (bytes : List ℕ). HasTargets starts bytes body.table targets) c.deref.ensures.value
-    (subst (λ (rows : List TableRow). HasTargets starts c.deref.result.now rows targets) c.deref-2.ensures.value c.in_ok-marks.ensures.targets) in
+    (subst (λ (rows : List TableRow). HasTargets starts c.deref.result.now rows targets) c.deref-2.ensures.value c.in_ok-mark_method.ensures.targets) in
     let all : IsStraight (leads_in c.args.program.now c.args.method body) (λ q. not (flag targets q)) = is_straight c.args.program.now c.args.method body starts targets flags marked c.requires.some in
     subst (λ (fs : List Bool). IsStraight (leads_in c.args.program.now c.args.method body) (λ q. not (flag fs q))) (sym c.deref-6.ensures.value) all
 
@@ -67,22 +67,22 @@ invariant_of-flow c =
     let p = c.args.program.now in
     let m : ℕ = c.args.method in
     let body : Body = body_of c.args.code.now in
-    let starts : List Bool = c.in_ok-marks.marks.starts.items in
-    let targets : List Bool = c.in_ok-marks.marks.targets.items in
+    let starts : List Bool = c.mark_method.new.starts.items in
+    let targets : List Bool = c.mark_method.new.targets.items in
     let h : HasType p m c.args.shape.now = has_type p m c.args.shape.now c.requires.shape in
     let info : c.method-info.result.now ≡ method_at p m = c.method-info.ensures.value in
     let class : c.method-info.result.now.class ≡ (method_at p m).class = ap (λ (i : MethodInfo). i.class) info in
     let pool : pool_slots (option_copied c.pool.result) ≡ pool_of_class p (method_at p m).class = pool_found p c.method-info.result.now.class (method_at p m).class (option_copied c.pool.result) c.pool.ensures class in
     let marked : HasTargets starts body.code body.table targets =
     subst (λ (bytes : List ℕ). HasTargets starts bytes body.table targets) c.deref.ensures.value
-    (subst (λ (rows : List TableRow). HasTargets starts c.deref.result.now rows targets) c.deref-2.ensures.value c.in_ok-marks.ensures.targets) in
+    (subst (λ (rows : List TableRow). HasTargets starts c.deref.result.now rows targets) c.deref-2.ensures.value c.in_ok-mark_method.ensures.targets) in
     record {
       info_is = info;
       class = search rules;
       code = c.requires.code;
       returns = search rules;
       rows = c.deref-4.ensures.value ∙ (c.in_ok-handling.ensures ∙ (ap (filter (may_catch p (pool_slots (option_copied c.pool.result)))) c.deref-3.ensures.value ∙ ap (λ (items : List (Option Item)). filter (may_catch p items) body.table) pool));
-      flags = λ k. ap (λ (fs : List Bool). flag fs k) c.deref-5.ensures.value ∙ (c.in_ok-marks.ensures.starts k ∙ ap (λ (bytes : List ℕ). is_start bytes k) c.deref.ensures.value);
+      flags = λ k. ap (λ (fs : List Bool). flag fs k) c.deref-5.ensures.value ∙ (c.in_ok-mark_method.ensures.starts k ∙ ap (λ (bytes : List ℕ). is_start bytes k) c.deref.ensures.value);
       few = c.requires.few;
       marked = subst (λ (fs : List Bool). HasTargets c.deref-5.result.now body.code body.table fs) (sym c.deref-6.ensures.value) (subst (λ (ss : List Bool). HasTargets ss body.code body.table targets) (sym c.deref-5.ensures.value) marked);
     }

@@ -1,10 +1,11 @@
-use Rattle.std.proofs.Common.{◌≡◌, ℕ, ◌<◌, true, false, List, length, get_or, sym, ap, subst, ◌∙◌, arith}
+use Rattle.std.proofs.Common.{◌≡◌, ℕ, ◌<◌, ◌≤◌, true, false, List, length, take, filter, get_or, sym, ap, subst, ◌∙◌, arith}
+use Rattle.std.proofs.lemmas.List.{take_all}
 use Rattle.std.specs.Prelude.{is_some, IsSome}
 use Rattle.et_program.specs.Entries.{method_at}
 use Rattle.et_program.specs.declared.info.MethodInfo.{MethodInfo}
 use Rattle.et_verify.specs.Typings.{HasTyping}
 use Rattle.et_verify.specs.Verdicts.{IsFirstRejected}
-use Rattle.et_verify.proofs.Verified.{has_code, next_seen, rejected_here, room_left, next_counted}
+use Rattle.et_verify.proofs.Verified.{has_code, next_seen, all_seen, rejected_here, room_left, next_counted}
 use Rattle.et_verify.proofs.verdict.verify.Goals as goal
 use Rattle.et_verify.proofs.verdict.verify.Goals.{then-is_some, else-is_some}
 
@@ -42,3 +43,11 @@ loop-method-preserved c =
         | else-is_some w ↦ omega (arith, w.count-is, c.loop-method.invariant.count, next_counted p n r false lt (some ∙ w.if-is_some.false))
       ];
     }
+
+pub returns-clause-verdict : goal.returns-clause-verdict
+returns-clause-verdict c =
+    let p = c.args.program.now in
+    let n : ℕ = c.loop-method.method-index in
+    let le : length p.file_methods ≤ n = omega (arith, c.loop-method-test.false, ap length c.file_methods-methods.ensures.value) in
+    let all : take n p.file_methods ≡ p.file_methods = take_all n p.file_methods le in
+    (all_seen p n all c.loop-method.invariant.seen, c.loop-method.invariant.count ∙ ap (λ (ms : List ℕ). length (filter (has_code p) ms)) all)

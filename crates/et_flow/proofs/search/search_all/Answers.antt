@@ -6,7 +6,7 @@ use Rattle.et_flow.specs.Flows.{LeadOf, heights}
 use Rattle.et_flow.specs.Searching.{HasJoined, Searches}
 use Rattle.et_flow.proofs.Places.{joined_among}
 use Rattle.et_flow.proofs.Rounds.{first_found, all_found}
-use Rattle.et_flow.proofs.search.find_typing.Goals as goal
+use Rattle.et_flow.proofs.search.search_all.Goals as goal
 
 none_long : {X : Type 0} (xs : List X) → length xs ≡ 0 → xs ≡ []
 none_long [] e = refl
@@ -18,18 +18,16 @@ loop-place-init g c =
     let straight : ℕ → Bool = (λ (q : ℕ). g.F.Flow.straight q c.args.flow.now) in
     let entry : TypesOf = c.args.entry.now in
     let locals : ℕ = length c.args.entry.now.locals in
-    let long : length c.in_ok-states.states ≡ c.args.count = c.in_ok-states.ensures.long in
-    let some : 0 < length c.in_ok-states.states = omega (arith, long, c.requires.some) in
     let few : length entry.locals ≤ locals = omega arith in
-    let joined : HasJoined locals c.in_ok-states.states [] 0 entry c.join_at.new.states c.join_at.new.work.items =
-    subst (λ (w : List ℕ). HasJoined locals c.in_ok-states.states w 0 entry c.join_at.new.states c.join_at.new.work.items) c.new-work.ensures.items
+    let joined : HasJoined locals c.args.states.now [] 0 entry c.join_at.new.states c.join_at.new.work.items =
+    subst (λ (w : List ℕ). HasJoined locals c.args.states.now w 0 entry c.join_at.new.states c.join_at.new.work.items) c.requires.idle
     (c.in_ok-join_at.ensures.joined c.if-not-branch.false locals few) in
     record {
-      long = omega (arith, c.in_ok-join_at.ensures.long, long);
-      searching = ((λ pc. None), first_found leads straight entry c.requires.monotone c.requires.straight c.in_ok-states.states c.join_at.new.states c.join_at.new.work.items some c.in_ok-states.ensures.none joined);
-      noted = λ q m. elim (joined_among locals c.in_ok-states.states [] 0 entry c.join_at.new.states c.join_at.new.work.items joined q m) [
+      long = c.in_ok-join_at.ensures.long;
+      searching = ((λ pc. None), first_found leads straight entry c.requires.monotone c.requires.straight c.args.states.now c.join_at.new.states c.join_at.new.work.items c.requires.some c.requires.none joined);
+      noted = λ q m. elim (joined_among locals c.args.states.now [] 0 entry c.join_at.new.states c.join_at.new.work.items joined q m) [
         | inl none ↦ absurd (omega (arith, none.1))
-        | inr same ↦ (subst (λ (k : ℕ). straight k ≡ false) same c.requires.straight.first, subst (λ (k : ℕ). k < c.args.count) same c.requires.some)
+        | inr same ↦ (subst (λ (k : ℕ). straight k ≡ false) same c.requires.straight.first, subst (λ (k : ℕ). k < length c.args.states.now) same c.requires.some)
       ];
     }
 

@@ -2,13 +2,13 @@
 use Rattle.std.proofs.Common.{◌≡◌, ◌+◌, ◌*◌, length, vec_len}
 use Rattle.et_flow.specs.Flows.{heights}
 use Rattle.et_flow.specs.Searching.{Searches, AreKept}
-use Rattle.et_flow.proofs.search.find_typing.Given as goal
+use Rattle.et_flow.proofs.search.search_all.Given as goal
 
 abbrev pub invariant-loop-place : goal.invariant-loop-place
 invariant-loop-place g l = record {
-  long : length l.states ≡ l.count;
+  long : length l.states ≡ length l.fn.states;
   searching : Searches (λ pc ts. g.F.Flow.leads pc l.flow ts) (λ q. g.F.Flow.straight q l.flow) l.entry (length l.entry.locals) l.states l.work.items;
-  noted : AreKept (λ q. g.F.Flow.straight q l.flow) l.count l.work.items;
+  noted : AreKept (λ q. g.F.Flow.straight q l.flow) (length l.fn.states) l.work.items;
 }
 
 abbrev pub decreases-loop-place : goal.decreases-loop-place
