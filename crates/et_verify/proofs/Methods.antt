@@ -1,24 +1,25 @@
 -- Where the code of a method leads, by what is found and tested at a place.
-use Rattle.std.proofs.Common.{◌≡◌, ℕ, ◌&&◌, Bool, true, false, List, [], ◌∷◌, Option, Some, None, refl, sym, ◌∙◌, ap}
-use Rattle.std.specs.Prelude.{if◌then◌else◌, filter, map}
+use Rattle.std.proofs.Common.{◌≡◌, ℕ, ℤ, ◌&&◌, Bool, true, false, List, [], ◌∷◌, ◌++◌, Option, Some, None, refl, sym, ◌∙◌, ap}
+use Rattle.std.specs.Prelude.{if◌then◌else◌, filter, map, Ok}
 use Rattle.et_code.specs.declared.body.TableRow.{TableRow}
 use Rattle.std.specs.List.{list_all}
 use Rattle.et_class.specs.Entries.{Item}
 use Rattle.et_code.specs.declared.instr.Instr.{Instr}
 use Rattle.et_code.specs.Bodies.{Body}
 use Rattle.et_code.specs.Decoding.{instruction_at}
-use Rattle.et_code.specs.Rules.{flag}
+use Rattle.et_code.specs.Rules.{flag, offsets}
 use Rattle.et_code.specs.Starts.{is_start}
 use Rattle.et_program.specs.Entries.{Linked, method_at}
-use Rattle.et_event.specs.Sites.{Site, pool_of_class}
+use Rattle.et_event.specs.Sites.{Site, pool_of_class, target}
+use Rattle.et_event.specs.Table.{row_of}
+use Rattle.et_event.specs.declared.rows.Row.{Row}
 use Rattle.et_event.specs.Sound.{returned_of}
 use Rattle.et_parts.specs.Places.{site_at}
 use Rattle.et_parts.specs.declared.places.Place.{Place}
 use Rattle.et_flow.specs.Types.{TypesOf}
-use Rattle.et_flow.specs.Flows.{LeadOf}
 use Rattle.et_verify.specs.Steps.{types_after}
 use Rattle.et_flow.specs.Types.{caught}
-use Rattle.et_verify.specs.Leads.{site_in, covers, may_catch, next_places, handlers_at}
+use Rattle.et_verify.specs.Leads.{site_in, covers, may_catch, goes_past, next_places, handlers_at}
 use Rattle.et_verify.specs.Typings.{are_starts, has_room, led, leads_by_row, leads_by, leads_in}
 use Rattle.et_verify.specs.Methods.{IsPlaceIn}
 
@@ -32,7 +33,7 @@ no_place p m body pc ts e = by (is_start body.code pc)
     by true = e
     by false = refl
 
--- WHERE THERE IS A PLACE
+-- A PLACE
 
 pub site_here : (p : Linked) (m : ℕ) (body : Body) (x : Instr × ℕ) (code : List ℕ) (pool : List (Option Item)) (class : ℕ) → code ≡ body.code → pool ≡ pool_of_class p (method_at p m).class → class ≡ (method_at p m).class
     → record { instr = x.0; next = x.1; code = code; pool = pool; class = class } ≡ site_in p m body x
@@ -41,25 +42,29 @@ site_here p m body x code pool class same_code same_pool same_class =
     ∙ (ap (λ (items : List (Option Item)). let at : Site = record { instr = x.0; next = x.1; code = body.code; pool = items; class = class } in at) same_pool
     ∙ ap (λ (k : ℕ). let at : Site = record { instr = x.0; next = x.1; code = body.code; pool = pool_of_class p (method_at p m).class; class = k } in at) same_class)
 
-abbrev led_at : Linked → ℕ → Body → ℕ → TypesOf → Place → Option TypesOf → Option LeadOf
-led_at p m body pc ts place after = led body (next_places pc (site_at place) place.row) (handlers_at p m body pc) ts after
+pub pool_here : (p : Linked) (m : ℕ) (body : Body) (pc : ℕ) (place : Place) → IsPlaceIn p m body pc place → (site_at place).pool ≡ pool_of_class p (method_at p m).class
+pool_here p m body pc place h = ap (λ (at : Site). at.pool) h.site
 
-module _ (p : Linked) (m : ℕ) (body : Body) (pc : ℕ) (ts : TypesOf) (place : Place) (start : is_start body.code pc ≡ true) (h : IsPlaceIn p m body pc place) where
-  here : leads_in p m body pc ts ≡ led_at p m body pc ts place (types_after body.max_stack (returned_of (method_at p m)) (site_at place) place.row ts)
-  here =
-      ap (λ (b : Bool). if b then leads_by p m body pc ts (instruction_at body.code pc) else None) start
-      ∙ (ap (leads_by p m body pc ts) h.decoded
-      ∙ (ap (leads_by_row p m body pc ts (place.instr, place.next)) h.row
-      ∙ ap (λ (at : Site). led body (next_places pc at place.row) (handlers_at p m body pc) ts (types_after body.max_stack (returned_of (method_at p m)) at place.row ts)) (sym h.site)))
+-- WHERE AN INSTRUCTION stands that has a row
+module _ (p : Linked) (m : ℕ) (body : Body) (pc : ℕ) (ts : TypesOf) (decoded : Instr × ℕ) (row : Row) (at : instruction_at body.code pc ≡ Ok decoded) (does : row_of decoded.0.opcode ≡ Some row) where
+  led_as : leads_by p m body pc ts (instruction_at body.code pc) ≡ led body (next_places pc (site_in p m body decoded) row) (handlers_at p m body pc) ts (types_after body.max_stack (returned_of (method_at p m)) (site_in p m body decoded) row ts)
+  led_as = ap (leads_by p m body pc ts) at ∙ ap (leads_by_row p m body pc ts decoded) does
 
-  pub not_accepted : types_after body.max_stack (returned_of (method_at p m)) (site_at place) place.row ts ≡ None → leads_in p m body pc ts ≡ None
-  not_accepted e = here ∙ ap (led_at p m body pc ts place) e
+  pub not_accepted : types_after body.max_stack (returned_of (method_at p m)) (site_in p m body decoded) row ts ≡ None → leads_by p m body pc ts (instruction_at body.code pc) ≡ None
+  not_accepted e = led_as ∙ ap (led body (next_places pc (site_in p m body decoded) row) (handlers_at p m body pc) ts) e
 
-  pub tested : (after : TypesOf) → types_after body.max_stack (returned_of (method_at p m)) (site_at place) place.row ts ≡ Some after → leads_in p m body pc ts ≡ led_at p m body pc ts place (Some after)
-  tested after e = here ∙ ap (led_at p m body pc ts place) e
+  pub accepted : (nexts : List ℕ) (after : TypesOf) → nexts ≡ next_places pc (site_in p m body decoded) row → types_after body.max_stack (returned_of (method_at p m)) (site_in p m body decoded) row ts ≡ Some after
+      → leads_by p m body pc ts (instruction_at body.code pc) ≡ led body nexts (handlers_at p m body pc) ts (Some after)
+  accepted nexts after n e =
+      led_as
+      ∙ (ap (led body (next_places pc (site_in p m body decoded) row) (handlers_at p m body pc) ts) e
+      ∙ ap (λ (xs : List ℕ). led body xs (handlers_at p m body pc) ts (Some after)) (sym n))
 
-  pub pool_here : (site_at place).pool ≡ pool_of_class p (method_at p m).class
-  pool_here = ap (λ (at : Site). at.pool) h.site
+-- a plain one goes on behind it alone
+pub plain_next : (p : Linked) (m : ℕ) (body : Body) (pc : ℕ) (decoded : Instr × ℕ) (row : Row) → goes_past row ≡ true → offsets body.code decoded.0 ≡ [] → next_places pc (site_in p m body decoded) row ≡ decoded.1 ∷ []
+plain_next p m body pc decoded row past none =
+    ap (λ (b : Bool). (if b then decoded.1 ∷ [] else []) ++ map (target pc) (offsets body.code decoded.0)) past
+    ∙ ap (λ (os : List ℤ). decoded.1 ∷ map (target pc) os) none
 
 -- THE TESTS of where it leads
 
@@ -113,16 +118,15 @@ handlers_here p m body pc handlers rows e r =
     e ∙ (ap (λ (xs : List TableRow). map (λ (x : TableRow). x.handler) (filter (covers pc) xs)) r
     ∙ ap (map (λ (x : TableRow). x.handler)) (filters_both (covers pc) (may_catch p (pool_of_class p (method_at p m).class)) body.table))
 
--- WHERE IT LEADS from a place, by what is computed there
-module _ (p : Linked) (m : ℕ) (body : Body) (pc : ℕ) (ts : TypesOf) (place : Place) (start : is_start body.code pc ≡ true) (h : IsPlaceIn p m body pc place) where
+-- WHERE IT LEADS, by what is computed there
+module _ (p : Linked) (m : ℕ) (body : Body) (pc : ℕ) (ts : TypesOf) (start : is_start body.code pc ≡ true) where
   module _ (starts : List Bool) (flags : (k : ℕ) → flag starts k ≡ is_start body.code k) (nexts handlers : List ℕ) (after : TypesOf)
-      (n : nexts ≡ next_places pc (site_at place) place.row)
       (k : handlers ≡ handlers_at p m body pc)
-      (accepts : types_after body.max_stack (returned_of (method_at p m)) (site_at place) place.row ts ≡ Some after) where
+      (stepped : leads_by p m body pc ts (instruction_at body.code pc) ≡ led body nexts (handlers_at p m body pc) ts (Some after)) where
     led_here : leads_in p m body pc ts ≡ led body nexts handlers ts (Some after)
     led_here =
-        tested p m body pc ts place start h after accepts
-        ∙ (ap (λ (xs : List ℕ). led body xs (handlers_at p m body pc) ts (Some after)) (sym n) ∙ ap (λ (xs : List ℕ). led body nexts xs ts (Some after)) (sym k))
+        ap (λ (b : Bool). if b then leads_by p m body pc ts (instruction_at body.code pc) else None) start
+        ∙ (stepped ∙ ap (λ (xs : List ℕ). led body nexts xs ts (Some after)) (sym k))
 
     pub not_going : list_all (flag starts) nexts ≡ false → leads_in p m body pc ts ≡ None
     not_going e = led_here ∙ leads_nowhere body starts flags nexts handlers ts after (first_false (list_all (flag starts) nexts) (list_all (flag starts) handlers) (has_room body.max_stack handlers) e)

@@ -1,5 +1,5 @@
 //! The places at which the code goes on behind an instruction, and the handlers that may be entered at it.
-ghost use Rattle.std.specs.Prelude.{◌&&◌, ◌≡◌, ◌+◌, ◌<◌, ◌≤◌, ◌^◌, ◌++◌, length, map, filter, int_lt, false, true, ◌⊎◌, ℕ, Contains, OnOk, IfOk, IfSome};
+ghost use Rattle.std.specs.Prelude.{◌&&◌, ◌≡◌, ◌+◌, ◌<◌, ◌≤◌, ◌^◌, ◌++◌, length, map, filter, int_lt, false, true, ◌⊎◌, ℕ, [], ◌∷◌, Contains, OnOk, IfOk, IfSome};
 ghost use Rattle.std.specs.List.{list_all};
 ghost use Rattle.std.specs.Option.{option_copied};
 ghost use Rattle.et_class.specs.Looks.{class_name_at};
@@ -110,6 +110,7 @@ fn may_turn(opcode: u8) -> bool
 }
 
 /// Adds the targets of a branch or switch, the default of a switch first.
+#[inline(never)]
 #[tactic(auto, using(std::proofs::lemmas::List::append_assoc))]
 fn push_turns(targets: &mut Vec<u32>, pc: u32, code: &[u8], instr: &Instr) -> Result<(), NoMemory>
     requires pc { pc < 2 ^ 16 }
@@ -154,6 +155,26 @@ pub(crate) fn push_targets(
         return Ok(());
     }
     push_turns(targets, pc, code, instr)
+}
+
+/// The code goes on at the place behind a plain instruction alone.
+#[inline]
+pub(crate) fn go_past(targets: &[bool], next: u32, lead: &mut Lead) -> Result<(), NoMemory>
+    ensures places { OnOk result (some_place lead.new.on ++ lead.new.nexts.items ≡ next ∷ []) }
+    ensures on { OnOk result (IfSome lead.new.on (λ q. flag targets.now q ≡ false)) }
+    ensures behind { OnOk result ((q : ℕ) → Contains lead.new.nexts.items q →
+        flag targets.now q ≡ true) }
+    ensures handlers { OnOk result (lead.new.handlers.items ≡ lead.old.handlers.items) }
+    ensures caught { OnOk result (lead.new.caught ≡ lead.old.caught) }
+{
+    lead.on = None;
+    lead.nexts.clear();
+    if is_flagged(targets, next) {
+        lead.nexts.push(next)?;
+    } else {
+        lead.on = Some(next);
+    }
+    Ok(())
 }
 
 /// The places at which the code goes on from the instruction at a place: behind it, and at the targets of a branch or switch.

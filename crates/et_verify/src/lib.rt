@@ -9,6 +9,7 @@ pub mod laws;
 mod leads;
 mod method;
 mod operands;
+mod plain;
 mod rows;
 mod simple;
 mod stack;

@@ -13,8 +13,11 @@ ghost use Rattle.et_flow.specs.Types.{TypesOf};
 ghost use Rattle.et_flow.specs.Stores.{with_free};
 ghost use Rattle.et_verify.specs.Typings.{parameter_entries, argument_entries, leads_by, HasTyping};
 
-use crate::leads::{catching_rows, find_handlers, is_flagged, may_enter, may_go, next_places};
-use crate::rows::step;
+use crate::leads::{
+    catching_rows, find_handlers, go_past, is_flagged, may_enter, may_go, next_places,
+};
+use crate::plain::plain_at;
+use crate::rows::{step, step_within};
 use crate::simple::instruction_at;
 use crate::targets::mark_method;
 use et_base::numbers::{u8_at, u16_at};
@@ -112,22 +115,88 @@ impl<'a> Flow for MethodFlow<'a> {
         if !is_flagged(self.starts, place) {
             return Ok(false);
         }
+        find_handlers(self.handling, place, types, lead)?;
+        if !self.step_at(place, types, lead)? {
+            return Ok(false);
+        }
+        if !may_go(self.starts, lead) {
+            return Ok(false);
+        }
+        if !may_enter(self.starts, lead, self.code.max_stack as usize) {
+            return Ok(false);
+        }
+        Ok(true)
+    }
+}
+
+impl<'a> MethodFlow<'a> {
+    ghost use Rattle.std.specs.Prelude.{◌≡◌, ℕ, ◌++◌, true, false, Some, None, IfOk, IfSome, Contains};
+    ghost use Rattle.et_code.specs.Decoding.{instruction_at as stands_at};
+    ghost use Rattle.et_code.specs.Rules.{flag};
+    ghost use Rattle.et_code.specs.Starts.{is_start};
+    ghost use Rattle.et_flow.specs.Flows.{some_place};
+    ghost use Rattle.et_verify.specs.Leads.{handlers_at};
+    ghost use Rattle.et_verify.specs.Typings.{leads_by, led};
+
+    /// Makes types those after the instruction at a place, and finds the places at which the code goes on. `false` where no
+    /// instruction with a row stands there, or it doesn't accept the types.
+    #[inline(never)]
+    fn step_any(&self, pc: u32, types: &mut Types, lead: &mut Lead) -> Result<bool, NoMemory>
+        requires { is_start self.now.body.code pc ≡ true }
+        ensures done { IfOk result (λ b. b ≡ true → leads_by self.now.program self.now.method
+            self.now.body pc types.old (stands_at self.now.body.code pc)
+            ≡ led self.now.body (some_place lead.new.on ++ lead.new.nexts.items)
+            (handlers_at self.now.program self.now.method self.now.body pc) types.old
+            (Some types.new)) }
+        ensures refused { IfOk result (λ b. b ≡ false → leads_by self.now.program self.now.method
+            self.now.body pc types.old (stands_at self.now.body.code pc) ≡ None) }
+        ensures on { IfOk result (λ b. b ≡ true →
+            IfSome lead.new.on (λ q. flag self.now.targets q ≡ false)) }
+        ensures turns { IfOk result (λ b. b ≡ true → (q : ℕ) → Contains lead.new.nexts.items q →
+            is_start self.now.body.code q ≡ true → flag self.now.targets q ≡ true) }
+        ensures handlers { IfOk result (λ b. b ≡ true →
+            lead.new.handlers.items ≡ lead.old.handlers.items) }
+        ensures caught { IfOk result (λ b. b ≡ true → lead.new.caught ≡ lead.old.caught) }
+    {
         let code = self.code.code.as_slice();
-        let Some(at) = place_at(self.program, self.method, self.info, code, place) else {
+        let Some(at) = place_at(self.program, self.method, self.info, code, pc) else {
             return Ok(false);
         };
-        find_handlers(self.handling, place, types, lead)?;
         let room = self.code.max_stack as usize;
         if !step(types, self.program, &at, self.returned, room)? {
             return Ok(false);
         }
-        next_places(self.targets, place, &at, lead)?;
-        if !may_go(self.starts, lead) {
+        next_places(self.targets, pc, &at, lead)?;
+        Ok(true)
+    }
+
+    /// The same, without what only instructions that are not plain have to look up.
+    #[inline]
+    fn step_at(&self, pc: u32, types: &mut Types, lead: &mut Lead) -> Result<bool, NoMemory>
+        requires { is_start self.now.body.code pc ≡ true }
+        ensures done { IfOk result (λ b. b ≡ true → leads_by self.now.program self.now.method
+            self.now.body pc types.old (stands_at self.now.body.code pc)
+            ≡ led self.now.body (some_place lead.new.on ++ lead.new.nexts.items)
+            (handlers_at self.now.program self.now.method self.now.body pc) types.old
+            (Some types.new)) }
+        ensures refused { IfOk result (λ b. b ≡ false → leads_by self.now.program self.now.method
+            self.now.body pc types.old (stands_at self.now.body.code pc) ≡ None) }
+        ensures on { IfOk result (λ b. b ≡ true →
+            IfSome lead.new.on (λ q. flag self.now.targets q ≡ false)) }
+        ensures turns { IfOk result (λ b. b ≡ true → (q : ℕ) → Contains lead.new.nexts.items q →
+            is_start self.now.body.code q ≡ true → flag self.now.targets q ≡ true) }
+        ensures handlers { IfOk result (λ b. b ≡ true →
+            lead.new.handlers.items ≡ lead.old.handlers.items) }
+        ensures caught { IfOk result (λ b. b ≡ true → lead.new.caught ≡ lead.old.caught) }
+    {
+        let Some(plain) = plain_at(self.code.code.as_slice(), pc as usize) else {
+            return self.step_any(pc, types, lead);
+        };
+        let room = self.code.max_stack as usize;
+        if !step_within(types, plain.row, &plain.instr, room)? {
             return Ok(false);
         }
-        if !may_enter(self.starts, lead, room) {
-            return Ok(false);
-        }
+        go_past(self.targets, plain.next, lead)?;
         Ok(true)
     }
 }

@@ -23,6 +23,7 @@ use et_program::Program;
 
 /// An instruction that changes nothing but the topmost frame. `false` where it doesn't accept the types; some entries may be
 /// gone then.
+#[inline]
 #[tactic(auto, using(crate::proofs::Rowing::plain_operands))]
 fn step_frame(types: &mut Types, row: FrameRow, instr: &Instr) -> Result<bool, NoMemory>
     ensures done { IfOk result (λ b. (at : Site) (bytes : List ℕ) → at.instr ≡ instr.now →
@@ -39,6 +40,26 @@ fn step_frame(types: &mut Types, row: FrameRow, instr: &Instr) -> Result<bool, N
     }
     let done = step_plain(types, row, instr)?;
     Ok(done)
+}
+
+/// The same, with so much room for operands.
+#[inline]
+#[tactic(auto, using(crate::proofs::Rowing::both_fit, crate::proofs::Rowing::one_missing, crate::proofs::Rowing::too_many))]
+pub(crate) fn step_within(
+    types: &mut Types,
+    row: FrameRow,
+    instr: &Instr,
+    room: usize,
+) -> Result<bool, NoMemory>
+    ensures done { IfOk result (λ b. (at : Site) (bytes : List ℕ) → at.instr ≡ instr.now →
+        b ≡ true → types_after room bytes at (rows.Frame row) types.old ≡ Some types.new) }
+    ensures refused { IfOk result (λ b. (at : Site) (bytes : List ℕ) → at.instr ≡ instr.now →
+        b ≡ false → types_after room bytes at (rows.Frame row) types.old ≡ None) }
+{
+    if !step_frame(types, row, instr)? {
+        return Ok(false);
+    }
+    Ok(types.depth() <= room)
 }
 
 /// A return of an operand of a kind, or of none, from a method. `false` where the method returns no such, or the operand isn't

@@ -1,8 +1,6 @@
-use Rattle.std.proofs.Common.{rules, ◌≡◌, ℕ, Some, sym, ap, ◌∙◌}
-use Rattle.std.specs.Prelude.{Ok}
+use Rattle.std.proofs.Common.{rules, ◌≡◌, Some, sym, ◌∙◌}
 use Rattle.std.specs.Int.{w8, w16}
 use Rattle.et_base.specs.Numbers.{number_at}
-use Rattle.et_code.specs.declared.instr.Instr.{Instr}
 use Rattle.et_verify.proofs.Entries.{plain_here, byte_here, short_here, with_next}
 use Rattle.et_verify.proofs.simple.simple_at.Goals as goal
 
