@@ -1,7 +1,7 @@
 //! An array as the owner of a method is Object (JVMS 5.4.3.3; 6.5, invokespecial).
 
 use crate::programs::{BEGIN, HEAD, Wanted, is_run, library};
-use et_top::Status;
+use et_files::Status;
 use std::process::Abort;
 use std::test::Fail;
 

@@ -2,8 +2,10 @@
 ghost use Rattle.std.specs.Prelude.{◌≡◌, ◌≤◌, ◌<◌};
 
 use et_base::Steps;
+use et_command::{Command, read_words};
+use et_files::Status;
 use et_io::MemSink;
-use et_top::{Command, Status, bench_run, read_words};
+use et_top::bench_run;
 use std::alloc::Global;
 use std::marker::Brand;
 use std::process::Abort;

@@ -3,10 +3,11 @@ ghost use Rattle.std.specs.Prelude.{◌≡◌, ◌<◌};
 
 use crate::commands::FIVE;
 use et_base::{NoMemory, Steps};
+use et_files::Status;
 use et_io::{MemFiles, MemSink};
 use et_models::{MarkSweep, SemiSpace};
 use et_replay::{Fed, HeapModel, Item, Kind, Policy, Report};
-use et_top::{Status, elephant};
+use et_top::elephant;
 use std::alloc::Global;
 use std::cell::Cell;
 use std::marker::Brand;

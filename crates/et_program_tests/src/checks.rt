@@ -4,7 +4,7 @@
 use crate::programs::{
     BEGIN, HEAD, Part, Program, Wanted, are_thrown, is_run, joined, library, with_main,
 };
-use et_top::Status;
+use et_files::Status;
 use std::alloc::Global;
 use std::process::Abort;
 use std::test::Fail;

@@ -1,8 +1,8 @@
 //! Each exception and error that the machine itself throws: caught by a handler of its class, and the end of its thread.
 
 use crate::programs::{BEGIN, HEAD, Part, Program, Wanted, are_thrown, is_run, joined, library};
+use et_files::Status;
 use et_io::MemFiles;
-use et_top::Status;
 use std::alloc::Global;
 use std::process::Abort;
 use std::test::Fail;

@@ -3,8 +3,9 @@
 use crate::first_path::BOX;
 use crate::runs::{answer, is_answered, words_of};
 use crate::traces::{BAD, Row, USE, USE_TRACE, are_answered, files_of};
+use et_files::Status;
 use et_io::{Files, Found, GatheringMemSink, MemFiles, MemSink};
-use et_top::{Status, run_process};
+use et_top::run_process;
 use std::alloc::Global;
 use std::process::Abort;
 use std::test::Fail;

@@ -2,8 +2,8 @@
 ghost use Rattle.std.specs.Prelude.{◌≤◌};
 
 use crate::runs::{answer, is_answered};
+use et_files::Status;
 use et_io::{MemFiles, MemSink};
-use et_top::Status;
 use std::alloc::Global;
 use std::test::Fail;
 

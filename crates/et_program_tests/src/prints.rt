@@ -3,8 +3,8 @@
 
 use crate::runs::is_answered;
 use et_asm::assemble;
+use et_files::Status;
 use et_io::MemFiles;
-use et_top::Status;
 use std::alloc::Global;
 use std::process::Abort;
 use std::test::Fail;

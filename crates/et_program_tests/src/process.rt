@@ -1,8 +1,9 @@
 //! The words of a process, and what is said where there are none.
 ghost use Rattle.std.specs.Prelude.{◌≤◌, IfOk, length};
 
+use et_files::Status;
 use et_io::{MemFiles, MemSink};
-use et_top::{Status, WordsFault, run_elephant, run_without_memory, words};
+use et_top::{WordsFault, run_elephant, run_without_memory, words};
 use std::env::{Env, FillError};
 use std::test::Fail;
 

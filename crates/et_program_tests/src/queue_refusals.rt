@@ -2,7 +2,7 @@
 //! queue`, `make reference` and `poll` of a listing stand for calls of constructors and methods.
 
 use crate::traces::{Row, are_answered};
-use et_top::Status;
+use et_files::Status;
 use std::process::Abort;
 use std::test::Fail;
 

@@ -1,6 +1,7 @@
 //! A run of the program in memory.
+use et_files::Status;
 use et_io::{MemFiles, MemSink};
-use et_top::{Status, run_elephant};
+use et_top::run_elephant;
 use std::alloc::Global;
 use std::process::Abort;
 use std::test::Fail;

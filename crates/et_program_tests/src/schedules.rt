@@ -2,7 +2,7 @@
 
 use crate::runs::is_answered;
 use crate::traces::{Row, SLF, WRK, are_answered, files_of};
-use et_top::Status;
+use et_files::Status;
 use std::alloc::Global;
 use std::test::Fail;
 

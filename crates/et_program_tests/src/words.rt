@@ -1,7 +1,7 @@
 //! Lines of words, and what they ask for.
 use et_base::NoMemory;
+use et_command::{Command, Generations, Models, read_words};
 use et_state::Schedule;
-use et_top::{Command, Generations, Models, read_words};
 use std::alloc::Global;
 use std::process::Abort;
 use std::test::Fail;

@@ -11,10 +11,10 @@ use Rattle.et_program.specs.Linking.{IsOfFile, IsLinked}
 use Rattle.et_replay.specs.declared.model.Kind.{Kind}
 use Rattle.et_state.specs.declared.options.Options.{Options}
 use Rattle.et_state.specs.Options.{AreOptions}
-use Rattle.et_top.specs.Command.{Asked, Trace, Run, Assemble, Verify, Replay, Convert, Curve, Snapshot, Bench, command}
-use Rattle.et_top.specs.Faults.{Fault, TooLong}
-use Rattle.et_top.specs.Loaded.{file_bytes, most_of_class, before, IsClassOf, AreClassesOf, IsLinkedOf, IsProgramOfFiles}
-use Rattle.et_top.specs.Top.{Defined, Usage, Refused, Traces, IsAskedDefined, IsDefined, traces, prints, verifies, benches, defined_text, reaching}
+use Rattle.et_command.specs.Command.{Asked, Trace, Run, Assemble, Verify, Replay, Convert, Curve, Snapshot, Bench, command}
+use Rattle.et_files.specs.Faults.{Fault, TooLong}
+use Rattle.et_files.specs.Loaded.{file_bytes, most_of_class, before, IsClassOf, AreClassesOf, IsLinkedOf, IsProgramOfFiles, reaching}
+use Rattle.et_top.specs.Top.{Defined, Usage, Refused, Traces, IsAskedDefined, IsDefined, traces, prints, verifies, benches, defined_text}
 use Rattle.et_theorems.proofs.Ranges.{HasRanges, ranges_of_trace, command_has}
 
 -- OF FILES

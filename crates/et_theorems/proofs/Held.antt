@@ -7,9 +7,9 @@ use Rattle.et_base.specs.declared.line.TraceLine.TheVariants.{Finish}
 use Rattle.et_graph.specs.Graph.{Graph}
 use Rattle.et_io.specs.Sink.{Log, taken_bytes, with_more}
 use Rattle.et_io.proofs.Taking.{bytes_of_taken}
-use Rattle.et_top.specs.Faults.{Fault, BadEvent}
-use Rattle.et_top.specs.Loaded.{file_bytes, IsTraceOf}
-use Rattle.et_top.specs.Top.{Defined, Writes, defined_text, event_of_end, last_event, reaching}
+use Rattle.et_files.specs.Faults.{Fault, BadEvent}
+use Rattle.et_files.specs.Loaded.{file_bytes, IsTraceOf, event_of_end, last_event, reaching}
+use Rattle.et_top.specs.Top.{Defined, Writes, defined_text}
 
 bytes_in : Log → List ℕ
 bytes_in (Some marks) = taken_bytes marks

@@ -8,10 +8,10 @@ use Rattle.std.proofs.lemmas.List.Splits.{length-slice_split}
 use Rattle.et_state.specs.declared.options.Options.{Options}
 use Rattle.et_state.specs.declared.options.Schedule.TheVariants.{Quantum, Words}
 use Rattle.et_state.specs.Options.{AreOptions, IsSchedule}
-use Rattle.et_top.specs.declared.command.Models.{Models}
-use Rattle.et_top.specs.Words.{Given, Split, split}
-use Rattle.et_top.specs.Numbers.{is_number, spelled_number, number_within, each, numbers}
-use Rattle.et_top.specs.Command.{Asked, Trace, Run, Assemble, Verify, Replay, Convert, Curve, Snapshot, Bench, command, asked, option_value, number_or, schedule_of, trace_options, run_options, replay_options, some_paths, plain_path, plain_paths, only_path, path_and_event}
+use Rattle.et_command.specs.declared.command.Models.{Models}
+use Rattle.et_command.specs.Words.{Given, Split, split}
+use Rattle.et_command.specs.Numbers.{is_number, spelled_number, number_within, each, numbers}
+use Rattle.et_command.specs.Command.{Asked, Trace, Run, Assemble, Verify, Replay, Convert, Curve, Snapshot, Bench, command, asked, option_value, number_or, schedule_of, trace_options, run_options, replay_options, some_paths, plain_path, plain_paths, only_path, path_and_event}
 
 -- WHAT IS THERE
 

@@ -16,9 +16,9 @@ use Rattle.et_event.specs.Start.{start_records}
 use Rattle.et_history.specs.Histories.{whole_at, whole_settled_at}
 use Rattle.et_history.specs.Whole.{whole_setting, whole_start}
 use Rattle.et_replay.specs.declared.model.Kind.{Kind}
-use Rattle.et_top.specs.Loaded.{most_of_trace}
+use Rattle.et_files.specs.Loaded.{most_of_trace}
 use Rattle.et_top.specs.Top.{Traces, IsDefined, WritesHistory}
-use Rattle.et_top.specs.declared.status.Status.{Status}
+use Rattle.et_files.specs.declared.status.Status.{Status}
 
 -- A RUN: the words, the files that are held and the kinds of models that are handed in; the program and the options that they
 -- define; a test of what is reachable; and the last event of the history, with its end.

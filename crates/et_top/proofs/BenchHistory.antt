@@ -1,10 +1,9 @@
 -- A history that was run into memory, and what is answered of it.
-use Rattle.std.proofs.Common.{◌≡◌, ◌≤◌, ◌+◌, ◌++◌, ℕ, Bool, inl, inr, List, [], map, Option, Some, Result, Ok, Err, refl, sym, ◌∙◌, ap, subst}
+use Rattle.std.proofs.Common.{◌≡◌, ◌≤◌, ◌+◌, ◌++◌, ℕ, Bool, inl, inr, List, [], map, Some, Result, Ok, Err, refl, sym, ◌∙◌, ap, subst}
 use Rattle.et_base.specs.declared.format.Format.TheVariants.{Text}
 use Rattle.et_base.specs.declared.line.TraceLine.{TraceLine}
 use Rattle.et_base.specs.declared.value.End.{End}
 use Rattle.et_base.specs.declared.value.End.TheVariants as ends
-use Rattle.et_class.specs.Layout.{ClassOf}
 use Rattle.et_graph.specs.Graph.{Graph}
 use Rattle.et_io.specs.Sink.{Mark, Taken, Log, taken_bytes, with_more, TakesPrefix}
 use Rattle.et_io.proofs.Taking.{bytes_of_taken}
@@ -21,14 +20,15 @@ use Rattle.et_loop.specs.Traced.{WritesTrace}
 use Rattle.et_loop.specs.Visits.{allowed_visits, IsCut}
 use Rattle.et_run.specs.Start.{start_records}
 use Rattle.et_run.specs.Whole.{whole_setting, whole_start, whole_visits_of}
-use Rattle.et_top.specs.Bench.{bench_options, bench_trace, summary_text, class_alone, IsBenchRun, IsReadBack, IsNotReadBack}
-use Rattle.et_top.specs.Faults.{Fault}
-use Rattle.et_top.specs.Refusals.{status_of}
-use Rattle.et_top.specs.Told.{Cause, File, Reading, Memory, Other, IsCause, refusal_of}
+use Rattle.et_top.specs.Bench.{bench_options, bench_trace, IsBenchRun, IsReadBack, IsNotReadBack}
+use Rattle.et_bench.specs.Totals.{summary_text}
+use Rattle.et_files.specs.Faults.{Fault}
+use Rattle.et_files.specs.Refusals.{status_of}
+use Rattle.et_top.specs.Told.{refusal_of}
 use Rattle.et_top.specs.Top.{benches, status_of_end, WritesSummary, CutsSummary, GivesBench, GivesDefined}
 use Rattle.et_top.specs.Visits.{IsBeforeBench}
-use Rattle.et_top.specs.declared.status.Status.{Status}
-use Rattle.et_top.specs.declared.status.Status.TheVariants as status
+use Rattle.et_files.specs.declared.status.Status.{Status}
+use Rattle.et_files.specs.declared.status.Status.TheVariants as status
 
 -- THE RUN
 
@@ -117,12 +117,3 @@ end_of_bench ends.ObjectLimit early = early
 pub fault_of_bench : (fault : RunFault) → IsBeforeBench (status_of (refusal_of fault)) → ⊥
 fault_of_bench write.Write early = early
 fault_of_bench write.NoMemory early = early
-
--- THE PROGRAM
-
--- a class that was not read is none alone
-pub alone_not_read : (read : Type 0) (class : Result ClassOf Fault) (cause : Cause) → IsCause read class cause → IsCause read (class_alone class) cause
-alone_not_read read class (File fault) is = ap class_alone is
-alone_not_read read class Reading h = h
-alone_not_read read class Memory h = tt
-alone_not_read read class Other h = absurd h

@@ -7,13 +7,13 @@ use Rattle.et_graph.specs.Graph.{Graph}
 use Rattle.et_io.specs.Files.{Held}
 use Rattle.et_replay.specs.declared.model.Kind.{Kind}
 use Rattle.et_text.specs.Ranges.{HasShortNames}
-use Rattle.et_top.specs.Command.{Convert}
-use Rattle.et_top.specs.Faults.{Fault, TooLong}
-use Rattle.et_top.specs.Loaded.{file_bytes, most_of_trace, IsTraceOf}
+use Rattle.et_command.specs.Command.{Convert}
+use Rattle.et_files.specs.Faults.{Fault, TooLong}
+use Rattle.et_files.specs.Loaded.{file_bytes, most_of_trace, IsTraceOf}
 use Rattle.et_convert.specs.Spellings.{SpellsTrace}
 use Rattle.et_convert.specs.Conversions.{converted_lines, converted_bytes}
 use Rattle.et_top.specs.Top.{Defined, Usage, Refused, Writes, Traces, Prints, Verifies, Benches, IsAskedDefined}
-use Rattle.et_top.proofs.ReadLemmas.{bytes_there}
+use Rattle.et_files.proofs.ReadLemmas.{bytes_there}
 
 -- what is written, where something is
 text_in : Defined → (Graph → ℕ → Bool) → List ℕ

@@ -13,15 +13,15 @@ use Rattle.et_run.specs.Start.{start_records}
 use Rattle.et_run.specs.Whole.{whole_setting, whole_start, whole_said}
 use Rattle.et_state.specs.declared.options.Options.{Options}
 use Rattle.et_program.specs.Entries.{Linked}
-use Rattle.et_top.specs.Bench.{summary_text}
-use Rattle.et_top.specs.Faults.{Fault, Absent, TooLong, BadClass, BadText, BadTrace, LinkFault, BadEvent, status_of_fault}
+use Rattle.et_bench.specs.Totals.{summary_text}
+use Rattle.et_files.specs.Faults.{Fault, Absent, TooLong, BadClass, BadText, BadTrace, LinkFault, BadEvent, status_of_fault}
 use Rattle.et_top.specs.Process.{EndsAs}
-use Rattle.et_top.specs.Status.{is_whole, is_write_status}
+use Rattle.et_files.specs.Status.{is_whole, is_write_status}
 use Rattle.et_top.specs.Top.{Defined, Usage, Refused, Writes, Verifies, Traces, Prints, Benches, WritesSummary, CutsSummary, PrintsCut, verified_text, GivesDefined}
 use Rattle.et_verify.specs.Verdicts.{verified_count}
-use Rattle.et_top.specs.declared.status.Status.{Status}
-use Rattle.et_top.specs.declared.status.Status.TheVariants as status
-use Rattle.et_top.proofs.FaultLemmas.{rose_one}
+use Rattle.et_files.specs.declared.status.Status.{Status}
+use Rattle.et_files.specs.declared.status.Status.TheVariants as status
+use Rattle.et_files.proofs.FaultLemmas.{rose_one}
 
 -- what holds of the three statuses of a whole output holds of each
 of_whole : (P : Status → Type 0) → P status.Done → P status.IllTyped → P status.ObjectLimit → (s : Status) → is_whole s ≡ true → P s

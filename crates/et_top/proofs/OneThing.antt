@@ -14,14 +14,14 @@ use Rattle.et_link.specs.Refusals.{LinkIs, RefusesLink}
 use Rattle.et_link.specs.declared.fault.LinkFault.TheVariants as link
 use Rattle.et_convert.specs.Spellings.{SpellsTrace, HasSpellingFault, HasSpellingAnswer, IsSpelledTrace, IsRefusedTrace}
 use Rattle.et_replay.specs.declared.model.Kind.{Kind}
-use Rattle.et_top.specs.Command.{Asked, Trace, Run, Assemble, Verify, Replay, Convert, Curve, Bench, command, Snapshot}
-use Rattle.et_top.specs.Faults.{Fault, BadClass, BadText, BadTrace, LinkFault}
-use Rattle.et_top.specs.Loaded.{file_bytes, before, most_of_class, most_of_trace, IsClassOf, IsListingOf, IsTraceOf, AreFirstAnd, AreClassesOf, IsLinkedOf, IsProgramOfFiles}
-use Rattle.et_top.specs.Bench.{IsListingProgram, bench_listing, class_alone}
+use Rattle.et_command.specs.Command.{Asked, Trace, Run, Assemble, Verify, Replay, Convert, Curve, Bench, command, Snapshot}
+use Rattle.et_files.specs.Faults.{Fault, BadClass, BadText, BadTrace, LinkFault}
+use Rattle.et_files.specs.Loaded.{file_bytes, before, most_of_class, most_of_trace, IsClassOf, IsListingOf, IsTraceOf, AreFirstAnd, AreClassesOf, IsLinkedOf, IsProgramOfFiles, IsListingProgram, class_alone}
+use Rattle.et_bench.specs.Listing.{bench_listing}
 use Rattle.et_top.specs.Top.{Usage, IsAskedDefined, IsDefined, traces, prints, verifies, benches}
-use Rattle.et_top.proofs.Found.{class_found, fault_found, lines_found, line_found, listing_found, listing_fault_found}
-use Rattle.et_top.proofs.LinkLemmas.{linked_found, link_fault_found}
-use Rattle.et_top.proofs.PathLemmas.{HasPaths, paths_of_trace, paths_of_run, paths_of_verify, command_has}
+use Rattle.et_files.proofs.Found.{class_found, fault_found, lines_found, line_found, listing_found, listing_fault_found}
+use Rattle.et_files.proofs.LinkLemmas.{linked_found, link_fault_found}
+use Rattle.et_command.proofs.PathLemmas.{HasPaths, paths_of_trace, paths_of_run, paths_of_verify, command_has}
 
 -- exactly one
 abbrev One : {A : Type 0} → (A → Type 0) → Type 0

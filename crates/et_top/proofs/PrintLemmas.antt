@@ -1,5 +1,5 @@
 -- A history whose prints were written.
-use Rattle.std.proofs.Common.{◌≡◌, ℕ, ◌+◌, ◌≤◌, Bool, List, refl, sym, ap, subst}
+use Rattle.std.proofs.Common.{◌≡◌, ℕ, ◌+◌, ◌≤◌, Bool, refl, sym, ap, subst}
 use Rattle.et_base.specs.declared.value.End.{End}
 use Rattle.et_base.specs.declared.value.End.TheVariants as ends
 use Rattle.et_graph.specs.Graph.{Graph}
@@ -14,11 +14,11 @@ use Rattle.et_program.specs.Entries.{Linked}
 use Rattle.et_run.specs.Start.{start_records}
 use Rattle.et_run.specs.Settings.{said_by}
 use Rattle.et_run.specs.Whole.{whole_setting, whole_start, whole_visits_of, whole_said}
-use Rattle.et_top.specs.Refusals.{status_of}
+use Rattle.et_files.specs.Refusals.{status_of}
 use Rattle.et_top.specs.Told.{refusal_of}
 use Rattle.et_top.specs.Top.{Prints, status_of_end, PrintsHistory, GivesDefined}
-use Rattle.et_top.specs.declared.status.Status.{Status}
-use Rattle.et_top.specs.declared.status.Status.TheVariants as status
+use Rattle.et_files.specs.declared.status.Status.{Status}
+use Rattle.et_files.specs.declared.status.Status.TheVariants as status
 
 module _ (reached : Graph → ℕ → Bool) (before after : Log) (old new : ℕ) (read written : Type 0) (program : Linked) (options : Options) where
   -- the counter allows for the visits of a history that ended so

@@ -1,5 +1,5 @@
 -- Lemmas on the top call's parts.
-use Rattle.std.proofs.Common.{◌≡◌, ℕ, ◌+◌, ◌≤◌, inl, inr, Bool, List, [], false, Option, Some, None, Result, Ok, Err, refl, sym, ◌∙◌, ap, subst, append-nil}
+use Rattle.std.proofs.Common.{◌≡◌, ℕ, ◌+◌, ◌≤◌, inl, inr, Bool, List, [], false, Option, Some, Result, Ok, Err, refl, sym, ◌∙◌, ap, subst}
 use Rattle.std.specs.Prelude.{OnErr, OnOk}
 use Rattle.et_base.specs.declared.value.End.{End}
 use Rattle.et_base.specs.declared.value.End.TheVariants as ends
@@ -15,27 +15,26 @@ use Rattle.et_program.specs.Entries.{Linked}
 use Rattle.et_run.specs.Start.{start_records}
 use Rattle.et_run.specs.Whole.{whole_setting, whole_start, whole_visits_of}
 use Rattle.et_loop.specs.Visits.{allowed_visits, IsCut}
-use Rattle.et_top.specs.Faults.{Fault, Absent, TooLong, BadClass, BadText, BadTrace, LinkFault, BadEvent, status_of_fault}
+use Rattle.et_files.specs.Faults.{Fault, Absent, TooLong, BadClass, BadText, BadTrace, LinkFault, BadEvent, status_of_fault}
 use Rattle.et_io.specs.Files.{Held}
-use Rattle.et_top.specs.Command.{Asked}
-use Rattle.et_top.specs.Asked.{asked_by}
-use Rattle.et_top.specs.declared.command.Command.{Command}
+use Rattle.et_command.specs.Command.{Asked}
+use Rattle.et_command.specs.Asked.{asked_by}
+use Rattle.et_command.specs.declared.command.Command.{Command}
 use Rattle.et_replay.specs.declared.model.Kind.{Kind}
-use Rattle.et_top.specs.Top.{IsAskedDefined, Defined, Usage, Refused, Writes, Verifies, Traces, Prints, defined_text, verifies, traces, prints, Benches, benches, status_of_end, WritesHistory, GivesDefined}
-use Rattle.et_top.specs.declared.status.Status.{Status}
-use Rattle.et_top.specs.declared.status.Status.TheVariants as status
-use Rattle.et_top.specs.declared.refusal.Refusal.{Refusal}
-use Rattle.et_top.specs.declared.refusal.Refusal.TheVariants as refusal
-use Rattle.et_top.specs.Refusals.{status_of}
+use Rattle.et_top.specs.Top.{IsAskedDefined, Defined, Usage, Refused, Writes, Verifies, Traces, Prints, defined_text, verifies, traces, prints, Benches, benches, status_of_end, WritesHistory, GivesDefined, verified_text}
+use Rattle.et_files.specs.declared.status.Status.{Status}
+use Rattle.et_files.specs.declared.status.Status.TheVariants as status
+use Rattle.et_files.specs.declared.refusal.Refusal.{Refusal}
+use Rattle.et_files.specs.declared.refusal.Refusal.TheVariants as refusal
+use Rattle.et_files.specs.Refusals.{status_of}
 use Rattle.et_verify.specs.Typings.{IsVerified}
 use Rattle.et_verify.specs.Verdicts.{verified_count}
 use Rattle.et_verify.specs.Verdicts.{Verifies as Verdict}
 use Rattle.et_verify.specs.declared.verdict.VerifyFault.{VerifyFault}
 use Rattle.et_verify.specs.declared.verdict.VerifyFault.TheVariants as verdict
-use Rattle.et_top.specs.Status.{is_read_status, is_write_status}
-use Rattle.et_top.specs.Told.{TellsVerdict}
-use Rattle.et_top.specs.Top.{verified_text}
-use Rattle.et_top.specs.Told.{Cause, File, Reading, Other, IsCause, cause_of, refusal_of, status_of_writing}
+use Rattle.et_files.specs.Status.{is_read_status, is_write_status}
+use Rattle.et_top.specs.Told.{TellsVerdict, refusal_of, status_of_writing}
+use Rattle.et_files.specs.Told.{Cause, File, Reading, Other, IsCause, cause_of}
 
 -- A HISTORY THAT WAS RUN
 

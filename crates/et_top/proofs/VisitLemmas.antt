@@ -1,17 +1,17 @@
 -- Lemmas on what is answered before a run.
-use Rattle.std.proofs.Common.{◌≡◌, ℕ, List, refl, arith}
+use Rattle.std.proofs.Common.{ℕ, List, refl, arith}
 use Rattle.et_base.specs.declared.value.End.{End}
 use Rattle.et_base.specs.declared.value.End.TheVariants as ends
 use Rattle.et_io.specs.Files.{Held, Reading}
 use Rattle.et_io.specs.declared.putting.RunFault.{RunFault}
 use Rattle.et_io.specs.declared.putting.RunFault.TheVariants as write
-use Rattle.et_top.specs.Refusals.{status_of}
+use Rattle.et_files.specs.Refusals.{status_of}
 use Rattle.et_top.specs.Told.{refusal_of}
 use Rattle.et_top.specs.Top.{status_of_end}
-use Rattle.et_top.specs.Reads.{ReadsInOrder}
+use Rattle.et_files.specs.Reads.{ReadsInOrder}
 use Rattle.et_top.specs.Visits.{IsBeforeRun, HasUnread}
-use Rattle.et_top.specs.declared.status.Status.TheVariants as status
-use Rattle.et_top.proofs.ReadLemmas.{reads_counted}
+use Rattle.et_files.specs.declared.status.Status.TheVariants as status
+use Rattle.et_files.proofs.ReadLemmas.{reads_counted}
 
 -- a history that was run to its end is not answered so
 pub end_of_run : (end : End) → IsBeforeRun (status_of_end end) → ⊥

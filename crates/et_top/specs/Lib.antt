@@ -1,16 +1,6 @@
-pub mod Faults
-pub mod Following
-pub mod Loaded
 pub mod Bench
 pub mod Top
-pub mod Status
-pub mod Refusals
 pub mod Told
-pub mod Words
-pub mod Numbers
-pub mod Command
-pub mod Parts
-pub mod Asked
+pub mod Paths
 pub mod Process
 pub mod Visits
-pub mod Reads

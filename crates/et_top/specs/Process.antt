@@ -3,11 +3,11 @@ use Rattle.std.specs.Prelude.{◌≡◌, ◌⊎◌, ℕ, true, List, [], ◌∷�
 use Rattle.et_io.specs.Faults.{count_after}
 use Rattle.et_replay.specs.declared.model.Kind.{Kind}
 use Rattle.et_replay.specs.declared.model.Kind.TheVariants as kind
-use Rattle.et_top.specs.Status.{is_whole}
+use Rattle.et_files.specs.Status.{is_whole}
 use Rattle.et_top.specs.declared.process.WordsFault.{WordsFault}
 use Rattle.et_top.specs.declared.process.WordsFault.TheVariants as words
-use Rattle.et_top.specs.declared.status.Status.{Status}
-use Rattle.et_top.specs.declared.status.Status.TheVariants as status
+use Rattle.et_files.specs.declared.status.Status.{Status}
+use Rattle.et_files.specs.declared.status.Status.TheVariants as status
 
 -- the kinds of its models, in the order of their lines
 abbrev pub model_kinds : List Kind

@@ -1,8 +1,7 @@
 -- What the words and the files that are held define, and what the program may answer.
-use Rattle.std.specs.Prelude.{◌≡◌, ℕ, ◌+◌, ◌≤◌, ◌⊎◌, Bool, List, map, ◌++◌, ◌∷◌, [], codes, Option, Some, None, option_map, filter_map, Result, Ok, Err, ◌-◌, nat_le, if◌then◌else◌, length, slice_get}
+use Rattle.std.specs.Prelude.{◌≡◌, ℕ, ◌+◌, ◌≤◌, ◌⊎◌, Bool, List, map, ◌++◌, ◌∷◌, [], codes, Option, Some, None, option_map, filter_map, Result, Ok, Err}
 use Rattle.std.specs.Fmt.{decimal}
 use Rattle.et_base.specs.declared.line.TraceLine.{TraceLine}
-use Rattle.et_base.specs.declared.line.TraceLine.TheVariants.{Finish}
 use Rattle.et_base.specs.declared.value.End.{End}
 use Rattle.et_base.specs.declared.value.End.TheVariants as ends
 use Rattle.et_graph.specs.Graph.{Graph}
@@ -21,8 +20,8 @@ use Rattle.et_snapshot.specs.Snapshot.{snapshot_text}
 use Rattle.et_replay.specs.declared.model.Kind.{Kind}
 use Rattle.et_replay.specs.declared.model.Kind.TheVariants as kind
 use Rattle.et_replay.specs.declared.model.Policy.{Policy}
-use Rattle.et_top.specs.declared.command.Models.{Models}
-use Rattle.et_top.specs.Command as words
+use Rattle.et_command.specs.declared.command.Models.{Models}
+use Rattle.et_command.specs.Command as words
 use Rattle.et_program.specs.Entries.{Linked}
 use Rattle.et_run.specs.Start.{start_records}
 use Rattle.et_run.specs.Whole.{whole_setting, whole_start, whole_visits_of, whole_said}
@@ -30,11 +29,13 @@ use Rattle.et_run.specs.Settings.{said_by}
 use Rattle.et_loop.specs.Visits.{allowed_visits, IsCut}
 use Rattle.et_verify.specs.Typings.{IsVerified}
 use Rattle.et_verify.specs.Verdicts.{verified_count, IsFirstRejected}
-use Rattle.et_top.specs.Faults.{Fault, status_of_fault, BadEvent}
-use Rattle.et_top.specs.Bench.{bench_listing, summary_text, IsListingProgram, IsReadBack, IsNotReadBack}
-use Rattle.et_top.specs.Loaded.{file_bytes, most_of_class, most_of_trace, IsListingOf, IsTraceOf, IsProgramOfFiles}
-use Rattle.et_top.specs.declared.status.Status.{Status}
-use Rattle.et_top.specs.declared.status.Status.TheVariants as status
+use Rattle.et_files.specs.Faults.{Fault, status_of_fault}
+use Rattle.et_bench.specs.Listing.{bench_listing}
+use Rattle.et_bench.specs.Totals.{summary_text}
+use Rattle.et_files.specs.Loaded.{IsListingProgram, file_bytes, most_of_class, most_of_trace, IsListingOf, IsTraceOf, IsProgramOfFiles}
+use Rattle.et_top.specs.Bench.{IsReadBack, IsNotReadBack}
+use Rattle.et_files.specs.declared.status.Status.{Status}
+use Rattle.et_files.specs.declared.status.Status.TheVariants as status
 
 -- what the words and the files define: no command, a file that is refused, a text, the verdict on a program, the trace of a
 -- history, what one prints, or the summary of one. A text may tell of what is reached; it takes a test that decides that
@@ -66,20 +67,6 @@ benches (Ok program) = Benches program
 abbrev pub defined_text : {A : Type 0} → ((Graph → ℕ → Bool) → A → List ℕ) → Result A Fault → Defined
 defined_text text (Err fault) = Refused fault
 defined_text text (Ok a) = Writes (λ reached. text reached a)
-
--- the event of the Z line
-abbrev pub event_of_end : Option TraceLine → ℕ
-event_of_end (Some (Finish event how)) = event
-event_of_end _ = 0
-
--- .. which is the last line of a good trace
-abbrev pub last_event : List TraceLine → ℕ
-last_event lines = event_of_end (slice_get lines (length lines - 1))
-
--- the trace, where it doesn't end before the event
-abbrev pub reaching : ℕ → Result (List TraceLine) Fault → Result (List TraceLine) Fault
-reaching event (Err fault) = Err fault
-reaching event (Ok lines) = if nat_le event (last_event lines) then Ok lines else Err (BadEvent event)
 
 -- the policies of the models of these kinds, of which only those that are asked for are used
 abbrev pub policy_of : Models → Kind → Option Policy

@@ -1,10 +1,10 @@
 -- WHERE OBJECTS ARE VISITED: only in the run of a program, for its trace or for what it prints, and in that of a bench.
 use Rattle.std.specs.Prelude.{ℕ, ◌+◌, ◌<◌, List, length, Option, Some}
 use Rattle.et_io.specs.Files.{Reading}
-use Rattle.et_top.specs.Command.{Asked, Trace, Run, Bench}
+use Rattle.et_command.specs.Command.{Asked, Trace, Run, Bench}
 use Rattle.et_top.specs.Top.{Defined, Usage, Refused, Writes, Verifies, Traces, Prints, Benches}
-use Rattle.et_top.specs.declared.status.Status.{Status}
-use Rattle.et_top.specs.declared.status.Status.TheVariants as status
+use Rattle.et_files.specs.declared.status.Status.{Status}
+use Rattle.et_files.specs.declared.status.Status.TheVariants as status
 
 -- a trace, and what is printed, is answered so where its run was not begun: a file was refused, or a read failed
 abbrev pub IsBeforeRun : Status → Type 0

@@ -1,20 +1,10 @@
-//! What the program answers and says.
+//! What the program answers of a fault of a run, and of a text that was written.
 ghost use Rattle.std.specs.Prelude.{◌≡◌};
-ghost use Rattle.et_top.specs.Refusals.{status_of};
 ghost use Rattle.et_top.specs.Told.{refusal_of, status_of_writing};
 
-use crate::refusal::{Refusal, say};
-use crate::status::Status;
+use et_files::{Refusal, Status, refuse};
 use et_io::{RunFault, Sink};
 use std::alloc::Global;
-
-/// Says the refusal on err, and answers its status.
-pub fn refuse<E: Sink>(alloc: Global, err: &mut E, refusal: &Refusal<'_>) -> Status
-    ensures { result ≡ status_of refusal.now }
-{
-    say(alloc, err, refusal);
-    refusal.status()
-}
 
 /// What the program says of a fault of a run.
 pub fn of_fault<'a>(fault: RunFault) -> Refusal<'a>

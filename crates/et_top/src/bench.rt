@@ -4,24 +4,23 @@ ghost use Rattle.et_base.specs.declared.line.TraceLine.{TraceLine};
 ghost use Rattle.et_io.specs.Faults.{Rose, count_after};
 ghost use Rattle.et_graph.specs.Graph.{Graph, Decides};
 ghost use Rattle.et_program.specs.Entries.{Linked};
-ghost use Rattle.et_top.specs.Bench.{bench_listing, summary_text, IsListingProgram, IsReadBack, IsNotReadBack};
-ghost use Rattle.et_top.specs.Faults.{Fault};
-ghost use Rattle.et_top.specs.Status.{is_read_status, is_write_status};
-ghost use Rattle.et_top.specs.Told.{Tells, IsOfBytes, cause_of};
+ghost use Rattle.et_bench.specs.Listing.{bench_listing};
+ghost use Rattle.et_bench.specs.Totals.{summary_text};
+ghost use Rattle.et_files.specs.Loaded.{IsListingProgram};
+ghost use Rattle.et_top.specs.Bench.{IsReadBack, IsNotReadBack};
+ghost use Rattle.et_files.specs.Faults.{Fault};
+ghost use Rattle.et_files.specs.Status.{is_read_status, is_write_status};
+ghost use Rattle.et_files.specs.Told.{Tells, IsOfBytes, cause_of};
 ghost use Rattle.et_top.specs.Top.{benches, GivesBench, GivesDefined};
 ghost use Rattle.et_top.specs.Visits.{IsBeforeBench, IsNoTrace};
 
-use crate::answers::{of_fault, refuse};
-use crate::bench_text::bench_listing;
-use crate::bench_totals::bench_summary;
+use crate::answers::of_fault;
 use crate::discard::Discard;
-use crate::load_classes::{class_in, push};
-use crate::load_listing::listing_in;
-use crate::programs::{answer_end, program};
-use crate::refusal::Refusal;
-use crate::status::Status;
+use crate::programs::answer_end;
 use et_base::{End, Format, Steps};
+use et_bench::{bench_listing, bench_summary};
 use et_convert::read_text;
+use et_files::{Refusal, Status, program_of_listing, refuse};
 use et_io::{MemSink, Sink, put_all};
 use et_link::Program;
 use et_state::{Options, Schedule};
@@ -37,19 +36,6 @@ pub const ROUNDS: u32 = 40_000;
 
 /// What a refusal names in the place of a file.
 const NAME: &str = "bench";
-
-/// The program of a listing: its class, linked alone.
-fn program_of_listing<'a>(alloc: Global, listing: &[u8]) -> Result<Program, Refusal<'a>>
-    ensures tells { (p : Result Linked Fault) →
-        IsListingProgram listing.now p → Tells ⊥ (λ program. program) p result }
-    ensures bytes { IfErr result (λ refusal. IsOfBytes (cause_of refusal)) }
-{
-    let bytes = listing_in(alloc, NAME, listing)?;
-    let class = class_in(alloc, NAME, &bytes)?;
-    let mut classes = Vec::new(alloc);
-    push(&mut classes, class)?;
-    program(alloc, classes)
-}
 
 /// The program of the listing with these numbers.
 fn program_of_bench<'a>(
@@ -67,7 +53,7 @@ fn program_of_bench<'a>(
     ensures bytes { IfErr result (λ refusal. IsOfBytes (cause_of refusal)) }
 {
     match bench_listing(alloc, number, cells, rounds) {
-        Ok(listing) => program_of_listing(alloc, &listing),
+        Ok(listing) => program_of_listing(alloc, NAME, &listing),
         Err(_) => Err(Refusal::NoMemory),
     }
 }

@@ -1,29 +1,27 @@
 //! The commands.
-ghost use Rattle.std.specs.Prelude.{◌≡◌, ◌<◌, ◌++◌, ◌∷◌, ℕ, Bool, List, [], Some, All, length, map, string_bytes};
+ghost use Rattle.std.specs.Prelude.{◌≡◌, ◌<◌, ℕ, Bool, List, Some, All, length, map, string_bytes};
 ghost use Rattle.et_io.specs.Faults.{Rose, count_after};
 ghost use Rattle.et_io.specs.Files.{Held, Answer};
 ghost use Rattle.et_graph.specs.Graph.{Graph, Decides};
 ghost use Rattle.et_state.specs.Options.{AreOptions};
 ghost use Rattle.et_replay.specs.declared.model.Kind.{Kind};
-ghost use Rattle.et_top.specs.Command as words;
-ghost use Rattle.et_top.specs.Loaded.{most_of_class, most_of_trace};
-ghost use Rattle.et_top.specs.Reads.{ReadsInOrder, Asks};
-ghost use Rattle.et_top.specs.Status.{is_read_status, is_write_status};
+ghost use Rattle.et_command.specs.Command as words;
+ghost use Rattle.et_files.specs.Loaded.{most_of_class, most_of_trace};
+ghost use Rattle.et_files.specs.Reads.{ReadsInOrder, Asks};
+ghost use Rattle.et_files.specs.Status.{is_read_status, is_write_status};
 ghost use Rattle.et_top.specs.Top.{Defined, IsAskedDefined, GivesDefined};
 ghost use Rattle.et_top.specs.Visits.{IsBeforeRun, IsNoTrace, HasUnread};
 
-use crate::answers::{refuse, written};
-use crate::command::Models;
-use crate::follow_file::{follow_file, load_bytes};
-use crate::load_listing::load_listing;
-use crate::load_trace::load_trace_to;
+use crate::answers::written;
 use crate::models::replay_trace;
-use crate::prints;
-use crate::programs::{self, load_program};
-use crate::status::Status;
 use crate::verdict::tell_verdict;
+use crate::{prints, programs};
 use et_base::Steps;
+use et_command::Models;
 use et_convert::convert_bytes;
+use et_files::{
+    Status, follow_file, load_bytes, load_listing, load_program, load_trace_to, refuse,
+};
 use et_io::{Files, Sink, put_all};
 use et_replay::{Curve, Happenings, HeapModel};
 use et_snapshot::snapshot_lines;

@@ -3,8 +3,8 @@
 ghost use Rattle.std.specs.Prelude.{◌≡◌, ◌≤◌, ℕ, List, Some, length};
 ghost use Rattle.et_io.specs.Files.{Held};
 ghost use Rattle.et_replay.specs.declared.model.Kind.{Kind};
-ghost use Rattle.et_top.specs.Command.{Convert};
-ghost use Rattle.et_top.specs.Loaded.{most_of_trace};
+ghost use Rattle.et_command.specs.Command.{Convert};
+ghost use Rattle.et_files.specs.Loaded.{most_of_trace};
 ghost use Rattle.et_top.specs.Top.{Defined, Writes, IsDefined, IsAskedDefined};
 
 use et_convert::laws::{

@@ -13,8 +13,8 @@ ghost use Rattle.et_text.specs.Rules.{IsGoodTrace};
 ghost use Rattle.et_top.specs.Told.{IsPrepared};
 ghost use Rattle.et_top.specs.Top.{policy_of, policies_of};
 
-use crate::command::Models;
 use et_base::NoMemory;
+use et_command::Models;
 use et_io::{RunFault, Sink};
 use et_replay::{Happenings, HeapModel, Item, Kind, Policy, replay};
 use std::alloc::Global;

@@ -3,15 +3,15 @@ ghost use Rattle.std.specs.Prelude.{◌≡◌, ◌≤◌, ℕ, Bool, false};
 ghost use Rattle.et_io.specs.Faults.{Rose, count_after};
 ghost use Rattle.et_graph.specs.Graph.{Graph, Decides};
 ghost use Rattle.et_state.specs.Options.{AreOptions};
-ghost use Rattle.et_top.specs.Status.{is_read_status, is_write_status};
+ghost use Rattle.et_files.specs.Status.{is_read_status, is_write_status};
 ghost use Rattle.et_top.specs.Top.{Prints, GivesDefined};
 ghost use Rattle.et_top.specs.Visits.{IsBeforeRun};
 
-use crate::answers::{of_fault, refuse};
+use crate::answers::of_fault;
 use crate::discard::Discard;
 use crate::programs::answer_end;
-use crate::status::Status;
 use et_base::Steps;
+use et_files::{Status, refuse};
 use et_io::Sink;
 use et_program::Program;
 use et_state::Options;

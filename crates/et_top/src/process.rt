@@ -1,22 +1,21 @@
 //! What a process does: its words, the top call with the four models and a counter of its own, and its output handed
 //! on.
-ghost use Rattle.std.specs.Prelude.{◌≡◌, ◌⊎◌, ◌<◌, ℕ, Bool, Some, None, IsTrue, IfOk, IfErr, OnErr, false, map, drop, option_map, string_bytes};
+ghost use Rattle.std.specs.Prelude.{◌≡◌, ◌⊎◌, ◌<◌, ℕ, Bool, None, IsTrue, IfOk, IfErr, OnErr, false, map, drop, option_map, string_bytes};
 ghost use Rattle.std.specs.Vec.Iter.{into_iter_items};
 ghost use Rattle.et_io.specs.Faults.{Rose, count_after};
 ghost use Rattle.et_io.specs.Files.{Held};
 ghost use Rattle.et_io.specs.Sink.{taken_bytes};
 ghost use Rattle.et_graph.specs.Graph.{Graph, Decides};
-ghost use Rattle.et_top.specs.Command.{command};
+ghost use Rattle.et_command.specs.Command.{command};
 ghost use Rattle.et_top.specs.Process.{model_kinds, status_of_words, EndsAs};
-ghost use Rattle.et_top.specs.Reads.{ReadsInOrder, paths_of, most_of};
-ghost use Rattle.et_top.specs.Status.{is_read_status, is_write_status, is_whole};
+ghost use Rattle.et_files.specs.Reads.{ReadsInOrder};
+ghost use Rattle.et_top.specs.Paths.{paths_of, most_of};
+ghost use Rattle.et_files.specs.Status.{is_read_status, is_write_status, is_whole};
 ghost use Rattle.et_top.specs.Top.{Defined, IsDefined, GivesDefined};
 
-use crate::answers::refuse;
-use crate::refusal::Refusal;
-use crate::status::Status;
 use crate::top::elephant;
 use et_base::{NoMemory, Steps};
+use et_files::{Refusal, Status, refuse};
 use et_io::{Files, GatheringSink, Sink};
 use et_models::{Generational, MarkSweep, SemiSpace};
 use et_refcount::RefCount;

@@ -3,20 +3,19 @@ ghost use Rattle.std.specs.Prelude.{◌≡◌, ◌⊎◌, ℕ, Bool, Some, None,
 ghost use Rattle.et_io.specs.Faults.{Rose, count_after};
 ghost use Rattle.et_io.specs.Files.{Held};
 ghost use Rattle.et_graph.specs.Graph.{Graph, Decides};
-ghost use Rattle.et_top.specs.Command.{command};
-ghost use Rattle.et_top.specs.Asked.{asked_by, AreInRange};
-ghost use Rattle.et_top.specs.Reads.{ReadsInOrder, paths_of, most_of};
-ghost use Rattle.et_top.specs.Status.{is_read_status, is_write_status};
+ghost use Rattle.et_command.specs.Command.{command};
+ghost use Rattle.et_command.specs.Asked.{asked_by, AreInRange};
+ghost use Rattle.et_files.specs.Reads.{ReadsInOrder};
+ghost use Rattle.et_top.specs.Paths.{paths_of, most_of};
+ghost use Rattle.et_files.specs.Status.{is_read_status, is_write_status};
 ghost use Rattle.et_top.specs.Top.{Defined, IsAskedDefined, IsDefined, GivesDefined};
 ghost use Rattle.et_top.specs.Visits.{IsWithoutRun, IsNoTrace, HasUnread};
 
-use crate::answers::refuse;
 use crate::bench::{CELLS, ROUNDS, bench};
-use crate::command::{Command, read_words};
 use crate::commands::{assemble, convert, curve, replay, run, snapshot, trace, verify};
-use crate::refusal::Refusal;
-use crate::status::Status;
 use et_base::Steps;
+use et_command::{Command, read_words};
+use et_files::{Refusal, Status, refuse};
 use et_io::{Files, Sink};
 use et_replay::HeapModel;
 use std::alloc::Global;

@@ -3,17 +3,16 @@ ghost use Rattle.std.specs.Prelude.{◌≡◌, ◌<◌, ℕ, Bool, false, length
 ghost use Rattle.et_graph.specs.Graph.{Graph};
 ghost use Rattle.et_io.specs.Faults.{Rose, count_after};
 ghost use Rattle.et_program.specs.Entries.{Linked};
-ghost use Rattle.et_top.specs.Status.{is_read_status, is_write_status};
-ghost use Rattle.et_top.specs.Refusals.{status_of};
+ghost use Rattle.et_files.specs.Status.{is_read_status, is_write_status};
+ghost use Rattle.et_files.specs.Refusals.{status_of};
 ghost use Rattle.et_top.specs.Told.{IsRejectionOf, TellsVerdict};
 ghost use Rattle.et_top.specs.Top.{verified_text, Verifies, GivesDefined};
 ghost use Rattle.et_verify.specs.Typings.{IsVerified};
 ghost use Rattle.et_verify.specs.Verdicts.{verified_count};
 
-use crate::answers::{refuse, written};
-use crate::refusal::{Escaped, Refusal};
-use crate::status::Status;
+use crate::answers::written;
 use et_base::{MethodId, NoMemory};
+use et_files::{Escaped, Refusal, Status, refuse};
 use et_io::{Sink, put_all};
 use et_link::Program;
 use et_verify::{VerifyFault, verify};

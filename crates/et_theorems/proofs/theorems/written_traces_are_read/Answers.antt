@@ -7,7 +7,7 @@ use Rattle.et_event.specs.Start.{start_records}
 use Rattle.et_history.specs.Whole.{whole_start}
 use Rattle.et_io.specs.Files.{Held}
 use Rattle.et_io.specs.Sink.{with_more}
-use Rattle.et_top.specs.Loaded.{file_bytes, most_of_trace, IsTraceOf}
+use Rattle.et_files.specs.Loaded.{file_bytes, most_of_trace, IsTraceOf}
 use Rattle.et_theorems.specs.Runs.{Run, IsTraced, IsWritten, lines_of, picks_of, setting_of}
 use Rattle.et_theorems.proofs.Formats.{spells_trace, trace_begins}
 use Rattle.et_theorems.proofs.Held.{bytes_there, one_text}

@@ -5,14 +5,14 @@ use Rattle.et_replay.specs.Curve.{curve_text}
 use Rattle.et_replay.specs.Replay.{replay_text}
 use Rattle.et_replay.specs.Timeline.{timeline_items}
 use Rattle.et_replay.specs.declared.model.Kind.{Kind}
-use Rattle.et_top.specs.Command.{Asked, Convert, Curve, Replay, Snapshot, command}
+use Rattle.et_command.specs.Command.{Asked, Convert, Curve, Replay, Snapshot, command}
 use Rattle.et_event.specs.Start.{start_records}
 use Rattle.et_history.specs.Whole.{whole_start}
 use Rattle.et_snapshot.specs.Snapshot.{snapshot_text}
 use Rattle.et_state.specs.History.{flush_lines, how_of, lines_to}
-use Rattle.et_top.specs.Faults.{BadEvent}
-use Rattle.et_top.specs.Loaded.{file_bytes, most_of_trace}
-use Rattle.et_top.specs.Top.{Defined, Writes, IsAskedDefined, policies_of, last_event}
+use Rattle.et_files.specs.Faults.{BadEvent}
+use Rattle.et_files.specs.Loaded.{file_bytes, most_of_trace, last_event}
+use Rattle.et_top.specs.Top.{Defined, Writes, IsAskedDefined, policies_of}
 use Rattle.et_theorems.specs.Runs.{Run, deaths_at, lines_of, setting_of}
 use Rattle.et_theorems.proofs.Held.{text_defined, last_of, event_reached, event_behind, event_defined}
 use Rattle.et_theorems.proofs.theorems.written_traces_are_used.Goals as goal

@@ -1,11 +1,11 @@
 use Rattle.std.proofs.Common.{refl, ◌∙◌, ap, sym, subst}
 use Rattle.et_io.specs.Faults.{Rose}
-use Rattle.et_top.specs.Status.{is_read_status, is_write_status}
+use Rattle.et_files.specs.Status.{is_read_status, is_write_status}
 use Rattle.et_top.specs.Top.{benches, GivesDefined}
-use Rattle.et_top.specs.Told.{cause_of}
+use Rattle.et_files.specs.Told.{cause_of}
 use Rattle.et_top.specs.Visits.{IsNoTrace}
-use Rattle.et_top.proofs.FaultLemmas.{same_count, read_status, no_write_status, no_read_cause}
-use Rattle.et_top.proofs.Found.{of_file}
+use Rattle.et_files.proofs.FaultLemmas.{same_count, read_status, no_write_status, no_read_cause}
+use Rattle.et_files.proofs.Found.{of_file}
 use Rattle.et_top.proofs.TopLemmas.{refused_bench}
 use Rattle.et_top.proofs.bench.bench.Goals as goal
 

@@ -1,5 +1,5 @@
 use Rattle.std.proofs.Common.{◌∙◌, sym, subst}
-use Rattle.et_top.specs.Bench.{IsListingProgram}
+use Rattle.et_files.specs.Loaded.{IsListingProgram}
 use Rattle.et_top.proofs.bench.program_of_bench.Goals as goal
 
 pub returns-in-Ok-clause-tells : goal.returns-in-Ok-clause-tells

@@ -1,10 +1,10 @@
 use Rattle.std.proofs.Common.{refl, ap, subst}
 use Rattle.et_io.specs.Faults.{Rose}
 use Rattle.et_top.specs.Bench.{IsNotReadBack}
-use Rattle.et_top.specs.Status.{is_write_status}
+use Rattle.et_files.specs.Status.{is_write_status}
 use Rattle.et_top.specs.Visits.{IsBeforeBench}
 use Rattle.et_top.proofs.BenchHistory.{bad_gives, want_gives}
-use Rattle.et_top.proofs.FaultLemmas.{same_count}
+use Rattle.et_files.proofs.FaultLemmas.{same_count}
 use Rattle.et_top.proofs.bench.sum_up.Goals as goal
 
 pub returns-in-Ok-clause-gives : goal.returns-in-Ok-clause-gives

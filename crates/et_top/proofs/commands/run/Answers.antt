@@ -1,13 +1,13 @@
 use Rattle.std.proofs.Common.{sym, ◌∙◌, ap, subst, refl, map, string_bytes}
 use Rattle.et_io.specs.Faults.{Rose}
-use Rattle.et_top.specs.Loaded.{most_of_class}
-use Rattle.et_top.specs.Reads.{ReadsInOrder}
-use Rattle.et_top.specs.declared.status.Status.{Status}
-use Rattle.et_top.specs.declared.status.Status.TheVariants as status
-use Rattle.et_top.specs.Status.{is_read_status, is_write_status}
-use Rattle.et_top.specs.Told.{cause_of, is_read_cause}
-use Rattle.et_top.proofs.FaultLemmas.{same_count, counted_as, read_status, no_write_status}
-use Rattle.et_top.proofs.ReadLemmas.{reads_whole}
+use Rattle.et_files.specs.Loaded.{most_of_class}
+use Rattle.et_files.specs.Reads.{ReadsInOrder}
+use Rattle.et_files.specs.declared.status.Status.{Status}
+use Rattle.et_files.specs.declared.status.Status.TheVariants as status
+use Rattle.et_files.specs.Status.{is_read_status, is_write_status}
+use Rattle.et_files.specs.Told.{cause_of, is_read_cause}
+use Rattle.et_files.proofs.FaultLemmas.{same_count, counted_as, read_status, no_write_status}
+use Rattle.et_files.proofs.ReadLemmas.{reads_whole}
 use Rattle.et_top.specs.Top.{prints, GivesDefined}
 use Rattle.et_top.specs.Visits.{IsNoTrace}
 use Rattle.et_top.proofs.PrintLemmas.{print_more}

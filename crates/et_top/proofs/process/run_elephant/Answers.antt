@@ -1,12 +1,13 @@
 use Rattle.std.proofs.Common.{None, ◌≡◌, map, refl, ap, sym, subst}
 use Rattle.std.specs.Prelude.{string_bytes}
-use Rattle.et_top.specs.Command.{command}
+use Rattle.et_command.specs.Command.{command}
 use Rattle.et_top.specs.Top.{IsDefined}
 use Rattle.et_top.specs.Process.{model_kinds}
-use Rattle.et_top.specs.Reads.{ReadsInOrder, paths_of, most_of, is_early}
-use Rattle.et_top.specs.Status.{is_read_status, is_write_status}
-use Rattle.et_top.proofs.FaultLemmas.{same_count}
-use Rattle.et_top.proofs.ReadLemmas.{none_read}
+use Rattle.et_files.specs.Reads.{ReadsInOrder, is_early}
+use Rattle.et_top.specs.Paths.{paths_of, most_of}
+use Rattle.et_files.specs.Status.{is_read_status, is_write_status}
+use Rattle.et_files.proofs.FaultLemmas.{same_count}
+use Rattle.et_files.proofs.ReadLemmas.{none_read}
 use Rattle.et_top.proofs.TopLemmas.{memory_gives, still}
 use Rattle.et_top.proofs.process.run_elephant.Goals as goal
 

@@ -1,16 +1,16 @@
 use Rattle.std.proofs.Common.{◌∙◌, refl, ap, sym, subst, map, string_bytes}
 use Rattle.et_io.specs.Faults.{Rose}
-use Rattle.et_top.specs.Command.{Asked}
+use Rattle.et_command.specs.Command.{Asked, command}
 use Rattle.et_top.specs.Top.{GivesDefined}
-use Rattle.et_top.specs.Reads.{ReadsInOrder, paths_of, most_of, is_early}
-use Rattle.et_top.specs.Command.{command}
+use Rattle.et_files.specs.Reads.{ReadsInOrder, is_early}
+use Rattle.et_top.specs.Paths.{paths_of, most_of}
 use Rattle.et_top.specs.Visits.{IsWithoutRun, HasUnread}
 use Rattle.std.specs.Prelude.{Option, option_map}
-use Rattle.et_top.specs.Asked.{asked_by}
-use Rattle.et_top.specs.declared.command.Command.{Command}
-use Rattle.et_top.specs.Status.{is_read_status, is_write_status}
-use Rattle.et_top.proofs.FaultLemmas.{same_count}
-use Rattle.et_top.proofs.ReadLemmas.{none_read}
+use Rattle.et_command.specs.Asked.{asked_by}
+use Rattle.et_command.specs.declared.command.Command.{Command}
+use Rattle.et_files.specs.Status.{is_read_status, is_write_status}
+use Rattle.et_files.proofs.FaultLemmas.{same_count}
+use Rattle.et_files.proofs.ReadLemmas.{none_read}
 use Rattle.et_top.proofs.TopLemmas.{by_command, memory_gives, still}
 use Rattle.et_top.proofs.top.elephant.Goals as goal
 

@@ -1,15 +1,16 @@
 use Rattle.std.proofs.Common.{[], refl, sym, subst, arith}
 use Rattle.std.specs.Prelude.{Some}
-use Rattle.et_top.specs.declared.command.Command.{Command}
-use Rattle.et_top.specs.Asked.{asked_by}
+use Rattle.et_command.specs.declared.command.Command.{Command}
+use Rattle.et_command.specs.Asked.{asked_by}
 use Rattle.et_top.specs.Visits.{IsWithoutRun, IsNoTrace, HasUnread}
-use Rattle.et_top.specs.Reads.{ReadsInOrder, paths_of, most_of}
-use Rattle.et_top.specs.Status.{is_read_status}
+use Rattle.et_files.specs.Reads.{ReadsInOrder}
+use Rattle.et_top.specs.Paths.{paths_of, most_of}
+use Rattle.et_files.specs.Status.{is_read_status}
 use Rattle.et_top.specs.Top.{GivesDefined}
 use Rattle.et_io.specs.Faults.{Rose}
 use Rattle.et_top.proofs.BenchHistory.{bench_more}
-use Rattle.et_top.proofs.FaultLemmas.{same_count}
-use Rattle.et_top.proofs.ReadLemmas.{one_read, none_read}
+use Rattle.et_files.proofs.FaultLemmas.{same_count}
+use Rattle.et_files.proofs.ReadLemmas.{one_read, none_read}
 use Rattle.et_top.proofs.TopLemmas.{by_arm}
 use Rattle.et_top.proofs.top.perform.Goals as goal
 

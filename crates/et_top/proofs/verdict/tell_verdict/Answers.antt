@@ -1,7 +1,7 @@
 use Rattle.std.proofs.Common.{refl, ap, ◌∙◌, sym}
 use Rattle.et_io.specs.Faults.{Rose}
-use Rattle.et_top.specs.Status.{is_read_status, is_write_status}
-use Rattle.et_top.proofs.FaultLemmas.{same_count}
+use Rattle.et_files.specs.Status.{is_read_status, is_write_status}
+use Rattle.et_files.proofs.FaultLemmas.{same_count}
 use Rattle.et_top.proofs.TopLemmas.{unverified_gives, told_no_write, told_no_read, told_no_usage}
 use Rattle.et_top.proofs.verdict.tell_verdict.Goals as goal
 

@@ -1,0 +1,4 @@
+mod NumberLemmas
+mod OptionLemmas
+mod SplitLemmas
+pub mod PathLemmas

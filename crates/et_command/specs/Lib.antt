@@ -1,0 +1,5 @@
+pub mod Words
+pub mod Numbers
+pub mod Command
+pub mod Parts
+pub mod Asked

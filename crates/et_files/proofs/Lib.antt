@@ -1,0 +1,5 @@
+pub mod Found
+mod Followed
+pub mod FaultLemmas
+pub mod ReadLemmas
+pub mod LinkLemmas

@@ -1,0 +1,78 @@
+//! The program of the classes that a command names, or of a listing.
+ghost use Rattle.std.specs.Prelude.{◌≡◌, ◌≤◌, ◌<◌, Ok, Result, All, IfErr, length, map, string_bytes};
+ghost use Rattle.et_io.specs.Faults.{Rose, count_after};
+ghost use Rattle.et_io.specs.Files.{Held};
+ghost use Rattle.et_class.specs.Classes.{class_of, HasItsParts};
+ghost use Rattle.et_program.specs.Entries.{Linked};
+ghost use Rattle.et_files.specs.Faults.{Fault};
+ghost use Rattle.et_link.specs.Declaring.{HasItsFile};
+ghost use Rattle.et_files.specs.Loaded.{IsLinkedOf, IsListingProgram, IsProgramOfFiles, most_of_class};
+ghost use Rattle.et_files.specs.Reads.{ReadsInOrder};
+ghost use Rattle.et_files.specs.Told.{Tells, IsFileRefusal, IsOfBytes, cause_of, is_reading, status_of_result};
+
+use crate::classes::{class_in, load_classes, push};
+use crate::listings::listing_in;
+use crate::refusal::Refusal;
+use et_class::ClassFile;
+use et_io::Files;
+use et_link::laws::{answers_are_one, files_are_classes};
+use et_link::{LinkFault, Program, link};
+use std::alloc::Global;
+
+/// The program of the classes, where they link (JVMS 5.3, 5.4).
+fn program<'a>(alloc: Global, classes: Vec<ClassFile>) -> Result<Program, Refusal<'a>>
+    requires some { 0 < length classes.items }
+    requires parts { All HasItsParts classes.items }
+    requires of_files { All HasItsFile classes.items }
+    ensures tells { (program : Result Linked Fault) →
+        IsLinkedOf (Ok (map class_of classes.items)) program → Tells ⊥ (λ p. p) program result }
+    ensures bytes { IfErr result (λ refusal. IsOfBytes (cause_of refusal)) }
+{
+    // Laws: they tell the prover, and do nothing.
+    files_are_classes();
+    answers_are_one();
+    match link(alloc, classes) {
+        Ok(program) => Ok(program),
+        Err(LinkFault::At { kind, class }) => Err(Refusal::LinkFault { kind, class }),
+        Err(LinkFault::NoMemory) => Err(Refusal::NoMemory),
+    }
+}
+
+/// The program of the files at these paths: their classes, linked.
+pub fn load_program<'a, F: Files>(
+    alloc: Global,
+    paths: &'a [String],
+    files: &mut F,
+) -> Result<Program, Refusal<'a>>
+    requires some { 0 < length paths.now }
+    ensures tells { (held : Held) → F.agrees files.new (F.asked files.old) held →
+        (program : Result Linked Fault) → IsProgramOfFiles (map held (map string_bytes paths.now))
+        program → Tells (Rose (F.faults files.old) (F.faults files.new)) (λ p. p) program result }
+    ensures faults { F.faults files.new ≡ count_after (is_reading result) (F.faults files.old) }
+    ensures reads { ReadsInOrder (F.agrees files.new (F.asked files.old)) (F.asked files.old)
+        (F.asked files.new) most_of_class (map string_bytes paths.now) (status_of_result result) }
+    ensures file { IfErr result (λ refusal. IsFileRefusal (cause_of refusal)) }
+    ensures never_falls { F.faults files.old ≤ F.faults files.new }
+{
+    match load_classes(alloc, paths, files) {
+        Ok(classes) => program(alloc, classes),
+        Err(refusal) => Err(refusal),
+    }
+}
+
+/// The program of a listing: its class, linked alone. A refusal names the path.
+pub fn program_of_listing<'a>(
+    alloc: Global,
+    path: &'a str,
+    listing: &[u8],
+) -> Result<Program, Refusal<'a>>
+    ensures tells { (p : Result Linked Fault) →
+        IsListingProgram listing.now p → Tells ⊥ (λ program. program) p result }
+    ensures bytes { IfErr result (λ refusal. IsOfBytes (cause_of refusal)) }
+{
+    let bytes = listing_in(alloc, path, listing)?;
+    let class = class_in(alloc, path, &bytes)?;
+    let mut classes = Vec::new(alloc);
+    push(&mut classes, class)?;
+    program(alloc, classes)
+}

@@ -1,7 +1,0 @@
-use Rattle.std.proofs.Common.{◌≡◌, ◌≤◌, drop}
-use Rattle.et_top.specs.Numbers.{spelled_number}
-use Rattle.et_top.proofs.NumberLemmas.{onto}
-use Rattle.et_top.proofs.numbers.spelled.Given as goal
-
-abbrev pub invariant-digits : goal.invariant-digits
-invariant-digits l = (onto l.number (drop l.digit-index l.digits) ≡ spelled_number l.digits) × (l.number ≤ l.high)

@@ -1,6 +1,0 @@
-use Rattle.std.proofs.Common.{◌≡◌, drop}
-use Rattle.et_top.specs.Command.{option_value}
-use Rattle.et_top.proofs.options.value_of.Given as goal
-
-abbrev pub invariant-options : goal.invariant-options
-invariant-options l = option_value l.name (drop l.option-index l.options) ≡ option_value l.name l.options
