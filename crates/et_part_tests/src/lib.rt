@@ -31,6 +31,8 @@ mod packs;
 #[cfg(test)]
 mod pools;
 #[cfg(test)]
+mod round_trip;
+#[cfg(test)]
 mod timelines;
 #[cfg(test)]
 mod traces;

@@ -1,8 +1,8 @@
 //! Programs as javac writes them: those of `examples/` that have `main`, byte by byte, and their traces.
 
-use crate::runs::is_answered;
 use et_files::Status;
 use et_io::MemFiles;
+use et_test_runs::is_answered;
 use std::test::Fail;
 
 /// `examples/Queue.java`: links that are put into a queue and taken out of it.

@@ -1,13 +1,10 @@
-//! Each read and each write that fails, in turn; and sets of files at their limit.
+//! Each read and each write of a run that fails, in turn; and a second thread whose event has no meaning.
 
-use crate::first_path::BOX;
-use crate::runs::{answer, is_answered, words_of};
 use crate::traces::{BAD, Row, USE, USE_TRACE, are_answered, files_of};
 use et_files::Status;
-use et_io::{Files, Found, GatheringMemSink, MemFiles, MemSink};
+use et_io::{GatheringMemSink, MemSink};
+use et_test_runs::{answer, words_of};
 use et_top::run_process;
-use std::alloc::Global;
-use std::process::Abort;
 use std::test::Fail;
 
 const USE_LINE: &str = "trace Use.class Bad.class";
@@ -84,58 +81,6 @@ fn each_read_of_a_run_fails_in_turn(rt: HostRuntime) -> Result<(), Fail> {
     Ok(())
 }
 
-/// Of three files the first is no class file, and the second read would fail: the fault of the first is answered, and nothing
-/// more is read.
-#[test]
-fn a_fault_stands_before_a_later_read(rt: HostRuntime) -> Result<(), Fail> {
-    let alloc = rt.alloc();
-    let mut files = MemFiles::begin(alloc);
-    files.hold("Cut.class", &BOX[..10])?;
-    files.hold("Box.class", &BOX)?;
-    files.fail_at(2)?;
-    let mut out = MemSink::begin(alloc, 1000);
-    let mut err = MemSink::begin(alloc, 1000);
-    let line = "trace Cut.class Box.class Box.class";
-    let status = answer(alloc, line, &mut files, &mut out, &mut err)?;
-    assert_eq!(rt; status, Status::BadClass);
-    assert!(rt; out.bytes().is_empty());
-    assert!(rt; err.bytes().starts_with(b"elephant: bad class Cut.class "));
-    // the second read is still to come
-    assert!(rt; matches!(&files.read(alloc, "Box.class", 1000)?, Found::Failed));
-    Ok(())
-}
-
-/// A class whose superclass is not given.
-const SUB: &str = "class Sub Gone 0021\nmethod main ([Ljava/lang/String;)V 0009 1 1\nreturn\nend\n";
-
-/// A refusal that cannot be written leaves the answer as it is.
-#[test]
-fn a_refusal_that_is_not_taken(rt: HostRuntime) -> Result<(), Fail> {
-    let alloc = rt.alloc();
-    let rows = [
-        // a name that stands twice, a superclass that is not given, and no `main`
-        ("trace Box.class Box.class", Status::LinkFault),
-        ("trace Sub.class", Status::LinkFault),
-        ("trace Bad.class", Status::LinkFault),
-        ("trace Cut.class", Status::BadClass),
-        ("trace No.class", Status::Absent),
-        ("curve Box.class", Status::BadTrace),
-        ("trace", Status::Usage),
-    ];
-    for (line, wanted) in rows {
-        let mut files = files_of(alloc, &[("Sub.class", SUB), ("Bad.class", BAD)])?;
-        files.hold("Box.class", &BOX)?;
-        files.hold("Cut.class", &BOX[..10])?;
-        let mut out = MemSink::begin(alloc, 1000);
-        let mut err = MemSink::begin(alloc, 1000);
-        err.fail_at(1)?;
-        let status = answer(alloc, line, &mut files, &mut out, &mut err)?;
-        assert_eq!(rt; status, wanted, "{line}");
-        assert!(rt; out.bytes().is_empty());
-    }
-    Ok(())
-}
-
 /// A thread whose method takes from an empty stack.
 const SAD: &str = "class Sad java/lang/Thread 0021\nmethod <init> ()V 0001 1 1\naload 0\n\
     invokespecial java/lang/Thread <init> ()V\nreturn\nend\nmethod run ()V 0001 1 1\npop\nreturn\nend\n\
@@ -162,45 +107,4 @@ fn a_second_thread_is_ill_typed(rt: HostRuntime) -> Result<(), Fail> {
         },
     ];
     are_answered(&rt, rt.alloc(), &[("Sad.class", SAD)], &rows)
-}
-
-fn letter(number: u16) -> u8 {
-    b'A' + (number % 17) as u8
-}
-
-/// The name of a class, of three letters, by its number, which is at most 4,096.
-fn name_of(number: u16) -> [u8; 3] {
-    [
-        letter(number % 16),
-        letter(number / 16 % 16),
-        letter(number / 256),
-    ]
-}
-
-/// The class of the 4,097th file is one too many.
-#[test]
-fn one_file_too_many(rt: HostRuntime) -> Result<(), Fail> {
-    let alloc = rt.alloc();
-    let mut files = MemFiles::begin(alloc);
-    let mut line = String::from_str(alloc, "trace")?;
-    for number in 0..4097_u16 {
-        let mut class = Vec::from_slice(alloc, &BOX)?;
-        let name = name_of(number);
-        for (i, letter) in name.iter().enumerate() {
-            class[13 + i] = *letter;
-        }
-        let path = format!(in alloc; "{number}")?;
-        files.hold(&path, &class)?;
-        line.push(' ')?;
-        line.push_str(&path)?;
-    }
-    is_answered(
-        &rt,
-        alloc,
-        &mut files,
-        &line,
-        Status::LinkFault,
-        b"",
-        b"elephant: link 7 AAQ\n",
-    )
 }

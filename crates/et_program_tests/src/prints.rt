@@ -1,10 +1,10 @@
 //! Whole runs of programs that print: what `run` writes, and their traces. What is printed is what a JVM prints, but for a
 //! surrogate that stands without its partner in one call.
 
-use crate::runs::is_answered;
 use et_asm::assemble;
 use et_files::Status;
 use et_io::MemFiles;
+use et_test_runs::is_answered;
 use std::alloc::Global;
 use std::process::Abort;
 use std::test::Fail;

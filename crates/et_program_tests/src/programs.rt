@@ -1,9 +1,9 @@
 //! Programs of one class `T` that differ in its methods alone, run beside classes that serve all of them.
 
-use crate::runs::is_answered;
 use et_asm::assemble;
 use et_files::Status;
 use et_io::MemFiles;
+use et_test_runs::is_answered;
 use std::alloc::Global;
 use std::process::Abort;
 use std::test::Fail;

@@ -1,8 +1,8 @@
 //! Threads that take turns by words, and a run that keeps many objects over many flushes.
 
-use crate::runs::is_answered;
 use crate::traces::{Row, SLF, WRK, are_answered, files_of};
 use et_files::Status;
+use et_test_runs::is_answered;
 use std::alloc::Global;
 use std::test::Fail;
 

@@ -1,9 +1,9 @@
 //! Programs of the whole instruction set, and their traces.
 
-use crate::runs::is_answered;
 use et_asm::assemble;
 use et_files::Status;
 use et_io::MemFiles;
+use et_test_runs::is_answered;
 use std::alloc::Global;
 use std::process::Abort;
 use std::test::Fail;

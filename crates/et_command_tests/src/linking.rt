@@ -1,10 +1,10 @@
 //! Class files that don't link, and class files that link and are run.
 
 use crate::first_path::TRACE;
-use crate::runs::is_answered;
 use et_asm::assemble;
 use et_files::Status;
 use et_io::MemFiles;
+use et_test_runs::is_answered;
 use std::alloc::Global;
 use std::test::Fail;
 

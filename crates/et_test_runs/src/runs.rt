@@ -1,4 +1,4 @@
-//! A run of the program in memory.
+//! A run of the program in memory, with its answer, its output and the line of its refusal.
 use et_files::Status;
 use et_io::{MemFiles, MemSink};
 use et_top::run_elephant;
@@ -15,7 +15,7 @@ pub fn words_of(alloc: Global, line: &str) -> Result<Vec<String>, Fail> {
     Ok(words)
 }
 
-/// The answer of the program to these words, which stand with a space between.
+/// The answer of the program to these words, which stand with a space between. It fails where there is no memory for the words.
 pub fn answer(
     alloc: Global,
     line: &str,
@@ -26,7 +26,7 @@ pub fn answer(
     Ok(run_elephant(alloc, Ok(words_of(alloc, line)?), files, out, err))
 }
 
-/// The files hold this file; the answer, the output and the line of the refusal are these.
+/// The program answers these words so: with this status, this output and this line of a refusal. The test fails where it doesn't.
 pub fn is_answered(
     rt: &impl Abort,
     alloc: Global,

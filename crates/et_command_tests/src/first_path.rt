@@ -1,9 +1,9 @@
 //! The trace of one class of the first form, and each of its refusals.
 ghost use Rattle.std.specs.Prelude.{◌≤◌};
 
-use crate::runs::{answer, is_answered};
 use et_files::Status;
 use et_io::{MemFiles, MemSink};
+use et_test_runs::{answer, is_answered};
 use std::alloc::Global;
 use std::test::Fail;
 

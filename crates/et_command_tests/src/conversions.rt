@@ -1,8 +1,8 @@
 //! The command `convert`, and binary traces.
 use crate::first_path::{BOX, TRACE};
-use crate::runs::{answer, is_answered};
 use et_files::Status;
 use et_io::{MemFiles, MemSink};
+use et_test_runs::{answer, is_answered};
 use std::alloc::Global;
 use std::process::Abort;
 use std::test::Fail;

@@ -1,9 +1,9 @@
 use Rattle.std.proofs.Common.{refl, inl, inr}
 use denote.Param.Object.{read_made}
-use Rattle.et_program_tests.proofs.boxes.answer_of_three.OwnLists.{own-1}
+use Rattle.et_command_tests.proofs.boxes.answer_of_three.OwnLists.{own-1}
 use Rattle.et_replay.specs.declared.model.HeapModel.{Ghosts}
 use Rattle.et_models.proofs.Boxes.{three_all}
-use Rattle.et_program_tests.proofs.boxes.answer_of_three.Goals as goal
+use Rattle.et_command_tests.proofs.boxes.answer_of_three.Goals as goal
 
 pub elephant-requires : goal.elephant-requires
 elephant-requires g c =

@@ -1,4 +1,4 @@
-use Rattle.et_program_tests.proofs.bench.a_summary_that_is_not_taken.Given as goal
+use Rattle.et_command_tests.proofs.bench.cells_that_are_dropped.Given as goal
 
 abbrev pub ghosts-summed_up : goal.ghosts-summed_up
 ghosts-summed_up g a = record { name = a.blank.name; parts = a.blank.parts }

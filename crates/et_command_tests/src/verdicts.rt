@@ -1,10 +1,10 @@
 //! The command `verify` on whole programs: which are verified, which method is rejected, and in which order refusals come.
 
 use crate::first_path::BOX;
-use crate::runs::is_answered;
 use et_asm::assemble;
 use et_files::Status;
 use et_io::MemFiles;
+use et_test_runs::is_answered;
 use std::alloc::Global;
 use std::test::Fail;
 
