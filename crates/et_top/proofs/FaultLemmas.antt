@@ -8,6 +8,7 @@ use Rattle.et_io.specs.declared.putting.RunFault.{RunFault}
 use Rattle.et_io.specs.declared.putting.RunFault.TheVariants as write
 use Rattle.et_files.specs.Refusals.{status_of}
 use Rattle.et_files.specs.Status.{is_read_status, is_write_status}
+use Rattle.et_files.proofs.FaultLemmas.{rose_one}
 use Rattle.et_top.specs.Told.{refusal_of, status_of_writing}
 use Rattle.et_top.specs.Top.{status_of_end}
 

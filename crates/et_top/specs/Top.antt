@@ -32,7 +32,7 @@ use Rattle.et_verify.specs.Verdicts.{verified_count, IsFirstRejected}
 use Rattle.et_files.specs.Faults.{Fault, status_of_fault}
 use Rattle.et_bench.specs.Listing.{bench_listing}
 use Rattle.et_bench.specs.Totals.{summary_text}
-use Rattle.et_files.specs.Loaded.{IsListingProgram, file_bytes, most_of_class, most_of_trace, IsListingOf, IsTraceOf, IsProgramOfFiles}
+use Rattle.et_files.specs.Loaded.{IsListingProgram, file_bytes, most_of_class, most_of_trace, IsListingOf, IsTraceOf, IsProgramOfFiles, reaching}
 use Rattle.et_top.specs.Bench.{IsReadBack, IsNotReadBack}
 use Rattle.et_files.specs.declared.status.Status.{Status}
 use Rattle.et_files.specs.declared.status.Status.TheVariants as status
