@@ -4,8 +4,8 @@ import re
 import shutil
 
 COMMAND = r'(?:\./elephant|elephant|find|git|gnuplot|java|javac|jcmd|jfr|pv|python3|rt|zcat|(?:tools|tests|benches|examples|guest)/[\w/-]+) '
-# The words in capitals stand for these. The crate is the lowest one, on which lines with rt are tried.
-PLACES = {'MAIN': 'examples/Hello', 'NAME': 'et_base', 'PATH': 'words', 'FUNCTION': 'words'}
+# The words in capitals stand for these; PID for the number of a JVM that tests/pages starts.
+PLACES = {'MAIN': 'examples/Hello'}
 # What a line needs beside what is before it on the page, made before it.
 FIRST = {'zcat main.trace.gz': 'gzip -k main.trace'}
 # The program of which a JVM is asked.
@@ -35,6 +35,7 @@ QUICK = (
     (r'java -XX:StartFlightRecording', r'.*Started recording 1\..*'),
     (r'jfr print ', r'jdk\.ObjectAllocationSample \{\n.*objectClass = int\[\].*'),
     (r'tests/against-java/run \S+ Queens', r'1 programs, 8 runs, 0 with another output than under java\n'),
+    (r'rt fmt', r''),
     (r'benches/large ', r'bench 1: [\d.]+ seconds, [\d.]+ of the processor, peak \d+ MiB\n'),
 )
 SLOW = (
@@ -42,11 +43,6 @@ SLOW = (
     (r'tests/hostile ', r'.*\n\d{3} cases: \d{3} as wanted, 0 not, [01] skipped\n'),
     (r'tests/refused ', r'.*\n22 passed, 0 failed\n'),
     (r'benches/run .*--page', r'\| load +\|.*'),
-    (r'rt must-fail ', r'.*must-fail et_base/\S+: refused, as it must be.*'),
-    (r'rt fmt', r''),
-    (r'rt check --start ', r'.*'),
-    (r'rt check', r'.*\nlogic=proved .*'),
-    (r'rt try ', r'.*\nZ 5 0\n.*'),
 )
 Rule = collections.namedtuple('Rule', 'line writes is_slow')
 RULES = [Rule(*row, False) for row in QUICK] + [Rule(*row, True) for row in SLOW]
