@@ -43,7 +43,7 @@ fn options_of_trace(rt: HostRuntime) -> Result<(), Fail> {
         ),
     ];
     for (line, trace) in rows {
-        is_answered(&rt, alloc, &mut files, line, Status::Done, trace, b"")?;
+        is_answered(alloc, &mut files, line, Status::Done, trace, b"")?;
     }
     Ok(())
 }
@@ -76,12 +76,12 @@ fn several_files_are_read_in_order(rt: HostRuntime) -> Result<(), Fail> {
         ),
     ];
     for (line, status, refusal) in rows {
-        is_answered(&rt, alloc, &mut files, line, status, b"", refusal)?;
+        is_answered(alloc, &mut files, line, status, b"", refusal)?;
     }
     files.fail_at(9)?;
     let said = b"elephant: read fault Box.class\n";
     let line = "trace Box.class Box.class";
-    is_answered(&rt, alloc, &mut files, line, Status::ReadFault, b"", said)
+    is_answered(alloc, &mut files, line, Status::ReadFault, b"", said)
 }
 
 #[test]
@@ -89,7 +89,7 @@ fn a_listing_is_assembled(rt: HostRuntime) -> Result<(), Fail> {
     let alloc = rt.alloc();
     let mut files = files_with(alloc, "Box.txt", LISTING)?;
     let line = "asm Box.txt";
-    is_answered(&rt, alloc, &mut files, line, Status::Done, &BOX, b"")?;
+    is_answered(alloc, &mut files, line, Status::Done, &BOX, b"")?;
     let mut wrong = files_with(
         alloc,
         "Box.txt",
@@ -97,7 +97,7 @@ fn a_listing_is_assembled(rt: HostRuntime) -> Result<(), Fail> {
         method main ([Ljava/lang/String;)V 0009 1 1\nnew Box\npopp\nreturn\nend\n",
     )?;
     let said = b"elephant: bad text Box.txt 1 4\n";
-    is_answered(&rt, alloc, &mut wrong, line, Status::BadText, b"", said)?;
+    is_answered(alloc, &mut wrong, line, Status::BadText, b"", said)?;
     let mut open = files_with(
         alloc,
         "Box.txt",
@@ -105,7 +105,7 @@ fn a_listing_is_assembled(rt: HostRuntime) -> Result<(), Fail> {
         method main ([Ljava/lang/String;)V 0009 1 1\nnew Box\npop\nreturn\n",
     )?;
     let said = b"elephant: bad text Box.txt 5 6\n";
-    is_answered(&rt, alloc, &mut open, line, Status::BadText, b"", said)
+    is_answered(alloc, &mut open, line, Status::BadText, b"", said)
 }
 
 #[test]
@@ -113,7 +113,7 @@ fn the_live_curve_of_a_trace(rt: HostRuntime) -> Result<(), Fail> {
     let alloc = rt.alloc();
     let mut files = files_with(alloc, "T", TRACE)?;
     let curve = b"0 24\n1 24\n2 40\n4 0\n";
-    is_answered(&rt, alloc, &mut files, "curve T", Status::Done, curve, b"")
+    is_answered(alloc, &mut files, "curve T", Status::Done, curve, b"")
 }
 
 /// Object 1 is given objects in its slots 1 and 0 and loses the first of them; two static slots hold both objects, of which
@@ -147,11 +147,10 @@ fn what_stood_in_the_heap(rt: HostRuntime) -> Result<(), Fail> {
         ),
     ];
     for (line, lines) in rows {
-        is_answered(&rt, alloc, &mut files, line, Status::Done, lines, b"")?;
+        is_answered(alloc, &mut files, line, Status::Done, lines, b"")?;
     }
     let said = b"elephant: bad event 8\n";
     is_answered(
-        &rt,
         alloc,
         &mut files,
         "snapshot T 08",
@@ -191,7 +190,7 @@ fn a_trace_is_replayed(rt: HostRuntime) -> Result<(), Fail> {
         ),
     ];
     for (line, lines) in rows {
-        is_answered(&rt, alloc, &mut files, line, Status::Done, lines, b"")?;
+        is_answered(alloc, &mut files, line, Status::Done, lines, b"")?;
     }
     Ok(())
 }
@@ -240,28 +239,12 @@ fn damaged_traces_are_refused(rt: HostRuntime) -> Result<(), Fail> {
     for (place, line, refusal) in rows {
         let mut files = files_with(alloc, "T", &with_line(alloc, place, line)?)?;
         for command in ["curve T", "replay --mark-sweep 96 T"] {
-            is_answered(
-                &rt,
-                alloc,
-                &mut files,
-                command,
-                Status::BadTrace,
-                b"",
-                refusal,
-            )?;
+            is_answered(alloc, &mut files, command, Status::BadTrace, b"", refusal)?;
         }
     }
     let mut files = files_with(alloc, "T", b"")?;
     let said = b"elephant: bad trace T 5 1\n";
-    is_answered(
-        &rt,
-        alloc,
-        &mut files,
-        "curve T",
-        Status::BadTrace,
-        b"",
-        said,
-    )
+    is_answered(alloc, &mut files, "curve T", Status::BadTrace, b"", said)
 }
 
 #[test]
@@ -281,7 +264,7 @@ fn other_words_are_no_command(rt: HostRuntime) -> Result<(), Fail> {
         "asm",
     ] {
         let said = b"elephant: usage\n";
-        is_answered(&rt, alloc, &mut files, line, Status::Usage, b"", said)?;
+        is_answered(alloc, &mut files, line, Status::Usage, b"", said)?;
     }
     Ok(())
 }

@@ -44,7 +44,7 @@ fn a_trace_is_written_in_either_format_and_converted(rt: HostRuntime) -> Result<
         ),
     ];
     for (line, output) in rows {
-        is_answered(&rt, alloc, &mut files, line, Status::Done, output, b"")?;
+        is_answered(alloc, &mut files, line, Status::Done, output, b"")?;
     }
     Ok(())
 }
@@ -58,7 +58,7 @@ fn a_trace_that_is_not_read(rt: HostRuntime) -> Result<(), Fail> {
     files.fail_at(1)?;
     let said = b"elephant: read fault B\n";
     let line = "convert B";
-    is_answered(&rt, alloc, &mut files, line, Status::ReadFault, b"", said)
+    is_answered(alloc, &mut files, line, Status::ReadFault, b"", said)
 }
 
 /// A binary trace is written to a sink of which one put fails, the first, the second and so on up to the last: what it took is
@@ -246,15 +246,7 @@ fn damaged_binary_traces_are_refused(rt: HostRuntime) -> Result<(), Fail> {
         let mut files = MemFiles::begin(alloc);
         files.hold("T", &joined(alloc, front, behind)?)?;
         for command in ["convert T", "curve T", "replay --mark-sweep 96 T"] {
-            is_answered(
-                &rt,
-                alloc,
-                &mut files,
-                command,
-                Status::BadTrace,
-                b"",
-                refusal,
-            )?;
+            is_answered(alloc, &mut files, command, Status::BadTrace, b"", refusal)?;
         }
     }
     Ok(())
@@ -265,15 +257,7 @@ fn is_refused(rt: &impl Abort, alloc: Global, bytes: &[u8], refusal: &[u8]) -> R
     let mut files = MemFiles::begin(alloc);
     files.hold("T", bytes)?;
     for command in ["convert T", "curve T", "replay --mark-sweep 96 T"] {
-        is_answered(
-            rt,
-            alloc,
-            &mut files,
-            command,
-            Status::BadTrace,
-            b"",
-            refusal,
-        )?;
+        is_answered(alloc, &mut files, command, Status::BadTrace, b"", refusal)?;
     }
     Ok(())
 }

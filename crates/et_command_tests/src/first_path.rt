@@ -52,7 +52,6 @@ fn box_is_traced_byte_by_byte(rt: HostRuntime) -> Result<(), Fail> {
     let alloc = rt.alloc();
     let mut files = files_with(alloc, &BOX)?;
     is_answered(
-        &rt,
         alloc,
         &mut files,
         "trace Box.class",
@@ -67,7 +66,6 @@ fn attributes_change_nothing(rt: HostRuntime) -> Result<(), Fail> {
     let alloc = rt.alloc();
     let mut files = files_with(alloc, &BOX_WITH_ATTRIBUTES)?;
     is_answered(
-        &rt,
         alloc,
         &mut files,
         "trace Box.class",
@@ -85,7 +83,6 @@ fn an_empty_stack_is_ill_typed(rt: HostRuntime) -> Result<(), Fail> {
     bytes.extend_from_slice(b"\x00\x00\x00\x00\x00\x00")?;
     let mut files = files_with(alloc, &bytes)?;
     is_answered(
-        &rt,
         alloc,
         &mut files,
         "trace Box.class",
@@ -129,7 +126,6 @@ fn changed_classes_are_refused(rt: HostRuntime) -> Result<(), Fail> {
         let line = format!(in alloc; "elephant: bad class Box.class {fault}\n")?;
         let said = line.as_bytes();
         is_answered(
-            &rt,
             alloc,
             &mut files,
             "trace Box.class",
@@ -149,7 +145,6 @@ fn cut_classes_are_refused(rt: HostRuntime) -> Result<(), Fail> {
         let line = format!(in alloc; "elephant: bad class Box.class 11 {place}\n")?;
         let said = line.as_bytes();
         is_answered(
-            &rt,
             alloc,
             &mut files,
             "trace Box.class",
@@ -161,7 +156,6 @@ fn cut_classes_are_refused(rt: HostRuntime) -> Result<(), Fail> {
     let mut files = files_with(alloc, &BOX[..3])?;
     let said = b"elephant: bad class Box.class 11 0\n";
     is_answered(
-        &rt,
         alloc,
         &mut files,
         "trace Box.class",
@@ -174,7 +168,6 @@ fn cut_classes_are_refused(rt: HostRuntime) -> Result<(), Fail> {
     let mut files = files_with(alloc, &longer)?;
     let said = b"elephant: bad class Box.class 10 125\n";
     is_answered(
-        &rt,
         alloc,
         &mut files,
         "trace Box.class",
@@ -190,7 +183,6 @@ fn a_class_without_main_does_not_link(rt: HostRuntime) -> Result<(), Fail> {
     let mut files = files_with(alloc, &changed(alloc, 95, b"\x07")?)?;
     let said = b"elephant: link 6 Box\n";
     is_answered(
-        &rt,
         alloc,
         &mut files,
         "trace Box.class",
@@ -236,12 +228,11 @@ fn files_are_refused(rt: HostRuntime) -> Result<(), Fail> {
         ("run", Status::Usage, b"elephant: usage\n"),
     ];
     for (line, status, refusal) in rows {
-        is_answered(&rt, alloc, &mut files, line, status, b"", refusal)?;
+        is_answered(alloc, &mut files, line, status, b"", refusal)?;
     }
     let mut failing = files_with(alloc, &BOX)?;
     failing.fail_at(1)?;
     is_answered(
-        &rt,
         alloc,
         &mut failing,
         "trace Box.class",

@@ -106,15 +106,7 @@ fn faults_of_linking(rt: HostRuntime) -> Result<(), Fail> {
         ),
     ];
     for (line, refusal) in rows {
-        is_answered(
-            &rt,
-            alloc,
-            &mut files,
-            line,
-            Status::LinkFault,
-            b"",
-            refusal,
-        )?;
+        is_answered(alloc, &mut files, line, Status::LinkFault, b"", refusal)?;
     }
     Ok(())
 }
@@ -137,7 +129,7 @@ fn each_file_is_read_before_any_is_linked(rt: HostRuntime) -> Result<(), Fail> {
         ),
     ];
     for (line, status, refusal) in rows {
-        is_answered(&rt, alloc, &mut files, line, status, b"", refusal)?;
+        is_answered(alloc, &mut files, line, status, b"", refusal)?;
     }
     Ok(())
 }
@@ -155,7 +147,7 @@ fn what_links_is_run(rt: HostRuntime) -> Result<(), Fail> {
         ("trace Upper.class Near.class Box.class", upper),
     ];
     for (line, trace) in rows {
-        is_answered(&rt, alloc, &mut files, line, Status::Done, trace, b"")?;
+        is_answered(alloc, &mut files, line, Status::Done, trace, b"")?;
     }
     Ok(())
 }

@@ -102,7 +102,6 @@ fn one_file_too_many(rt: HostRuntime) -> Result<(), Fail> {
         line.push_str(&path)?;
     }
     is_answered(
-        &rt,
         alloc,
         &mut files,
         &line,

@@ -67,7 +67,7 @@ fn methods_with_typings_are_counted(rt: HostRuntime) -> Result<(), Fail> {
         ("verify Unread.class Box.class", b"verified 2\n"),
     ];
     for (line, output) in rows {
-        is_answered(&rt, alloc, &mut files, line, Status::Done, output, b"")?;
+        is_answered(alloc, &mut files, line, Status::Done, output, b"")?;
     }
     Ok(())
 }
@@ -91,7 +91,6 @@ fn the_first_method_without_a_typing_is_named(rt: HostRuntime) -> Result<(), Fai
     for (line, method) in rows {
         let refusal = format!(in alloc; "elephant: rejected {method}\n")?;
         is_answered(
-            &rt,
             alloc,
             &mut files,
             line,
@@ -131,10 +130,10 @@ fn other_refusals_come_first(rt: HostRuntime) -> Result<(), Fail> {
         ),
     ];
     for (line, status, refusal) in rows {
-        is_answered(&rt, alloc, &mut files, line, status, b"", refusal)?;
+        is_answered(alloc, &mut files, line, status, b"", refusal)?;
     }
     files.fail_at(6)?;
     let said = b"elephant: read fault Box.class\n";
     let line = "verify Box.class";
-    is_answered(&rt, alloc, &mut files, line, Status::ReadFault, b"", said)
+    is_answered(alloc, &mut files, line, Status::ReadFault, b"", said)
 }

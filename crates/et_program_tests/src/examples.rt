@@ -195,7 +195,7 @@ fn what_javac_wrote(rt: HostRuntime) -> Result<(), Fail> {
         files.hold(path, class)?;
     }
     for (line, trace) in RUNS {
-        is_answered(&rt, alloc, &mut files, line, Status::Done, trace, b"")?;
+        is_answered(alloc, &mut files, line, Status::Done, trace, b"")?;
     }
     Ok(())
 }

@@ -158,15 +158,7 @@ fn prints(rt: &impl Abort, alloc: Global, options: &str, program: Printing) -> R
     let (name, body, printed) = program;
     let mut files = files_with(alloc, name, body)?;
     let line = format!(in alloc; "run {options}{name}.class")?;
-    is_answered(
-        rt,
-        alloc,
-        &mut files,
-        line.as_str(),
-        Status::Done,
-        printed,
-        b"",
-    )
+    is_answered(alloc, &mut files, line.as_str(), Status::Done, printed, b"")
 }
 
 #[test]
@@ -197,7 +189,7 @@ fn what_was_printed_stays(rt: HostRuntime) -> Result<(), Fail> {
         ("run --limit 3 Hello.class", "".as_bytes()),
         ("run --limit 4 Hello.class", "Hi\n".as_bytes()),
     ] {
-        is_answered(&rt, alloc, &mut files, line, Status::Done, printed, b"")?;
+        is_answered(alloc, &mut files, line, Status::Done, printed, b"")?;
     }
     let mut wrong = files_with(
         alloc,
@@ -208,15 +200,7 @@ fn what_was_printed_stays(rt: HostRuntime) -> Result<(), Fail> {
     )?;
     let said = b"elephant: ill typed 0 Wrong main ([Ljava/lang/String;)V 12\n";
     let line = "run Wrong.class";
-    is_answered(
-        &rt,
-        alloc,
-        &mut wrong,
-        line,
-        Status::IllTyped,
-        b"before",
-        said,
-    )
+    is_answered(alloc, &mut wrong, line, Status::IllTyped, b"before", said)
 }
 
 /// The print stream is made where System.out is read first, and no record tells that the static has it.
@@ -229,7 +213,7 @@ fn programs_that_print_are_traced(rt: HostRuntime) -> Result<(), Fail> {
                   N 1 2 main ([Ljava/lang/String;)V\nM 1 0 1 0\nC 3 java/io/PrintStream\nA 2 0 2 3 16 0\n\
                   C 4 java/lang/String\nA 3 0 3 4 16 0\nE 5 0 1\nF 6 1\nD 1 4\nZ 6 0\n";
     let line = "trace Hello.class";
-    is_answered(&rt, alloc, &mut hello, line, Status::Done, trace, b"")?;
+    is_answered(alloc, &mut hello, line, Status::Done, trace, b"")?;
     let (name, body, _) = EQUAL;
     let mut equal = files_with(alloc, name, body)?;
     let trace = b"H 1 3\nC 1 [Ljava/lang/String;\nA 0 0 1 1 24 0\nC 2 Equal\n\
@@ -238,5 +222,5 @@ fn programs_that_print_are_traced(rt: HostRuntime) -> Result<(), Fail> {
                   A 4 0 4 5 16 0\nF 6 0\nA 8 0 5 4 16 0\nF 9 2\nD 4 7\nD 5 8\nE 11 0 1\nF 12 1\nD 1 10\n\
                   Z 12 0\n";
     let line = "trace --flush 3 Equal.class";
-    is_answered(&rt, alloc, &mut equal, line, Status::Done, trace, b"")
+    is_answered(alloc, &mut equal, line, Status::Done, trace, b"")
 }

@@ -136,7 +136,6 @@ pub fn is_run(
         refusal,
     } = wanted;
     is_answered(
-        rt,
         alloc,
         files,
         &line,

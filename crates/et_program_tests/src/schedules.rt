@@ -147,7 +147,6 @@ fn many_objects_over_many_flushes(rt: HostRuntime) -> Result<(), Fail> {
     let mut files = files_of(alloc, &[("Many.class", MANY)])?;
     let trace = many_trace(alloc)?;
     is_answered(
-        &rt,
         alloc,
         &mut files,
         "trace --flush 100 Many.class",

@@ -153,7 +153,6 @@ pub fn are_answered(
     let mut files = files_of(alloc, listings)?;
     for row in rows {
         is_answered(
-            rt,
             alloc,
             &mut files,
             row.line,
@@ -376,13 +375,5 @@ fn the_most_frames(rt: HostRuntime) -> Result<(), Fail> {
     let mut files = files_of(alloc, &[("Deep.class", DEEP)])?;
     let trace = deep_trace(alloc)?;
     let line = "trace Deep.class";
-    is_answered(
-        &rt,
-        alloc,
-        &mut files,
-        line,
-        Status::Done,
-        trace.as_bytes(),
-        b"",
-    )
+    is_answered(alloc, &mut files, line, Status::Done, trace.as_bytes(), b"")
 }

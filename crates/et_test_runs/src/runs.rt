@@ -3,7 +3,6 @@ use et_files::Status;
 use et_io::{MemFiles, MemSink};
 use et_top::run_elephant;
 use std::alloc::Global;
-use std::process::Abort;
 use std::test::Fail;
 
 /// The words of a line, which stand with a space between.
@@ -26,9 +25,8 @@ pub fn answer(
     Ok(run_elephant(alloc, Ok(words_of(alloc, line)?), files, out, err))
 }
 
-/// The program answers these words so: with this status, this output and this line of a refusal. The test fails where it doesn't.
+/// The program answers these words so: with this status, this output and this line of a refusal. It fails where it doesn't.
 pub fn is_answered(
-    rt: &impl Abort,
     alloc: Global,
     files: &mut MemFiles,
     line: &str,
@@ -39,8 +37,14 @@ pub fn is_answered(
     let mut out = MemSink::begin(alloc, 1);
     let mut err = MemSink::begin(alloc, 1000);
     let found = answer(alloc, line, files, &mut out, &mut err)?;
-    assert_eq!(rt; found, status);
-    assert_eq!(rt; out.bytes(), output);
-    assert_eq!(rt; err.bytes(), refusal);
+    if found != status {
+        return Err(Fail::new(format_args!("{line}: the status is {found:?}, and not {status:?}")));
+    }
+    if out.bytes() != output {
+        return Err(Fail::new(format_args!("{line}: the output is another")));
+    }
+    if err.bytes() != refusal {
+        return Err(Fail::new(format_args!("{line}: the line of the refusal is another")));
+    }
     Ok(())
 }
