@@ -1,0 +1,9 @@
+//! Lists that only proofs read.
+#![tactic(auto)]
+
+mod ghost_list;
+
+pub use ghost_list::{Change, GhostList};
+
+#[cfg(test)]
+mod tests;
