@@ -2,7 +2,6 @@ pub mod Places
 pub mod Pages
 pub mod Writes
 pub mod HeapLists
-pub mod Walks
 pub mod States
 pub mod Ways
 pub mod Changes

@@ -5,8 +5,9 @@ ghost use Rattle.et_heap.specs.Refs.{refs_of};
 ghost use Rattle.et_heap.specs.Stored.{as_stored, is_stored, unlinked, on_state, with_next, with_last, without_first};
 
 use crate::monitor::Monitor;
-use crate::waiting::{Newcomer, Waiting};
+use crate::waiting::{FirstGone, Newcomer, Unchanged};
 use et_base::{ClassId, ObjectId, ThreadId, Value};
+use et_ghost_list::GhostList;
 use std::marker::Model;
 
 /// The place of an object. It is empty once the object was taken out, and has no slots then. An `Option` takes up to
@@ -35,7 +36,7 @@ pub struct Place {
     /// Whether the object was not taken out.
     held: bool,
     /// The references that wait in the object.
-    waiting: Waiting,
+    waiting: GhostList<ObjectId>,
 }
 
 impl Model for Place {
@@ -55,7 +56,7 @@ impl Model for Place {
         slots = x.slots.items;
         referent = then_some x.has_referent x.referent;
         queue = then_some x.has_queue x.queue;
-        waiting = x.waiting.references;
+        waiting = x.waiting.items;
         waits = x.waits;
         monitor = record { owner = then_some x.has_owner x.owner; count = x.entered };
       };
@@ -117,7 +118,7 @@ impl Place {
             has_owner: false,
             has_references: false,
             held: true,
-            waiting: Waiting::begin(),
+            waiting: GhostList::begin(),
         }
     }
 
@@ -248,11 +249,11 @@ impl Place {
     }
 
     /// The references that wait in it.
-    pub fn waiting(&self) -> Waiting
+    pub fn waiting(&self) -> GhostList<ObjectId>
         requires { is_stored self.now }
-        ensures { result.references ≡ (as_stored self.now).state.waiting }
+        ensures { result.items ≡ (as_stored self.now).state.waiting }
     {
-        self.waiting.same()
+        self.waiting.then(&Unchanged {})
     }
 
     /// The last of the references that wait in it.
@@ -295,7 +296,7 @@ impl Place {
         requires { is_stored self.old }
         ensures { self.new ≡ Some (without_first last (as_stored self.old)) }
     {
-        self.waiting = self.waiting.without_first();
+        self.waiting = self.waiting.then(&FirstGone {});
         self.has_last = last.is_some();
         self.last = last.unwrap_or(ObjectId::new(0));
     }

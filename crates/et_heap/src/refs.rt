@@ -5,8 +5,9 @@ ghost use Rattle.et_heap.specs.Links.{AreLinked, AllStand};
 ghost use Rattle.et_heap.specs.Refs.{leads_to};
 
 use crate::store::Store;
-use crate::waiting::Waiting;
+use crate::waiting::FirstGone;
 use et_base::{ObjectId, Value};
+use et_ghost_list::GhostList;
 use std::marker::Model;
 
 /// An iterator over the references that wait in an object, in their order. A contract sees it as the list of those that
@@ -14,7 +15,7 @@ use std::marker::Model;
 #[derive(Drop)]
 pub struct WaitingRefs<'a> {
     store: &'a Store,
-    waiting: Waiting,
+    waiting: GhostList<ObjectId>,
     /// The reference before the first that is left, or none where none is left.
     before: Option<ObjectId>,
     /// The last reference that waits.
@@ -27,7 +28,7 @@ impl<'a> Model for WaitingRefs<'a> {
 
     ghost Value = { List ℕ };
 
-    ghost view = { λ r. r.waiting.references };
+    ghost view = { λ r. r.waiting.items };
 
     ghost invariant = { IsWaitingInside };
 }
@@ -77,7 +78,7 @@ impl<'a> Iterator for WaitingRefs<'a> {
             None => None,
             Some(before) => {
                 let first = self.store.object(before).next();
-                self.waiting = self.waiting.without_first();
+                self.waiting = self.waiting.then(&FirstGone {});
                 self.before = unless_last(&first, &self.last);
                 first
             }

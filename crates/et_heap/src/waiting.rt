@@ -1,55 +1,33 @@
-//! Lists of waiting references, which only proofs read. They take no memory, and nothing is done for them at run time.
-ghost use Rattle.std.specs.Prelude.{◌≡◌, ℕ, List, [], ◌∷◌, ◌++◌, drop};
-ghost use Rattle.std.specs.Borrow.{ftrue};
-
+//! How the references change that wait in an object.
 use et_base::ObjectId;
-use std::marker::Model;
+use et_ghost_list::Change;
 
-/// References in the order in which they wait. A clause reads them as `references`.
+/// Nothing changes.
 #[derive(Drop)]
-pub struct Waiting {
-    pub ghost references: { List ℕ },
+pub struct Unchanged {}
+
+impl Change<ObjectId> for Unchanged {
+    ghost after = { λ _ references. references };
 }
 
-impl Model for Waiting {
-    ghost also_owns = { λ _. ftrue };
-}
-
-/// A reference that begins to wait.
+/// A reference begins to wait, behind the others.
 #[derive(Drop)]
 pub struct Newcomer {
     pub reference: ObjectId,
 }
 
-impl Waiting {
-    /// No reference waits.
-    pub fn begin() -> Waiting
-        ensures { result.references ≡ [] }
-    {
-        Waiting {}
-    }
+impl Change<ObjectId> for Newcomer {
+    ghost use Rattle.std.specs.Prelude.{[], ◌∷◌, ◌++◌};
 
-    /// The same references.
-    #[inline(always)]
-    pub fn same(&self) -> Waiting
-        ensures { result.references ≡ self.now.references }
-    {
-        Waiting {}
-    }
+    ghost after = { λ newcomer references. references ++ newcomer.reference ∷ [] };
+}
 
-    /// One reference more, at the end.
-    #[inline(always)]
-    pub fn then(&self, _newcomer: &Newcomer) -> Waiting
-        ensures { result.references ≡ self.now.references ++ _newcomer.now.reference ∷ [] }
-    {
-        Waiting {}
-    }
+/// The first reference waits no longer.
+#[derive(Drop)]
+pub struct FirstGone {}
 
-    /// All but the first.
-    #[inline(always)]
-    pub fn without_first(&self) -> Waiting
-        ensures { result.references ≡ drop 1 self.now.references }
-    {
-        Waiting {}
-    }
+impl Change<ObjectId> for FirstGone {
+    ghost use Rattle.std.specs.Prelude.{drop};
+
+    ghost after = { λ _ references. drop 1 references };
 }

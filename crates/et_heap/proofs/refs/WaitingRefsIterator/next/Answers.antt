@@ -9,9 +9,9 @@ pub invariant_of-self : goal.invariant_of-self
 invariant_of-self c =
     let P = c.self.inside.store.now in
     let l = c.self.inside.last in
-    let rs = c.self.inside.waiting.references in
+    let rs = c.self.inside.waiting.items in
     let n = left-next (next_of P) c.in-Some.before l rs c.self.invariant.once (subst (λ b. IsLeft (next_of P) b l rs) c.in-Some.is c.self.invariant.left) in
-    let list : c.without_first-self-inside.result.references ≡ n.rest = c.without_first-self-inside.ensures ∙ ap (λ xs. drop 1 xs) n.is in
+    let list : c.then-self-inside.result.items ≡ n.rest = c.then-self-inside.ensures ∙ ap (λ xs. drop 1 xs) n.is in
     let first : c.next-first.result ≡ Some n.first = c.next-first.ensures ∙ (ap (λ y. (as_stored y).next) c.object.ensures ∙ n.goes) in
     let once : StandOnce (n.first ∷ n.rest) = subst StandOnce n.is c.self.invariant.once in
     let ends : Some n.first ≡ l → c.unless_last-self-inside.result ≡ None = λ e. c.unless_last-self-inside.ensures.ends (first ∙ e) in
