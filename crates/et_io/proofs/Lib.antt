@@ -2,4 +2,3 @@ pub mod Counting
 pub mod Gathered
 pub mod Storing
 pub mod Taking
-pub mod Walks

@@ -18,7 +18,7 @@ calls_of files = files.calls
 
 -- the reads so far
 abbrev pub asked_of : MemFiles → List Reading
-asked_of files = files.reads.log
+asked_of files = files.reads.items
 
 -- the new files are the old ones with this file at this path, and no read was made
 pub record Holds (old new : MemFiles) (path bytes : List ℕ) : Type 0 where

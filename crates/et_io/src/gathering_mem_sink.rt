@@ -35,10 +35,10 @@ impl Model for GatheringMemSink {
     ghost Value = { GatheringSinkInMemory };
 
     ghost view = { λ s.
-        record { taken = s.puts.marks; count_handed = s.count_handed; calls = s.calls } };
+        record { taken = s.puts.items; count_handed = s.count_handed; calls = s.calls } };
 
     ghost invariant = { λ s. (s.count_handed ≤ length s.taken.items)
-        × (s.taken.items ≡ taken_bytes s.puts.marks) };
+        × (s.taken.items ≡ taken_bytes s.puts.items) };
 }
 
 impl GatheringMemSink {

@@ -73,9 +73,9 @@ fn read_open<F: Read + Drop>(file: F, alloc: Global, most: u64) -> Result<Found,
 impl<R: rt::Files> Files for HostFiles<R> {
     ghost use Rattle.et_io.specs.Files.{AgreesBehind};
 
-    ghost asked = { λ files. files.reads.log };
+    ghost asked = { λ files. files.reads.items };
 
-    ghost agrees = { λ files first held. AgreesBehind first files.reads.log held };
+    ghost agrees = { λ files first held. AgreesBehind first files.reads.items held };
 
     ghost faults = { λ files. files.faults };
 
@@ -134,7 +134,7 @@ impl<W: Write + Drop> HostSink<BufWriter<W>> {
 impl<W: Write> Sink for HostSink<W> {
     ghost use Rattle.std.specs.Prelude.{Some};
 
-    ghost taken = { λ sink. Some sink.puts.marks };
+    ghost taken = { λ sink. Some sink.puts.items };
 
     ghost faults = { λ sink. sink.faults };
 
@@ -156,15 +156,15 @@ impl<W: Write + Drop> GatheringSink for HostSink<BufWriter<W>> {
     ghost use Rattle.std.specs.Io.Buffered.{writer_buffer};
     ghost use Rattle.et_io.specs.Sink.{bytes_but};
 
-    ghost handed = { λ sink. Some (bytes_but (writer_buffer sink.stream) sink.puts.marks) };
+    ghost handed = { λ sink. Some (bytes_but (writer_buffer sink.stream) sink.puts.items) };
 
     /// Hands on to the stream what was gathered, and says whether the stream took it all.
     fn hand_on(&mut self) -> bool
         ensures emptied { result ≡ true → writer_buffer self.new.stream ≡ [] }
-        ensures taken { Some self.new.puts.marks ≡ Some self.old.puts.marks }
+        ensures taken { Some self.new.puts.items ≡ Some self.old.puts.items }
         ensures handed { result ≡ true →
-            Some (bytes_but (writer_buffer self.new.stream) self.new.puts.marks)
-            ≡ Some (taken_bytes self.new.puts.marks) }
+            Some (bytes_but (writer_buffer self.new.stream) self.new.puts.items)
+            ≡ Some (taken_bytes self.new.puts.items) }
         ensures faults { self.new.faults ≡ count_after (not result) self.old.faults }
     {
         let is_taken = self.stream.flush().is_ok();

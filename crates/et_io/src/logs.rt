@@ -1,85 +1,72 @@
-//! The logs of reads and of puts, which only proofs read. They take no memory, and nothing is done for them at run time.
-ghost use Rattle.std.specs.Prelude.{◌≡◌, ℕ, List, [], ◌∷◌, ◌++◌};
-ghost use Rattle.std.specs.Borrow.{ftrue};
-ghost use Rattle.std.specs.Coded.{coded_list};
-ghost use Rattle.et_io.specs.Codes.{coded_mark, coded_reading};
-ghost use Rattle.et_io.specs.Files.{Reading, answer_of};
-ghost use Rattle.et_io.specs.Sink.{Mark, after_put};
-
+//! The logs of reads and of puts, which only proofs read.
 use crate::files::Found;
 use crate::sink::Put;
 use et_base::NoMemory;
+use et_ghost_list::{Change, GhostList};
 use std::marker::Model;
 
-/// The reads so far, in order. A clause reads them as `log`.
-#[derive(Drop)]
-pub(crate) struct Reads {
-    pub ghost log: { List Reading } by { coded_list coded_reading },
-}
-
-impl Model for Reads {
-    ghost also_owns = { λ _. ftrue };
-}
+/// The reads so far, in order.
+pub(crate) type Reads = GhostList<Read<'static>>;
 
 /// A read of the file at this path that asked for at most so many bytes, and its answer.
-#[derive(Clone, Copy, Drop)]
+#[derive(Drop)]
 pub(crate) struct Read<'a> {
     pub path: &'a str,
     pub most: u64,
     pub answer: &'a Result<Found, NoMemory>,
 }
 
-impl Reads {
-    /// No read so far.
-    pub(crate) fn begin() -> Reads
-        ensures { result.log ≡ [] }
-    {
-        Reads {}
-    }
+impl<'a> Model for Read<'a> {
+    ghost use Rattle.et_io.specs.Codes.{coded_reading};
+    ghost use Rattle.et_io.specs.Files.{Reading, answer_of};
 
-    /// One read more.
-    #[inline(always)]
-    pub(crate) fn then(&self, _read: &Read<'_>) -> Reads
-        ensures { result.log ≡ self.now.log ++ record {
-          path = _read.now.path.now;
-          most = _read.now.most;
-          answer = answer_of _read.now.answer.now;
-        } ∷ [] }
-    {
-        Reads {}
-    }
+    ghost Value = { Reading };
+
+    ghost coded = { coded_reading };
+
+    ghost view = { λ r. record {
+      path = r.path.now;
+      most = r.most;
+      answer = answer_of r.answer.now;
+    } };
 }
 
-/// The marks of the puts so far, in order. A clause reads them as `marks`.
+/// One read more.
+impl<'a> Change<Read<'static>> for Read<'a> {
+    ghost use Rattle.std.specs.Prelude.{[], ◌∷◌, ◌++◌};
+
+    ghost after = { λ read log. log ++ read ∷ [] };
+}
+
+/// The marks of the puts so far, in order.
+pub(crate) type Puts = GhostList<LogMark>;
+
+/// A mark of a put, which contracts name and nothing makes.
 #[derive(Drop)]
-pub(crate) struct Puts {
-    pub ghost marks: { List Mark } by { coded_list coded_mark },
-}
+pub(crate) struct LogMark {}
 
-impl Model for Puts {
-    ghost also_owns = { λ _. ftrue };
+impl Model for LogMark {
+    ghost use Rattle.std.specs.Prelude.{[]};
+    ghost use Rattle.et_io.specs.Codes.{coded_mark};
+    ghost use Rattle.et_io.specs.Sink.{Mark, Untaken};
+
+    ghost Value = { Mark };
+
+    ghost coded = { coded_mark };
+
+    ghost view = { λ _. Untaken [] };
 }
 
 /// A put of this piece, and its answer.
-#[derive(Clone, Copy, Drop)]
+#[derive(Drop)]
 pub(crate) struct Made<'a> {
     pub piece: &'a [u8],
     pub answer: Put,
 }
 
-impl Puts {
-    /// No put so far.
-    pub(crate) fn begin() -> Puts
-        ensures { result.marks ≡ [] }
-    {
-        Puts {}
-    }
+/// One put more.
+impl<'a> Change<LogMark> for Made<'a> {
+    ghost use Rattle.et_io.specs.Sink.{after_put};
 
-    /// One put more.
-    #[inline(always)]
-    pub(crate) fn then(&self, _put: &Made<'_>) -> Puts
-        ensures { result.marks ≡ after_put _put.now.answer _put.now.piece.now self.now.marks }
-    {
-        Puts {}
-    }
+    ghost after = { λ put marks. after_put put.answer put.piece.now marks };
 }

@@ -31,9 +31,9 @@ impl Model for MemSink {
 
     ghost Value = { SinkInMemory };
 
-    ghost view = { λ s. record { taken = s.puts.marks; most = s.most; calls = s.calls } };
+    ghost view = { λ s. record { taken = s.puts.items; most = s.most; calls = s.calls } };
 
-    ghost invariant = { λ s. (1 ≤ s.most) × (s.taken.items ≡ taken_bytes s.puts.marks) };
+    ghost invariant = { λ s. (1 ≤ s.most) × (s.taken.items ≡ taken_bytes s.puts.items) };
 }
 
 impl MemSink {

@@ -13,17 +13,17 @@ invariant_of-self c =
     elim c.if-next_call.branch [
       | then-next_call w ↦ (
         subst (λ (s : Inside). s.count_handed ≤ length s.taken.items) (sym w.self-inside-is) c.self.invariant.0,
-        stored_failed c.if-next_call.answer piece was.taken.items is.taken.items was.puts.marks is.puts.marks c.then-self-inside.result.marks c.self.invariant.1
-            (ap (λ (s : Inside). s.puts.marks) w.self-inside-is) c.then-self-inside.ensures w.answer-is (ap (λ (s : Inside). s.taken.items) w.self-inside-is),
+        stored_failed c.if-next_call.answer piece was.taken.items is.taken.items was.puts.items is.puts.items c.then-self-inside.result.items c.self.invariant.1
+            (ap (λ (s : Inside). s.puts.items) w.self-inside-is) c.then-self-inside.ensures w.answer-is (ap (λ (s : Inside). s.taken.items) w.self-inside-is),
       )
       | else-next_call+in-Ok w ↦ (
         subst (λ (s : Inside). s.count_handed ≤ length is.taken.items) (sym w.self-inside-is) (handed_still was.count_handed was.taken.items is.taken.items piece c.self.invariant.0 (ap (λ (s : Inside). s.taken.items) w.self-inside-is ∙ w.in-Ok.ensures.items)),
-        stored_taken c.if-next_call.answer piece was.taken.items is.taken.items was.puts.marks is.puts.marks c.then-self-inside.result.marks c.self.invariant.1
-            (ap (λ (s : Inside). s.puts.marks) w.self-inside-is) c.then-self-inside.ensures (length piece) w.answer-is (ap (λ (s : Inside). s.taken.items) w.self-inside-is ∙ (w.in-Ok.ensures.items ∙ ap (λ (t : List ℕ). was.taken.items ++ t) (sym (take-length piece)))),
+        stored_taken c.if-next_call.answer piece was.taken.items is.taken.items was.puts.items is.puts.items c.then-self-inside.result.items c.self.invariant.1
+            (ap (λ (s : Inside). s.puts.items) w.self-inside-is) c.then-self-inside.ensures (length piece) w.answer-is (ap (λ (s : Inside). s.taken.items) w.self-inside-is ∙ (w.in-Ok.ensures.items ∙ ap (λ (t : List ℕ). was.taken.items ++ t) (sym (take-length piece)))),
       )
       | else-next_call+in-Err w ↦ (
         subst (λ (s : Inside). s.count_handed ≤ length is.taken.items) (sym w.self-inside-is) (subst (λ (t : List ℕ). was.count_handed ≤ length t) (sym (ap (λ (s : Inside). s.taken.items) w.self-inside-is ∙ w.in-Err.ensures.items)) c.self.invariant.0),
-        stored_lacking c.if-next_call.answer piece was.taken.items is.taken.items was.puts.marks is.puts.marks c.then-self-inside.result.marks c.self.invariant.1
-            (ap (λ (s : Inside). s.puts.marks) w.self-inside-is) c.then-self-inside.ensures w.answer-is (ap (λ (s : Inside). s.taken.items) w.self-inside-is ∙ w.in-Err.ensures.items),
+        stored_lacking c.if-next_call.answer piece was.taken.items is.taken.items was.puts.items is.puts.items c.then-self-inside.result.items c.self.invariant.1
+            (ap (λ (s : Inside). s.puts.items) w.self-inside-is) c.then-self-inside.ensures w.answer-is (ap (λ (s : Inside). s.taken.items) w.self-inside-is ∙ w.in-Err.ensures.items),
       )
     ]

@@ -12,17 +12,17 @@ invariant_of-self c =
     elim c.if-next_call.branch [
       | then-next_call w ↦ (
         subst (λ (s : Inside). 1 ≤ s.most) (sym w.self-inside-is) c.self.invariant.0,
-        stored_failed c.if-next_call.answer piece was.taken.items is.taken.items was.puts.marks is.puts.marks c.then-self-inside.result.marks c.self.invariant.1
-            (ap (λ (s : Inside). s.puts.marks) w.self-inside-is) c.then-self-inside.ensures w.answer-is (ap (λ (s : Inside). s.taken.items) w.self-inside-is),
+        stored_failed c.if-next_call.answer piece was.taken.items is.taken.items was.puts.items is.puts.items c.then-self-inside.result.items c.self.invariant.1
+            (ap (λ (s : Inside). s.puts.items) w.self-inside-is) c.then-self-inside.ensures w.answer-is (ap (λ (s : Inside). s.taken.items) w.self-inside-is),
       )
       | else-next_call+in-Ok w ↦ (
         subst (λ (s : Inside). 1 ≤ s.most) (sym w.self-inside-is) c.self.invariant.0,
-        stored_taken c.if-next_call.answer piece was.taken.items is.taken.items was.puts.marks is.puts.marks c.then-self-inside.result.marks c.self.invariant.1
-            (ap (λ (s : Inside). s.puts.marks) w.self-inside-is) c.then-self-inside.ensures w.min-count.result w.answer-is (ap (λ (s : Inside). s.taken.items) w.self-inside-is ∙ w.in-Ok.ensures.items),
+        stored_taken c.if-next_call.answer piece was.taken.items is.taken.items was.puts.items is.puts.items c.then-self-inside.result.items c.self.invariant.1
+            (ap (λ (s : Inside). s.puts.items) w.self-inside-is) c.then-self-inside.ensures w.min-count.result w.answer-is (ap (λ (s : Inside). s.taken.items) w.self-inside-is ∙ w.in-Ok.ensures.items),
       )
       | else-next_call+in-Err w ↦ (
         subst (λ (s : Inside). 1 ≤ s.most) (sym w.self-inside-is) c.self.invariant.0,
-        stored_lacking c.if-next_call.answer piece was.taken.items is.taken.items was.puts.marks is.puts.marks c.then-self-inside.result.marks c.self.invariant.1
-            (ap (λ (s : Inside). s.puts.marks) w.self-inside-is) c.then-self-inside.ensures w.answer-is (ap (λ (s : Inside). s.taken.items) w.self-inside-is ∙ w.in-Err.ensures.items),
+        stored_lacking c.if-next_call.answer piece was.taken.items is.taken.items was.puts.items is.puts.items c.then-self-inside.result.items c.self.invariant.1
+            (ap (λ (s : Inside). s.puts.items) w.self-inside-is) c.then-self-inside.ensures w.answer-is (ap (λ (s : Inside). s.taken.items) w.self-inside-is ∙ w.in-Err.ensures.items),
       )
     ]
