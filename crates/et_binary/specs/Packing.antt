@@ -34,9 +34,13 @@ packed_fields (Finish event how) = Fixed w64 event ∷ Fixed w8 how ∷ []
 abbrev pub packing : TraceLine → List ℕ
 packing line = letter line ∷ flat_map packed_field (packed_fields line)
 
+-- the first byte of a binary trace, FE
+abbrev pub first_byte : ℕ
+first_byte = 254
+
 -- what stands before the first record: FE, and E, T and 2
 abbrev pub opening : List ℕ
-opening = 254 ∷ 69 ∷ 84 ∷ 50 ∷ []
+opening = first_byte ∷ 69 ∷ 84 ∷ 50 ∷ []
 
 -- the bytes of the lines, in order
 abbrev pub pack : List TraceLine → List ℕ

@@ -3,15 +3,13 @@ ghost use Rattle.std.specs.Prelude.{◌≡◌};
 ghost use Rattle.et_binary.specs.Fronts.{is_record_letter, is_turn, is_call_in_range, is_access_in_range, is_in_range, may_open};
 
 use et_base::TraceLine;
+use et_text::ranges::{
+    GREATEST_ENDING, GREATEST_EVENT, GREATEST_LENGTH, GREATEST_SIZE, LEAST_SIZE, OBJECT_LIMIT,
+    SLOT_LIMIT, THREAD_COUNT,
+};
 
 /// What stands before the first record.
 pub const OPENING: [u8; 4] = [0xFE, b'E', b'T', b'2'];
-
-/// The greatest event.
-const MOST: u64 = 1 << 40;
-
-/// One more than the greatest object.
-const OBJECTS: u32 = 1 << 24;
 
 /// Whether a record begins with the letter.
 pub fn is_record_letter(b: u8) -> bool
@@ -34,7 +32,7 @@ pub fn may_open(bytes: &[u8]) -> bool
 fn is_turn(event: u64, thread: u8) -> bool
     ensures { result ≡ is_turn event thread }
 {
-    event <= MOST && thread < 64
+    event <= GREATEST_EVENT && thread < THREAD_COUNT
 }
 
 fn is_call_in_range(line: &TraceLine) -> bool
@@ -46,7 +44,7 @@ fn is_call_in_range(line: &TraceLine) -> bool
             thread,
             method,
             receiver,
-        } => is_turn(*event, *thread) && 0 < *method && *receiver < OBJECTS,
+        } => is_turn(*event, *thread) && 0 < *method && *receiver < OBJECT_LIMIT,
         TraceLine::Exit {
             event,
             thread,
@@ -57,7 +55,9 @@ fn is_call_in_range(line: &TraceLine) -> bool
             thread,
             method,
             exception,
-        } => { is_turn(*event, *thread) && 0 < *method && 0 < *exception && *exception < OBJECTS }
+        } => {
+            is_turn(*event, *thread) && 0 < *method && 0 < *exception && *exception < OBJECT_LIMIT
+        }
         _ => true,
     }
 }
@@ -74,9 +74,13 @@ fn is_access_in_range(line: &TraceLine) -> bool
             size,
             length,
         } => {
-            let is_object = 0 < *object && *object < OBJECTS;
-            let is_size = 16 <= *size && *size <= 1 << 30;
-            is_turn(*event, *thread) && is_object && 0 < *class && is_size && *length <= 1 << 26
+            let is_object = 0 < *object && *object < OBJECT_LIMIT;
+            let is_size = LEAST_SIZE <= *size && *size <= GREATEST_SIZE;
+            is_turn(*event, *thread)
+                && is_object
+                && 0 < *class
+                && is_size
+                && *length <= GREATEST_LENGTH
         }
         TraceLine::Update {
             event,
@@ -86,8 +90,8 @@ fn is_access_in_range(line: &TraceLine) -> bool
             old,
             new,
         } => {
-            let are_objects = *old < OBJECTS && *new < OBJECTS;
-            is_turn(*event, *thread) && *object < OBJECTS && *slot < 1 << 28 && are_objects
+            let are_objects = *old < OBJECT_LIMIT && *new < OBJECT_LIMIT;
+            is_turn(*event, *thread) && *object < OBJECT_LIMIT && *slot < SLOT_LIMIT && are_objects
         }
         _ => is_call_in_range(line),
     }
@@ -98,7 +102,7 @@ pub fn is_in_range(line: &TraceLine) -> bool
     ensures { result ≡ is_in_range line.now }
 {
     match line {
-        TraceLine::Header { interval, .. } => *interval <= MOST,
+        TraceLine::Header { interval, .. } => *interval <= GREATEST_EVENT,
         TraceLine::Class { number, name } => 0 < *number && 0 < name.as_slice().len(),
         TraceLine::Method {
             number,
@@ -109,9 +113,11 @@ pub fn is_in_range(line: &TraceLine) -> bool
             let (name, descriptor) = (name.as_slice(), descriptor.as_slice());
             0 < *number && 0 < *class && 0 < name.len() && 0 < descriptor.len()
         }
-        TraceLine::Flush { event, deaths } => *event <= MOST && *deaths < OBJECTS,
-        TraceLine::Death { object, time } => 0 < *object && *object < OBJECTS && *time <= MOST,
-        TraceLine::Finish { event, how } => *event <= MOST && *how <= 3,
+        TraceLine::Flush { event, deaths } => *event <= GREATEST_EVENT && *deaths < OBJECT_LIMIT,
+        TraceLine::Death { object, time } => 0 < *object
+            && *object < OBJECT_LIMIT
+            && *time <= GREATEST_EVENT,
+        TraceLine::Finish { event, how } => *event <= GREATEST_EVENT && *how <= GREATEST_ENDING,
         _ => is_access_in_range(line),
     }
 }

@@ -6,12 +6,13 @@ use Rattle.et_base.specs.declared.line.TraceLine.{TraceLine}
 use Rattle.et_text.specs.Text.{IsTextOf, IsTraceFault}
 use Rattle.et_text.specs.declared.fault.TraceFault.{TraceFault}
 use Rattle.et_text.specs.declared.fault.TraceFault.TheVariants as faults
+use Rattle.et_binary.specs.Packing.{first_byte}
 use Rattle.et_binary.specs.Packs.{IsPackOf, IsPackFault}
 
--- bytes that begin with FE (254) are binary; all others, and no bytes, are a text
+-- bytes that begin with FE are binary; all others, and no bytes, are a text
 abbrev pub format_in : List ℕ → Format
 format_in [] = formats.Text
-format_in (b ∷ bytes) = if b == 254 then formats.Binary else formats.Text
+format_in (b ∷ bytes) = if b == first_byte then formats.Binary else formats.Text
 
 -- the bytes spell this good list by the rules of a format
 abbrev pub SpellsIn : Format → List TraceLine → List ℕ → Type 0

@@ -1,8 +1,9 @@
 -- A line read from left to right. The contracts of private functions alone speak of it: that it is what `IsLineSpelled` says is proved of `read_line`.
-use Rattle.std.specs.Prelude.{◌≡◌, ℕ, zero, suc, ◌+◌, ◌-◌, ◌*◌, ◌^◌, Bool, true, ◌&&◌, ◌==◌, nat_le, if◌then◌else◌, List, [], ◌∷◌, length, Option, Some, None, Result, Ok, Err}
+use Rattle.std.specs.Prelude.{◌≡◌, ℕ, zero, suc, ◌+◌, ◌-◌, ◌*◌, Bool, true, ◌&&◌, ◌==◌, nat_le, if◌then◌else◌, List, [], ◌∷◌, length, Option, Some, None, Result, Ok, Err}
 use Rattle.et_base.specs.Digits.{is_digit}
 use Rattle.et_base.specs.declared.line.TraceLine.{TraceLine}
 use Rattle.et_base.specs.declared.line.TraceLine.TheVariants.{Header, Class, Method, Alloc, Update, Enter, Exit, Unwind, Flush, Death, Finish}
+use Rattle.et_text.specs.Ranges.{greatest_event, thread_count, number_limit, object_limit, slot_limit, least_size, greatest_size, greatest_length, greatest_ending}
 use Rattle.et_text.specs.Spelling.{is_escaped}
 use Rattle.et_text.specs.declared.fault.LineError.{LineError}
 use Rattle.et_text.specs.declared.fault.LineError.TheVariants as errors
@@ -24,7 +25,7 @@ GivesWhereRead view (Err e) read = FailsToRead e read
 -- the number whose digits so far stand for n, and the bytes after it
 unfoldable pub number_after : ℕ → List ℕ → Option (ℕ × List ℕ)
 number_after n [] = Some (n, [])
-number_after n (b ∷ rest) = if is_digit b then (if nat_le n (2 ^ 40) then number_after (10 * n + (b - 48)) rest else None) else Some (n, b ∷ rest)
+number_after n (b ∷ rest) = if is_digit b then (if nat_le n greatest_event then number_after (10 * n + (b - 48)) rest else None) else Some (n, b ∷ rest)
 
 unfoldable pub digits_at : List ℕ → Option (ℕ × List ℕ)
 digits_at [] = None
@@ -81,26 +82,26 @@ done line (b ∷ rest) = None
 -- an event and a thread
 unfoldable pub turn_at : List ℕ → Option ((ℕ × ℕ) × List ℕ)
 turn_at bytes = do
-  event ← number_field_in 0 (2 ^ 40) bytes
-  thread ← number_field_in 0 63 event.1
+  event ← number_field_in 0 greatest_event bytes
+  thread ← number_field_in 0 (thread_count - 1) event.1
   Some ((event.0, thread.0), thread.1)
 
 unfoldable pub header_line_at : List ℕ → Option TraceLine
 header_line_at bytes = do
   version ← number_field_in 1 1 bytes
-  interval ← number_field_in 0 (2 ^ 40) version.1
+  interval ← number_field_in 0 greatest_event version.1
   done (Header version.0 interval.0) interval.1
 
 unfoldable pub class_line_at : List ℕ → Option TraceLine
 class_line_at bytes = do
-  number ← number_field_in 1 (2 ^ 32 - 1) bytes
+  number ← number_field_in 1 (number_limit - 1) bytes
   name ← text_field_at number.1
   done (Class number.0 name.0) name.1
 
 unfoldable pub method_line_at : List ℕ → Option TraceLine
 method_line_at bytes = do
-  number ← number_field_in 1 (2 ^ 32 - 1) bytes
-  class ← number_field_in 1 (2 ^ 32 - 1) number.1
+  number ← number_field_in 1 (number_limit - 1) bytes
+  class ← number_field_in 1 (number_limit - 1) number.1
   name ← text_field_at class.1
   descriptor ← text_field_at name.1
   done (Method number.0 class.0 name.0 descriptor.0) descriptor.1
@@ -108,57 +109,57 @@ method_line_at bytes = do
 unfoldable pub alloc_at : List ℕ → Option TraceLine
 alloc_at bytes = do
   turn ← turn_at bytes
-  object ← number_field_in 1 (2 ^ 24 - 1) turn.1
-  class ← number_field_in 1 (2 ^ 32 - 1) object.1
-  size ← number_field_in 16 (2 ^ 30) class.1
-  length ← number_field_in 0 (2 ^ 26) size.1
+  object ← number_field_in 1 (object_limit - 1) turn.1
+  class ← number_field_in 1 (number_limit - 1) object.1
+  size ← number_field_in least_size greatest_size class.1
+  length ← number_field_in 0 greatest_length size.1
   done (Alloc turn.0.0 turn.0.1 object.0 class.0 size.0 length.0) length.1
 
 unfoldable pub update_at : List ℕ → Option TraceLine
 update_at bytes = do
   turn ← turn_at bytes
-  object ← number_field_in 0 (2 ^ 24 - 1) turn.1
-  slot ← number_field_in 0 (2 ^ 28 - 1) object.1
-  old ← number_field_in 0 (2 ^ 24 - 1) slot.1
-  new ← number_field_in 0 (2 ^ 24 - 1) old.1
+  object ← number_field_in 0 (object_limit - 1) turn.1
+  slot ← number_field_in 0 (slot_limit - 1) object.1
+  old ← number_field_in 0 (object_limit - 1) slot.1
+  new ← number_field_in 0 (object_limit - 1) old.1
   done (Update turn.0.0 turn.0.1 object.0 slot.0 old.0 new.0) new.1
 
 unfoldable pub enter_at : List ℕ → Option TraceLine
 enter_at bytes = do
   turn ← turn_at bytes
-  method ← number_field_in 1 (2 ^ 32 - 1) turn.1
-  receiver ← number_field_in 0 (2 ^ 24 - 1) method.1
+  method ← number_field_in 1 (number_limit - 1) turn.1
+  receiver ← number_field_in 0 (object_limit - 1) method.1
   done (Enter turn.0.0 turn.0.1 method.0 receiver.0) receiver.1
 
 unfoldable pub exit_at : List ℕ → Option TraceLine
 exit_at bytes = do
   turn ← turn_at bytes
-  method ← number_field_in 1 (2 ^ 32 - 1) turn.1
+  method ← number_field_in 1 (number_limit - 1) turn.1
   done (Exit turn.0.0 turn.0.1 method.0) method.1
 
 unfoldable pub unwind_at : List ℕ → Option TraceLine
 unwind_at bytes = do
   turn ← turn_at bytes
-  method ← number_field_in 1 (2 ^ 32 - 1) turn.1
-  exception ← number_field_in 1 (2 ^ 24 - 1) method.1
+  method ← number_field_in 1 (number_limit - 1) turn.1
+  exception ← number_field_in 1 (object_limit - 1) method.1
   done (Unwind turn.0.0 turn.0.1 method.0 exception.0) exception.1
 
 unfoldable pub flush_at : List ℕ → Option TraceLine
 flush_at bytes = do
-  event ← number_field_in 0 (2 ^ 40) bytes
-  deaths ← number_field_in 0 (2 ^ 24 - 1) event.1
+  event ← number_field_in 0 greatest_event bytes
+  deaths ← number_field_in 0 (object_limit - 1) event.1
   done (Flush event.0 deaths.0) deaths.1
 
 unfoldable pub death_line_at : List ℕ → Option TraceLine
 death_line_at bytes = do
-  object ← number_field_in 1 (2 ^ 24 - 1) bytes
-  time ← number_field_in 0 (2 ^ 40) object.1
+  object ← number_field_in 1 (object_limit - 1) bytes
+  time ← number_field_in 0 greatest_event object.1
   done (Death object.0 time.0) time.1
 
 unfoldable pub finish_at : List ℕ → Option TraceLine
 finish_at bytes = do
-  event ← number_field_in 0 (2 ^ 40) bytes
-  how ← number_field_in 0 3 event.1
+  event ← number_field_in 0 greatest_event bytes
+  how ← number_field_in 0 greatest_ending event.1
   done (Finish event.0 how.0) how.1
 
 unfoldable pub line_at : List ℕ → Option TraceLine

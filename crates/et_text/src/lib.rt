@@ -11,6 +11,7 @@ pub mod laws;
 mod lines;
 mod names;
 mod notes;
+pub mod ranges;
 mod reader;
 mod reading;
 mod rules;

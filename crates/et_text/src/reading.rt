@@ -6,18 +6,22 @@ ghost use Rattle.et_text.specs.Reading.{GivesWhereRead, number_after, digits_at,
 ghost use Rattle.et_base.specs.Digits.{is_digit};
 
 use crate::fault::LineError;
+use crate::ranges::{
+    GREATEST_ENDING, GREATEST_EVENT, GREATEST_LENGTH, GREATEST_NUMBER, GREATEST_SIZE, LEAST_SIZE,
+    OBJECT_LIMIT, SLOT_LIMIT, THREAD_COUNT,
+};
 use crate::writing::is_escaped;
 use et_base::{Name, TraceLine};
 use std::alloc::Global;
 
-/// The greatest event, and the greatest number of any line.
-const MOST: u64 = 1 << 40;
-
-/// The greatest number of a class or method.
-const MOST_NUMBER: u32 = u32::MAX;
+/// The greatest number of a thread.
+const GREATEST_THREAD: u8 = THREAD_COUNT - 1;
 
 /// The greatest object.
-const MOST_OBJECT: u32 = (1 << 24) - 1;
+const GREATEST_OBJECT: u32 = OBJECT_LIMIT - 1;
+
+/// The greatest number of a slot.
+const GREATEST_SLOT: u32 = SLOT_LIMIT - 1;
 
 fn is_digit(b: u8) -> bool
     ensures { result ≡ is_digit b }
@@ -37,7 +41,7 @@ fn number_after(first: u64, bytes: &[u8]) -> Result<(u64, &[u8]), LineError>
         if !is_digit(*b) {
             return Ok((n, rest));
         }
-        if n > MOST {
+        if n > GREATEST_EVENT {
             return Err(LineError::Form);
         }
         n = 10 * n + u64::from(*b - b'0');
@@ -230,8 +234,8 @@ fn done(line: TraceLine, rest: &[u8]) -> Result<TraceLine, LineError>
 fn turn_at(bytes: &[u8]) -> Result<((u64, u8), &[u8]), LineError>
     ensures { GivesWhereRead (λ x. (x.0, x.1.now)) result (turn_at bytes.now) }
 {
-    let (event, rest) = number_in(0, MOST, bytes)?;
-    let (thread, rest) = u8_in(63, rest)?;
+    let (event, rest) = number_in(0, GREATEST_EVENT, bytes)?;
+    let (thread, rest) = u8_in(GREATEST_THREAD, rest)?;
     Ok(((event, thread), rest))
 }
 
@@ -240,7 +244,7 @@ fn header_at(bytes: &[u8]) -> Result<TraceLine, LineError>
     ensures { GivesWhereRead (λ x. x) result (header_line_at bytes.now) }
 {
     let (version, rest) = u32_in(1, 1, bytes)?;
-    let (interval, rest) = number_in(0, MOST, rest)?;
+    let (interval, rest) = number_in(0, GREATEST_EVENT, rest)?;
     let line = TraceLine::Header { version, interval };
     done(line, rest)
 }
@@ -249,7 +253,7 @@ fn header_at(bytes: &[u8]) -> Result<TraceLine, LineError>
 fn class_at(alloc: Global, bytes: &[u8]) -> Result<TraceLine, LineError>
     ensures { GivesWhereRead (λ x. x) result (class_line_at bytes.now) }
 {
-    let (number, rest) = u32_in(1, MOST_NUMBER, bytes)?;
+    let (number, rest) = u32_in(1, GREATEST_NUMBER, bytes)?;
     let (name, rest) = text_at(alloc, rest)?;
     let line = TraceLine::Class { number, name };
     done(line, rest)
@@ -259,8 +263,8 @@ fn class_at(alloc: Global, bytes: &[u8]) -> Result<TraceLine, LineError>
 fn method_at(alloc: Global, bytes: &[u8]) -> Result<TraceLine, LineError>
     ensures { GivesWhereRead (λ x. x) result (method_line_at bytes.now) }
 {
-    let (number, rest) = u32_in(1, MOST_NUMBER, bytes)?;
-    let (class, rest) = u32_in(1, MOST_NUMBER, rest)?;
+    let (number, rest) = u32_in(1, GREATEST_NUMBER, bytes)?;
+    let (class, rest) = u32_in(1, GREATEST_NUMBER, rest)?;
     let (name, rest) = text_at(alloc, rest)?;
     let (descriptor, rest) = text_at(alloc, rest)?;
     let line = TraceLine::Method {
@@ -277,10 +281,10 @@ fn alloc_at(bytes: &[u8]) -> Result<TraceLine, LineError>
     ensures { GivesWhereRead (λ x. x) result (alloc_at bytes.now) }
 {
     let ((event, thread), rest) = turn_at(bytes)?;
-    let (object, rest) = u32_in(1, MOST_OBJECT, rest)?;
-    let (class, rest) = u32_in(1, MOST_NUMBER, rest)?;
-    let (size, rest) = number_in(16, 1 << 30, rest)?;
-    let (length, rest) = u32_in(0, 1 << 26, rest)?;
+    let (object, rest) = u32_in(1, GREATEST_OBJECT, rest)?;
+    let (class, rest) = u32_in(1, GREATEST_NUMBER, rest)?;
+    let (size, rest) = number_in(LEAST_SIZE, GREATEST_SIZE, rest)?;
+    let (length, rest) = u32_in(0, GREATEST_LENGTH, rest)?;
     let line = TraceLine::Alloc {
         event,
         thread,
@@ -297,10 +301,10 @@ fn update_at(bytes: &[u8]) -> Result<TraceLine, LineError>
     ensures { GivesWhereRead (λ x. x) result (update_at bytes.now) }
 {
     let ((event, thread), rest) = turn_at(bytes)?;
-    let (object, rest) = u32_in(0, MOST_OBJECT, rest)?;
-    let (slot, rest) = u32_in(0, (1 << 28) - 1, rest)?;
-    let (old, rest) = u32_in(0, MOST_OBJECT, rest)?;
-    let (new, rest) = u32_in(0, MOST_OBJECT, rest)?;
+    let (object, rest) = u32_in(0, GREATEST_OBJECT, rest)?;
+    let (slot, rest) = u32_in(0, GREATEST_SLOT, rest)?;
+    let (old, rest) = u32_in(0, GREATEST_OBJECT, rest)?;
+    let (new, rest) = u32_in(0, GREATEST_OBJECT, rest)?;
     let line = TraceLine::Update {
         event,
         thread,
@@ -317,8 +321,8 @@ fn enter_at(bytes: &[u8]) -> Result<TraceLine, LineError>
     ensures { GivesWhereRead (λ x. x) result (enter_at bytes.now) }
 {
     let ((event, thread), rest) = turn_at(bytes)?;
-    let (method, rest) = u32_in(1, MOST_NUMBER, rest)?;
-    let (receiver, rest) = u32_in(0, MOST_OBJECT, rest)?;
+    let (method, rest) = u32_in(1, GREATEST_NUMBER, rest)?;
+    let (receiver, rest) = u32_in(0, GREATEST_OBJECT, rest)?;
     let line = TraceLine::Enter {
         event,
         thread,
@@ -333,7 +337,7 @@ fn exit_at(bytes: &[u8]) -> Result<TraceLine, LineError>
     ensures { GivesWhereRead (λ x. x) result (exit_at bytes.now) }
 {
     let ((event, thread), rest) = turn_at(bytes)?;
-    let (method, rest) = u32_in(1, MOST_NUMBER, rest)?;
+    let (method, rest) = u32_in(1, GREATEST_NUMBER, rest)?;
     let line = TraceLine::Exit {
         event,
         thread,
@@ -347,8 +351,8 @@ fn unwind_at(bytes: &[u8]) -> Result<TraceLine, LineError>
     ensures { GivesWhereRead (λ x. x) result (unwind_at bytes.now) }
 {
     let ((event, thread), rest) = turn_at(bytes)?;
-    let (method, rest) = u32_in(1, MOST_NUMBER, rest)?;
-    let (exception, rest) = u32_in(1, MOST_OBJECT, rest)?;
+    let (method, rest) = u32_in(1, GREATEST_NUMBER, rest)?;
+    let (exception, rest) = u32_in(1, GREATEST_OBJECT, rest)?;
     let line = TraceLine::Unwind {
         event,
         thread,
@@ -362,8 +366,8 @@ fn unwind_at(bytes: &[u8]) -> Result<TraceLine, LineError>
 fn flush_at(bytes: &[u8]) -> Result<TraceLine, LineError>
     ensures { GivesWhereRead (λ x. x) result (flush_at bytes.now) }
 {
-    let (event, rest) = number_in(0, MOST, bytes)?;
-    let (deaths, rest) = u32_in(0, MOST_OBJECT, rest)?;
+    let (event, rest) = number_in(0, GREATEST_EVENT, bytes)?;
+    let (deaths, rest) = u32_in(0, GREATEST_OBJECT, rest)?;
     let line = TraceLine::Flush { event, deaths };
     done(line, rest)
 }
@@ -372,8 +376,8 @@ fn flush_at(bytes: &[u8]) -> Result<TraceLine, LineError>
 fn death_at(bytes: &[u8]) -> Result<TraceLine, LineError>
     ensures { GivesWhereRead (λ x. x) result (death_line_at bytes.now) }
 {
-    let (object, rest) = u32_in(1, MOST_OBJECT, bytes)?;
-    let (time, rest) = number_in(0, MOST, rest)?;
+    let (object, rest) = u32_in(1, GREATEST_OBJECT, bytes)?;
+    let (time, rest) = number_in(0, GREATEST_EVENT, rest)?;
     let line = TraceLine::Death { object, time };
     done(line, rest)
 }
@@ -382,8 +386,8 @@ fn death_at(bytes: &[u8]) -> Result<TraceLine, LineError>
 fn finish_at(bytes: &[u8]) -> Result<TraceLine, LineError>
     ensures { GivesWhereRead (λ x. x) result (finish_at bytes.now) }
 {
-    let (event, rest) = number_in(0, MOST, bytes)?;
-    let (how, rest) = u8_in(3, rest)?;
+    let (event, rest) = number_in(0, GREATEST_EVENT, bytes)?;
+    let (how, rest) = u8_in(GREATEST_ENDING, rest)?;
     let line = TraceLine::Finish { event, how };
     done(line, rest)
 }
