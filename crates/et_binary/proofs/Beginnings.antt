@@ -2,7 +2,6 @@
 use Rattle.std.proofs.Common.{◌≡◌, ℕ, suc, ◌≤◌, Bool, true, false, cond, ◌||◌, eqb, List, [], ◌∷◌, ◌++◌, length, get_or, Option, Some, None, refl, sym, ap, subst, ◌∙◌, arith, inl, inr}
 use Rattle.std.specs.Prelude.{◌⊎◌, option_map}
 use Rattle.std.specs.List.{flat_map, AllByRecursion}
-use Rattle.std.proofs.lemmas.Bool.Decides.{nat_tests}
 use Rattle.et_base.specs.Numbers.{AreBytes}
 use Rattle.et_base.specs.declared.line.TraceLine.{TraceLine}
 use Rattle.et_base.specs.declared.line.TraceLine.TheVariants.{Header, Class, Method, Alloc, Update, Enter, Exit, Unwind, Flush, Death, Finish}
@@ -12,7 +11,7 @@ use Rattle.et_text.proofs.Numbers.{chosen, eqb-yes}
 use Rattle.et_binary.specs.Packing.{packed_field, packed_fields, packing}
 use Rattle.et_binary.specs.Packs.{FitsWidth, SaysTwo, IsPacked, IsNoLetter, IsMalformed, IsUnfinished}
 use Rattle.et_binary.specs.Packs.IsMalformed.{HasNoLetter, IsOutOfRange}
-use Rattle.et_binary.specs.Fronts.{header_front, class_front, method_front, alloc_front, update_front, enter_front, exit_front, unwind_front, flush_front, death_front, finish_front, record_front, is_record_letter, is_in_range}
+use Rattle.et_binary.specs.Fronts.{header_front, class_front, method_front, alloc_front, update_front, enter_front, exit_front, unwind_front, flush_front, death_front, finish_front, record_front, is_record_letter}
 use Rattle.et_binary.specs.Unpacking.{IsFront}
 use Rattle.et_binary.proofs.Lines.{IsRead, header_takes, class_takes, method_takes, alloc_takes, update_takes, enter_takes, exit_takes, unwind_takes, flush_takes, death_takes, finish_takes, header_again, class_again, method_again, alloc_again, update_again, enter_again, exit_again, unwind_again, flush_again, death_again, finish_again}
 
@@ -127,32 +126,6 @@ has_letter b e n = let l = letter_of b e in n l.0 l.1
 
 -- RANGES
 
-pub range_is : (line : TraceLine) → SaysTwo line → AllByRecursion FitsWidth (packed_fields line) → is_in_range line ≡ true → IsInRange 2 line
-range_is (Header v interval) t r e = (t, grind (arith, nat_tests))
-range_is (Class number name) t r e = ((grind (arith, nat_tests), r.0), (grind (arith, nat_tests), r.1.0.1), λ two. r.1.0.0)
-range_is (Method number class name descriptor) t r e = ((grind (arith, nat_tests), r.0), (grind (arith, nat_tests), r.1.0), (grind (arith, nat_tests), r.1.1.0.1), (grind (arith, nat_tests), r.1.1.1.0.1), λ two. r.1.1.0.0, λ two. r.1.1.1.0.0)
-range_is (Alloc event thread object class size len) t r e = (grind (arith, nat_tests), grind (arith, nat_tests), (grind (arith, nat_tests), grind (arith, nat_tests)), (grind (arith, nat_tests), r.1.1.1.0), grind (arith, nat_tests), grind (arith, nat_tests), grind (arith, nat_tests))
-range_is (Update event thread object slot old new) t r e = (grind (arith, nat_tests), grind (arith, nat_tests), grind (arith, nat_tests), grind (arith, nat_tests), grind (arith, nat_tests), grind (arith, nat_tests))
-range_is (Enter event thread method receiver) t r e = (grind (arith, nat_tests), grind (arith, nat_tests), (grind (arith, nat_tests), r.1.1.0), grind (arith, nat_tests))
-range_is (Exit event thread method) t r e = (grind (arith, nat_tests), grind (arith, nat_tests), (grind (arith, nat_tests), r.1.1.0))
-range_is (Unwind event thread method exception) t r e = (grind (arith, nat_tests), grind (arith, nat_tests), (grind (arith, nat_tests), r.1.1.0), (grind (arith, nat_tests), grind (arith, nat_tests)))
-range_is (Flush event deaths) t r e = (grind (arith, nat_tests), grind (arith, nat_tests))
-range_is (Death object time) t r e = ((grind (arith, nat_tests), grind (arith, nat_tests)), grind (arith, nat_tests))
-range_is (Finish event how) t r e = (grind (arith, nat_tests), grind (arith, nat_tests))
-
-pub range_test : (line : TraceLine) → IsInRange 2 line → is_in_range line ≡ true
-range_test (Header v interval) r = grind (arith, nat_tests)
-range_test (Class number name) r = grind (arith, nat_tests)
-range_test (Method number class name descriptor) r = grind (arith, nat_tests)
-range_test (Alloc event thread object class size len) r = grind (arith, nat_tests)
-range_test (Update event thread object slot old new) r = grind (arith, nat_tests)
-range_test (Enter event thread method receiver) r = grind (arith, nat_tests)
-range_test (Exit event thread method) r = grind (arith, nat_tests)
-range_test (Unwind event thread method exception) r = grind (arith, nat_tests)
-range_test (Flush event deaths) r = grind (arith, nat_tests)
-range_test (Death object time) r = grind (arith, nat_tests)
-range_test (Finish event how) r = grind (arith, nat_tests)
-
 -- a line in range has a record
 pub range_packed : (line : TraceLine) → IsInRange 2 line → IsPacked line (packing line)
 range_packed (Header v interval) r = record { version = r.0; room = (omega arith, tt); packed = refl }
@@ -184,8 +157,8 @@ unfinished_none = record {
 malformed_letter : (b : ℕ) (bytes rest : List ℕ) → bytes ≡ b ∷ rest → is_record_letter b ≡ false → IsMalformed bytes
 malformed_letter b bytes rest e l = HasNoLetter b rest e (no_letter b l)
 
-pub malformed_range : (bytes : List ℕ) (line : TraceLine) (behind : List ℕ) → BeginsWith line behind bytes → is_in_range line ≡ false → IsMalformed bytes
-malformed_range bytes line behind w e = IsOutOfRange line (packing line) behind w.parts w.packed (λ r. absurd (let both : false ≡ true = sym e ∙ range_test line r in cc))
+pub malformed_range : (bytes : List ℕ) (line : TraceLine) (behind : List ℕ) → BeginsWith line behind bytes → (IsInRange 2 line → ⊥) → IsMalformed bytes
+malformed_range bytes line behind w out = IsOutOfRange line (packing line) behind w.parts w.packed out
 
 first_and_rest : (bytes : List ℕ) → 1 ≤ length bytes → (rest : List ℕ) × (bytes ≡ get_or bytes 0 0 ∷ rest)
 first_and_rest [] le = absurd (omega arith)
@@ -203,8 +176,8 @@ malformed_first bytes le e = let r = first_and_rest bytes le in malformed_letter
 pub unfinished_first : (bytes : List ℕ) → 1 ≤ length bytes → is_record_letter (get_or bytes 0 0) ≡ true → record_front bytes ≡ None → IsUnfinished bytes
 unfinished_first bytes le e n = let r = first_and_rest bytes le in unfinished_by (get_or bytes 0 0) bytes r.0 r.1 e n
 
-pub front_by : (bytes : List ℕ) (line : TraceLine) (behind : List ℕ) → BeginsWith line behind bytes → is_in_range line ≡ true → IsFront line behind bytes
-front_by bytes line behind w e = record { range = range_is line w.packed.version w.packed.room e; parts = w.parts }
+pub front_by : (bytes : List ℕ) (line : TraceLine) (behind : List ℕ) → BeginsWith line behind bytes → IsInRange 2 line → IsFront line behind bytes
+front_by bytes line behind w fits = record { range = fits; parts = w.parts }
 
 pub begun_is_whole : (line : TraceLine) (behind bytes : List ℕ) → BeginsWith line behind bytes → IsUnfinished bytes → ⊥
 begun_is_whole line behind bytes w u = u.not_whole line (packing line) behind w.parts w.packed

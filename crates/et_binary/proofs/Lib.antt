@@ -1,5 +1,6 @@
 pub mod Beginnings
 pub mod FollowedRecords
+pub mod InRange
 pub mod Lines
 pub mod OnePack
 pub mod Portions

@@ -17,8 +17,10 @@ use Rattle.et_binary.specs.Packs.BreaksRecord.{BreaksTable, BreaksOrder, BreaksE
 use Rattle.et_binary.specs.Packs.ShowsPackFault.{ShowsOpening, ShowsRecord}
 use Rattle.et_binary.specs.Packs.LacksRecord.{EndsInOpening, EndsInRecord}
 use Rattle.et_binary.specs.Packs.HasPackAnswer.{IsTracePack, IsRefusedPack}
-use Rattle.et_binary.specs.Fronts.{record_front, is_record_letter, is_in_range, may_open}
+use Rattle.et_binary.specs.Fronts.{record_front, is_record_letter, may_open}
 use Rattle.et_binary.specs.Unpacking.{IsFront}
+use Rattle.et_text.specs.Ranges.{IsInRange}
+use Rattle.et_binary.proofs.InRange.{Decided, Holds, Fails, range_decided}
 use Rattle.et_binary.proofs.Beginnings.{BeginsWith, front_takes, front_by, malformed_first, unfinished_first, unfinished_none, malformed_range}
 
 -- THE OPENING
@@ -104,10 +106,10 @@ by_rule : (bytes : List ℕ) (past : List TraceLine) (rest behind : List ℕ) (l
 by_rule bytes past rest behind line (Some k) e w r next = IsRefusedPack k (length past + 1) (inl (ShowsRecord past rest k (length past + 1) r (BreaksOrder k line behind w.range w.parts e) refl))
 by_rule bytes past rest behind line None e w r next = next (reads_on bytes past rest behind line w e r)
 
-by_range : (bytes : List ℕ) (past : List TraceLine) (rest behind : List ℕ) (line : TraceLine) (is : Bool) → is_in_range line ≡ is → has_ended past ≡ false → BeginsWith line behind rest → IsUnpackedTo past rest bytes
+by_range : (bytes : List ℕ) (past : List TraceLine) (rest behind : List ℕ) (line : TraceLine) → Decided (IsInRange 2 line) → has_ended past ≡ false → BeginsWith line behind rest → IsUnpackedTo past rest bytes
     → (IsUnpackedTo (line ∷ past) behind bytes → HasPackAnswer bytes) → HasPackAnswer bytes
-by_range bytes past rest behind line false e h w r next = IsRefusedPack 1 (length past + 1) (inl (ShowsRecord past rest 1 (length past + 1) r (BreaksTable h (malformed_range rest line behind w e)) refl))
-by_range bytes past rest behind line true e h w r next = by_rule bytes past rest behind line (next_fault past line) refl (front_by rest line behind w e) r next
+by_range bytes past rest behind line (Fails out) h w r next = IsRefusedPack 1 (length past + 1) (inl (ShowsRecord past rest 1 (length past + 1) r (BreaksTable h (malformed_range rest line behind w out)) refl))
+by_range bytes past rest behind line (Holds fits) h w r next = by_rule bytes past rest behind line (next_fault past line) refl (front_by rest line behind w fits) r next
 
 -- what stands behind a record is shorter
 shorter : (rest behind : List ℕ) (line : TraceLine) → rest ≡ packing line ++ behind → length behind < length rest
@@ -119,7 +121,7 @@ by_front bytes past b tail None e l h fits r next =
     IsRefusedPack 5 (length past + 1) (inr (refl, EndsInRecord past (b ∷ tail) (length past + 1) r h (unfinished_first (b ∷ tail) (omega arith) l e) refl))
 by_front bytes past b tail (Some x) e l h fits r next =
     let w = front_takes (b ∷ tail) x fits e in
-    by_range bytes past (b ∷ tail) x.1 x.0 (is_in_range x.0) refl h w r (next x.0 x.1 (shorter (b ∷ tail) x.1 x.0 w.parts) w.rest_fits)
+    by_range bytes past (b ∷ tail) x.1 x.0 (range_decided x.0 w.packed) h w r (next x.0 x.1 (shorter (b ∷ tail) x.1 x.0 w.parts) w.rest_fits)
 
 by_letter : (bytes : List ℕ) (past : List TraceLine) (b : ℕ) (tail : List ℕ) (is : Bool) → is_record_letter b ≡ is → has_ended past ≡ false → AreBytes (b ∷ tail) → IsUnpackedTo past (b ∷ tail) bytes
     → ((line : TraceLine) (behind : List ℕ) → length behind < length (b ∷ tail) → AreBytes behind → IsUnpackedTo (line ∷ past) behind bytes → HasPackAnswer bytes) → HasPackAnswer bytes

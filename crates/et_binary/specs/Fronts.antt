@@ -1,9 +1,8 @@
 -- A record read from left to right. The contracts of private functions alone speak of it: that it is what `IsPacked` says is proved of `read_record`.
-use Rattle.std.specs.Prelude.{ℕ, min, Bool, true, ◌&&◌, ◌||◌, ◌==◌, nat_lt, nat_le, if◌then◌else◌, List, [], ◌∷◌, length, take, drop, bytes_eq, Option, Some, None}
+use Rattle.std.specs.Prelude.{ℕ, min, Bool, ◌||◌, ◌==◌, nat_lt, if◌then◌else◌, List, [], ◌∷◌, length, take, drop, bytes_eq, Option, Some, None}
 use Rattle.std.specs.Int.{Width, w8, w32, w64, byte_len, from_be_bytes}
 use Rattle.et_base.specs.declared.line.TraceLine.{TraceLine}
 use Rattle.et_base.specs.declared.line.TraceLine.TheVariants.{Header, Class, Method, Alloc, Update, Enter, Exit, Unwind, Flush, Death, Finish}
-use Rattle.et_text.specs.Ranges.{greatest_event, thread_count, object_limit, slot_limit, least_size, greatest_size, greatest_length, greatest_ending}
 use Rattle.et_text.specs.Reading.{◌>>=◌}
 use Rattle.et_binary.specs.Packing.{opening}
 
@@ -116,31 +115,6 @@ record_front (b ∷ rest) =
 
 abbrev pub is_record_letter : ℕ → Bool
 is_record_letter b = b == 72 || b == 67 || b == 78 || b == 65 || b == 85 || b == 77 || b == 69 || b == 88 || b == 70 || b == 68 || b == 90
-
--- THE RANGES, of numbers that fit in their widths
-
-abbrev pub is_turn : ℕ → ℕ → Bool
-is_turn event thread = nat_le event greatest_event && nat_lt thread thread_count
-
-abbrev pub is_call_in_range : TraceLine → Bool
-is_call_in_range (Enter event thread method receiver) = is_turn event thread && nat_lt 0 method && nat_lt receiver object_limit
-is_call_in_range (Exit event thread method) = is_turn event thread && nat_lt 0 method
-is_call_in_range (Unwind event thread method exception) = is_turn event thread && nat_lt 0 method && nat_lt 0 exception && nat_lt exception object_limit
-is_call_in_range _ = true
-
-abbrev pub is_access_in_range : TraceLine → Bool
-is_access_in_range (Alloc event thread object class size len) = is_turn event thread && nat_lt 0 object && nat_lt object object_limit && nat_lt 0 class && nat_le least_size size && nat_le size greatest_size && nat_le len greatest_length
-is_access_in_range (Update event thread object slot old new) = is_turn event thread && nat_lt object object_limit && nat_lt slot slot_limit && nat_lt old object_limit && nat_lt new object_limit
-is_access_in_range line = is_call_in_range line
-
-abbrev pub is_in_range : TraceLine → Bool
-is_in_range (Header v interval) = nat_le interval greatest_event
-is_in_range (Class number name) = nat_lt 0 number && nat_lt 0 (length name)
-is_in_range (Method number class name descriptor) = nat_lt 0 number && nat_lt 0 class && nat_lt 0 (length name) && nat_lt 0 (length descriptor)
-is_in_range (Flush event deaths) = nat_le event greatest_event && nat_lt deaths object_limit
-is_in_range (Death object time) = nat_lt 0 object && nat_lt object object_limit && nat_le time greatest_event
-is_in_range (Finish event how) = nat_le event greatest_event && nat_le how greatest_ending
-is_in_range line = is_access_in_range line
 
 -- no one of the first four bytes is wrong
 abbrev pub may_open : List ℕ → Bool

@@ -1,4 +1,4 @@
-use Rattle.std.proofs.Common.{arith, sym}
+use Rattle.std.proofs.Common.{arith, refl, sym}
 use Rattle.et_binary.proofs.Beginnings.{front_takes, front_none, front_some, unfinished_first, malformed_first, malformed_range, front_by, begun_is_whole, unfinished_is_none}
 use Rattle.et_binary.proofs.records.read_record.Goals as goal
 
@@ -10,15 +10,20 @@ returns-in_default-2-clause-none c =
     unfinished_first c.args.bytes.now c.in-len1-up.len_at_least (sym c.if-not-is_record_letter.ensures)
     (front_none (λ x. (x.0, x.1.now)) c.in_ok-line.field-0 c.args.bytes.now c.in_ok-line.ensures.gives c.in_default-2.is)
 
+pub is_in_range-requires : goal.is_in_range-requires
+is_in_range-requires c =
+    let some = front_some (λ x. (x.0, x.1.now)) c.in_ok-line.field-0 (c.in-Some.line, c.in-Some.behind) c.args.bytes.now c.in_ok-line.ensures.gives c.in-Some.is in
+    (front_takes c.args.bytes.now (c.in-Some.line, c.in-Some.behind.now) (λ i. omega (arith, c.type_inv.bytes i)) some).packed
+
 pub returns-then-not-is_in_range-clause-form : goal.returns-then-not-is_in_range-clause-form
 returns-then-not-is_in_range-clause-form c = λ e.
     let some = front_some (λ x. (x.0, x.1.now)) c.in_ok-line.field-0 (c.in-Some.line, c.in-Some.behind) c.args.bytes.now c.in_ok-line.ensures.gives c.in-Some.is in
-    malformed_range c.args.bytes.now c.in-Some.line c.in-Some.behind.now (front_takes c.args.bytes.now (c.in-Some.line, c.in-Some.behind.now) (λ i. omega (arith, c.type_inv.bytes i)) some) (sym c.if-not-is_in_range.ensures)
+    malformed_range c.args.bytes.now c.in-Some.line c.in-Some.behind.now (front_takes c.args.bytes.now (c.in-Some.line, c.in-Some.behind.now) (λ i. omega (arith, c.type_inv.bytes i)) some) (λ r. absurd (let both = c.if-not-is_in_range.ensures.1 r in cc))
 
 pub returns-clause-found : goal.returns-clause-found
 returns-clause-found c =
     let some = front_some (λ x. (x.0, x.1.now)) c.in_ok-line.field-0 (c.in-Some.line, c.in-Some.behind) c.args.bytes.now c.in_ok-line.ensures.gives c.in-Some.is in
-    front_by c.args.bytes.now c.in-Some.line c.in-Some.behind.now (front_takes c.args.bytes.now (c.in-Some.line, c.in-Some.behind.now) (λ i. omega (arith, c.type_inv.bytes i)) some) (sym c.if-not-is_in_range.ensures)
+    front_by c.args.bytes.now c.in-Some.line c.in-Some.behind.now (front_takes c.args.bytes.now (c.in-Some.line, c.in-Some.behind.now) (λ i. omega (arith, c.type_inv.bytes i)) some) (c.if-not-is_in_range.ensures.0 refl)
 
 pub returns-in_err-line-clause-early : goal.returns-in_err-line-clause-early
 returns-in_err-line-clause-early c = λ u.
