@@ -17,3 +17,4 @@ pub mod Decided
 pub mod InitLemmas
 pub mod OrderLemmas
 pub mod OrderedLists
+pub mod DistinctLemmas

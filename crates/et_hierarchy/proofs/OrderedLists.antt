@@ -1,18 +1,18 @@
 -- The orders of initialization, made in an order in which each class stands behind those right above it.
-use Rattle.std.proofs.Common.{◌≡◌, ℕ, ◌+◌, ◌<◌, ◌≤◌, ◌⊎◌, Bool, List, [], ◌∷◌, ◌++◌, length, get_or, set, Option, None, Some, refl, sym, ◌∙◌, ap, subst, arith, inl, inr, get_or-set_same, get_or-set_other}
+use Rattle.std.proofs.Common.{◌≡◌, ℕ, ◌+◌, ◌<◌, ◌≤◌, Bool, List, [], ◌++◌, length, set, Option, None, Some, refl, sym, ◌∙◌, ap, subst, arith, inl, inr, get_or-set_same, get_or-set_other}
 use Rattle.std.specs.Prelude.{Contains}
 use Rattle.std.specs.List.{slice_index_or, flat_map}
 use Rattle.std.specs.Option.{option_to_list}
 use Rattle.std.proofs.lemmas.Bool.{cases_eq}
 use Rattle.std.proofs.lemmas.List.{length-set}
-use Rattle.et_hierarchy.specs.Links.{LinkEntry, no_links, parents, IsAcyclic, HasLinksWithin}
-use Rattle.et_hierarchy.specs.Ancestry.{Ancestry, added_all, once, ancestry_at, supers_over, IsAncestry}
+use Rattle.et_hierarchy.specs.Links.{LinkEntry, no_links, IsAcyclic, HasLinksWithin}
+use Rattle.et_hierarchy.specs.Ancestry.{Ancestry, added_all, once, IsAncestry}
 use Rattle.et_hierarchy.specs.Initialization.{with_interfaces, downward, class_order, order_over}
 use Rattle.et_hierarchy.specs.Sorting.{IsAmong, IsSorted}
 use Rattle.et_hierarchy.proofs.InitLemmas.{goes_on, begins}
-use Rattle.et_hierarchy.proofs.OnceLemmas.{once_again, above_is}
+use Rattle.et_hierarchy.proofs.OnceLemmas.{once_again}
 use Rattle.et_hierarchy.proofs.OrderedRows.{same_sorted, ordered_all}
-use Rattle.et_hierarchy.proofs.Sortings.{among_wider, among_cases}
+use Rattle.et_hierarchy.proofs.Sortings.{among_cases}
 
 -- the orders of the classes that are done are right
 pub record AreOrdered (needs : ℕ → Bool) (table : List LinkEntry) (rows : List Ancestry) (orders : List (List ℕ)) (IsDone : ℕ → Type 0) : Type 0 where

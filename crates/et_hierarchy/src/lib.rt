@@ -4,6 +4,7 @@
 
 mod below;
 mod check;
+mod distinct;
 mod fault;
 mod index;
 pub mod laws;

@@ -1,33 +1,43 @@
 //! The order of initialization (JVMS 5.5).
 
-ghost use Rattle.std.specs.Prelude.{◌≡◌, ℕ, ◌<◌, ◌^◌, false, [], length, All, OnOk, IfOk, IfSome};
+ghost use Rattle.std.specs.Prelude.{◌≡◌, ℕ, ◌<◌, ◌^◌, false, [], length, All, IfOk, IfSome};
 ghost use Rattle.std.specs.List.{slice_index_or};
 ghost use Rattle.et_hierarchy.specs.Links.{no_links, IsAcyclic, HasLinksWithin};
 ghost use Rattle.et_hierarchy.specs.Ancestry.{added_all, once, IsAncestry};
 ghost use Rattle.et_hierarchy.specs.Initialization.{interfaces_to_run, with_interfaces, class_order, order_over};
 
+use crate::distinct::{DistinctClasses, is_marked};
 use crate::links::Links;
 use crate::lists::ClassList;
 use crate::rows::Row;
 use crate::sorting::sort;
-use crate::tables::{add, add_all, add_each, add_interfaces, distinct};
+use crate::tables::{add_all, add_each, add_interfaces, distinct};
 use et_base::ClassId;
-use indexmap::IndexSet;
 use std::alloc::{AllocError, Global};
 
-/// Whether a class is marked.
-fn is_marked(marks: &[bool], class: u32) -> bool
-    ensures { result ≡ slice_index_or marks.now class false }
+/// The superinterfaces by the interface list of a class, each after its own superinterfaces, that are marked as having
+/// a method to run. The list is for the work alone.
+#[tactic(auto, using(crate::proofs::AddLemmas::add_rules))]
+fn interfaces_marked(
+    alloc: Global,
+    list: &mut DistinctClasses,
+    needs: &[bool],
+    rows: &[Row],
+    links: &Links,
+) -> Result<Vec<u32>, AllocError>
+    requires { All (λ i. i < length rows.now) links.now.interfaces }
+    ensures { IfOk result (λ found.
+        found.items ≡ interfaces_to_run (λ k. slice_index_or needs.now k false) rows.now links.now) }
 {
-    match marks.get(class as usize) {
-        Some(mark) => *mark,
-        None => false,
-    }
+    let interfaces = distinct(alloc, list, links.interfaces())?;
+    list.clear();
+    add_interfaces(list, rows, interfaces.as_slice())?;
+    let found = marked_among(alloc, needs, list.as_slice())?;
+    Ok(found)
 }
 
 /// The superinterfaces by the interface list of a class, each after its own superinterfaces, that are marked as having
 /// a method to run.
-#[tactic(auto, using(crate::proofs::AddLemmas::add_rules))]
 pub fn interfaces_to_run(
     alloc: Global,
     needs: &[bool],
@@ -38,11 +48,8 @@ pub fn interfaces_to_run(
     ensures { IfOk result (λ list.
         list.items ≡ interfaces_to_run (λ k. slice_index_or needs.now k false) rows.now links.now) }
 {
-    let interfaces = distinct(alloc, links.interfaces())?;
-    let mut all = IndexSet::new(alloc);
-    add_interfaces(&mut all, rows, interfaces.as_slice())?;
-    let list = marked_among(alloc, needs, all.as_slice())?;
-    Ok(list)
+    let mut list = DistinctClasses::begin(alloc);
+    interfaces_marked(alloc, &mut list, needs, rows, links)
 }
 
 ghost use Rattle.std.specs.Prelude.{filter};
@@ -61,47 +68,6 @@ fn marked_among(alloc: Global, marks: &[bool], classes: &[u32]) -> Result<Vec<u3
     Ok(list)
 }
 
-/// Puts the interfaces that are initialized with a class behind a list.
-fn add_interfaces_to_run(
-    alloc: Global,
-    list: &mut IndexSet<u32>,
-    needs: &[bool],
-    rows: &[Row],
-    links: &Links,
-) -> Result<(), AllocError>
-    requires { All (λ i. i < length rows.now) links.now.interfaces }
-    ensures { OnOk result (list.new.keys ≡ added_all list.old.keys
-        (interfaces_to_run (λ k. slice_index_or needs.now k false) rows.now links.now)) }
-{
-    if links.interfaces().is_empty() {
-        return Ok(());
-    }
-    let found = interfaces_to_run(alloc, needs, rows, links)?;
-    add_all(list, found.as_slice())?;
-    Ok(())
-}
-
-/// Puts a class, after the interfaces that are initialized with it, behind a list.
-fn add_with_interfaces(
-    alloc: Global,
-    list: &mut IndexSet<u32>,
-    needs: &[bool],
-    table: &[Links],
-    rows: &[Row],
-    class: u32,
-) -> Result<(), AllocError>
-    requires class { class < length table.now }
-    requires same { length rows.now ≡ length table.now }
-    requires within { HasLinksWithin (length table.now) table.now }
-    ensures { OnOk result (list.new.keys ≡ added_all list.old.keys
-        (with_interfaces (λ k. slice_index_or needs.now k false) table.now rows.now class)) }
-{
-    let links = &table[class as usize];
-    add_interfaces_to_run(alloc, list, needs, rows, links)?;
-    add(list, class)?;
-    Ok(())
-}
-
 /// The order of initialization of a superclass, among those that were found.
 fn order_over(orders: &[ClassList], above: Option<u32>) -> &[ClassId]
     requires { IfSome above (λ s. s < length orders.now) }
@@ -117,6 +83,7 @@ fn order_over(orders: &[ClassList], above: Option<u32>) -> &[ClassId]
 /// are initialized with the class, and the class.
 fn order_of(
     alloc: Global,
+    list: &mut DistinctClasses,
     needs: &[bool],
     table: &[Links],
     rows: &[Row],
@@ -127,14 +94,16 @@ fn order_of(
     requires same { length rows.now ≡ length table.now }
     requires each { length orders.now ≡ length table.now }
     requires within { HasLinksWithin (length table.now) table.now }
-    ensures { IfOk result (λ list. list ≡ added_all
+    ensures { IfOk result (λ order. order ≡ added_all
         (once (order_over orders.now (slice_index_or table.now class no_links).above))
         (with_interfaces (λ k. slice_index_or needs.now k false) table.now rows.now class)) }
 {
     let links = &table[class as usize];
-    let mut list = IndexSet::new(alloc);
-    add_each(&mut list, order_over(orders, links.above()))?;
-    add_with_interfaces(alloc, &mut list, needs, table, rows, class)?;
+    let found = interfaces_marked(alloc, list, needs, rows, links)?;
+    list.clear();
+    add_each(list, order_over(orders, links.above()))?;
+    add_all(list, found.as_slice())?;
+    list.add(class)?;
     let order = ClassList::of_numbers(alloc, list.as_slice())?;
     Ok(order)
 }
@@ -172,9 +141,18 @@ pub fn class_orders(
     let sorting = sort(alloc, table)?;
     let order = sorting.order();
     let mut orders = empty_orders(alloc, table.len())?;
+    let mut list = DistinctClasses::begin(alloc);
     for class in order {
-        let list = order_of(alloc, needs, table, rows, orders.as_slice(), *class)?;
-        orders[*class as usize] = list;
+        let found = order_of(
+            alloc,
+            &mut list,
+            needs,
+            table,
+            rows,
+            orders.as_slice(),
+            *class,
+        )?;
+        orders[*class as usize] = found;
     }
     Ok(orders)
 }

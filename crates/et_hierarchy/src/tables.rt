@@ -4,49 +4,46 @@ ghost use Rattle.std.specs.Prelude.{◌≡◌, ℕ, ◌<◌, ◌^◌, List, [], 
 ghost use Rattle.std.specs.Bool.{OnTrue};
 ghost use Rattle.std.specs.List.{slice_index_or, flat_map};
 ghost use Rattle.et_hierarchy.specs.Links.{LinkEntry, parents_of, parents, no_links, IsAcyclic, HasLinksWithin};
-ghost use Rattle.et_hierarchy.specs.Ancestry.{ancestry_at, class_added, added_all, once, supers_over, superinterfaces_over, field_order_over, ancestry_of, IsAncestry, IsBelow, LooksUpward};
+ghost use Rattle.et_hierarchy.specs.Ancestry.{ancestry_at, added_all, once, supers_over, superinterfaces_over, field_order_over, ancestry_of, IsAncestry, IsBelow, LooksUpward};
 
+use crate::distinct::DistinctClasses;
 use crate::links::Links;
 use crate::lists::ClassList;
 use crate::rows::Row;
 use crate::sorting::sort;
 use et_base::ClassId;
-use indexmap::IndexSet;
 use std::alloc::{AllocError, Global};
 
-/// Puts a class behind a list that doesn't have it.
-pub(crate) fn add(list: &mut IndexSet<u32>, class: u32) -> Result<(), AllocError>
-    ensures { OnOk result (list.new.keys ≡ class_added list.old.keys class) }
-{
-    list.insert(class)?;
-    Ok(())
-}
-
 /// Puts each of these classes behind a list, unless the list has it.
-pub(crate) fn add_all(list: &mut IndexSet<u32>, classes: &[u32]) -> Result<(), AllocError>
-    ensures { OnOk result (list.new.keys ≡ added_all list.old.keys classes.now) }
+pub(crate) fn add_all(list: &mut DistinctClasses, classes: &[u32]) -> Result<(), AllocError>
+    ensures { OnOk result (list.new ≡ added_all list.old classes.now) }
 {
     for class in classes {
-        add(list, *class)?;
+        list.add(*class)?;
     }
     Ok(())
 }
 
-/// Each of these classes once.
-pub(crate) fn distinct(alloc: Global, classes: &[u32]) -> Result<IndexSet<u32>, AllocError>
-    ensures { IfOk result (λ list. list.keys ≡ once classes.now) }
+/// Each of these classes once. The list is for the work alone.
+pub(crate) fn distinct(
+    alloc: Global,
+    list: &mut DistinctClasses,
+    classes: &[u32],
+) -> Result<Vec<u32>, AllocError>
+    ensures { IfOk result (λ found. found.items ≡ once classes.now) }
 {
-    let mut list = IndexSet::new(alloc);
-    add_all(&mut list, classes)?;
-    Ok(list)
+    list.clear();
+    add_all(list, classes)?;
+    let found = Vec::from_slice(alloc, list.as_slice())?;
+    Ok(found)
 }
 
 /// Puts each of these classes behind a list, unless the list has it.
-pub(crate) fn add_each(list: &mut IndexSet<u32>, classes: &[ClassId]) -> Result<(), AllocError>
-    ensures { OnOk result (list.new.keys ≡ added_all list.old.keys classes.now) }
+pub(crate) fn add_each(list: &mut DistinctClasses, classes: &[ClassId]) -> Result<(), AllocError>
+    ensures { OnOk result (list.new ≡ added_all list.old classes.now) }
 {
     for class in classes {
-        add(list, class.number())?;
+        list.add(class.number())?;
     }
     Ok(())
 }
@@ -87,13 +84,13 @@ fn field_order_over(rows: &[Row], above: Option<u32>) -> &[ClassId]
 
 /// Puts the superinterfaces of a superclass behind a list.
 fn add_superinterfaces_over(
-    list: &mut IndexSet<u32>,
+    list: &mut DistinctClasses,
     rows: &[Row],
     above: Option<u32>,
 ) -> Result<(), AllocError>
     requires { IfSome above (λ s. s < length rows.now) }
     ensures { OnOk result
-        (list.new.keys ≡ added_all list.old.keys (superinterfaces_over rows.now above)) }
+        (list.new ≡ added_all list.old (superinterfaces_over rows.now above)) }
 {
     match above {
         Some(class) => {
@@ -106,13 +103,13 @@ fn add_superinterfaces_over(
 
 /// Puts the classes where a superclass looks for a field behind a list.
 fn add_field_order_over(
-    list: &mut IndexSet<u32>,
+    list: &mut DistinctClasses,
     rows: &[Row],
     above: Option<u32>,
 ) -> Result<(), AllocError>
     requires { IfSome above (λ s. s < length rows.now) }
     ensures { OnOk result
-        (list.new.keys ≡ added_all list.old.keys (field_order_over rows.now above)) }
+        (list.new ≡ added_all list.old (field_order_over rows.now above)) }
 {
     add_each(list, field_order_over(rows, above))
 }
@@ -120,18 +117,18 @@ fn add_field_order_over(
 /// Puts interfaces, each after its superinterfaces, behind a list.
 #[tactic(auto, using(crate::proofs::AddLemmas::add_rules))]
 pub(crate) fn add_interfaces(
-    list: &mut IndexSet<u32>,
+    list: &mut DistinctClasses,
     rows: &[Row],
     interfaces: &[u32],
 ) -> Result<(), AllocError>
     requires { All (λ i. i < length rows.now) interfaces.now }
-    ensures { OnOk result (list.new.keys ≡ added_all list.old.keys
+    ensures { OnOk result (list.new ≡ added_all list.old
         (flat_map (λ i. (ancestry_at rows.now i).superinterfaces ++ i ∷ []) interfaces.now)) }
 {
     for interface in interfaces {
         let row = &rows[*interface as usize];
         add_all(list, row.superinterfaces())?;
-        add(list, *interface)?;
+        list.add(*interface)?;
     }
     Ok(())
 }
@@ -139,12 +136,12 @@ pub(crate) fn add_interfaces(
 /// Puts the classes where interfaces look for a field behind a list.
 #[tactic(auto, using(crate::proofs::AddLemmas::add_rules))]
 fn add_field_orders(
-    list: &mut IndexSet<u32>,
+    list: &mut DistinctClasses,
     rows: &[Row],
     interfaces: &[u32],
 ) -> Result<(), AllocError>
     requires { All (λ i. i < length rows.now) interfaces.now }
-    ensures { OnOk result (list.new.keys ≡ added_all list.old.keys
+    ensures { OnOk result (list.new ≡ added_all list.old
         (flat_map (λ i. (ancestry_at rows.now i).field_order) interfaces.now)) }
 {
     for interface in interfaces {
@@ -158,6 +155,7 @@ fn add_field_orders(
 #[tactic(auto, using(crate::proofs::AddLemmas::add_rules))]
 fn superinterfaces(
     alloc: Global,
+    list: &mut DistinctClasses,
     links: &Links,
     rows: &[Row],
     class: u32,
@@ -165,32 +163,38 @@ fn superinterfaces(
     requires above { IfSome links.now.above (λ s. s < length rows.now) }
     requires interfaces { All (λ i. i < length rows.now) links.now.interfaces }
     ensures { IfOk result
-        (λ list. list.items ≡ (ancestry_of links.now rows.now class).superinterfaces) }
+        (λ found. found.items ≡ (ancestry_of links.now rows.now class).superinterfaces) }
 {
     let above = links.above();
-    let interfaces = distinct(alloc, links.interfaces())?;
-    let mut superinterfaces = IndexSet::new(alloc);
-    add_superinterfaces_over(&mut superinterfaces, rows, above)?;
-    add_interfaces(&mut superinterfaces, rows, interfaces.as_slice())?;
-    let list = Vec::from_slice(alloc, superinterfaces.as_slice())?;
-    Ok(list)
+    let interfaces = distinct(alloc, list, links.interfaces())?;
+    list.clear();
+    add_superinterfaces_over(list, rows, above)?;
+    add_interfaces(list, rows, interfaces.as_slice())?;
+    let found = Vec::from_slice(alloc, list.as_slice())?;
+    Ok(found)
 }
 
 /// Where a class looks for a field: itself, its interfaces, its superclass.
 #[tactic(auto, using(crate::proofs::AddLemmas::add_rules))]
-fn searched(alloc: Global, links: &Links, rows: &[Row], class: u32) -> Result<ClassList, AllocError>
+fn searched(
+    alloc: Global,
+    list: &mut DistinctClasses,
+    links: &Links,
+    rows: &[Row],
+    class: u32,
+) -> Result<ClassList, AllocError>
     requires above { IfSome links.now.above (λ s. s < length rows.now) }
     requires interfaces { All (λ i. i < length rows.now) links.now.interfaces }
-    ensures { IfOk result (λ list. list ≡ (ancestry_of links.now rows.now class).field_order) }
+    ensures { IfOk result (λ found. found ≡ (ancestry_of links.now rows.now class).field_order) }
 {
     let above = links.above();
-    let interfaces = distinct(alloc, links.interfaces())?;
-    let mut field_order = IndexSet::new(alloc);
-    add(&mut field_order, class)?;
-    add_field_orders(&mut field_order, rows, interfaces.as_slice())?;
-    add_field_order_over(&mut field_order, rows, above)?;
-    let list = ClassList::of_numbers(alloc, field_order.as_slice())?;
-    Ok(list)
+    let interfaces = distinct(alloc, list, links.interfaces())?;
+    list.clear();
+    list.add(class)?;
+    add_field_orders(list, rows, interfaces.as_slice())?;
+    add_field_order_over(list, rows, above)?;
+    let found = ClassList::of_numbers(alloc, list.as_slice())?;
+    Ok(found)
 }
 
 /// Whether two lists are the same.
@@ -217,6 +221,7 @@ fn looks_upward(links: &Links, rows: &[Row], class: u32, supers: &[ClassId]) -> 
 /// Where a class looks for a field. Where that is the class and its superclasses, it is the very list of these.
 fn field_order(
     alloc: Global,
+    list: &mut DistinctClasses,
     links: &Links,
     rows: &[Row],
     class: u32,
@@ -228,16 +233,22 @@ fn field_order(
     requires once { once (field_order_over rows.now links.now.above)
         ≡ field_order_over rows.now links.now.above }
     requires upward { upward ≡ class ∷ supers.now }
-    ensures { IfOk result (λ list. list ≡ (ancestry_of links.now rows.now class).field_order) }
+    ensures { IfOk result (λ found. found ≡ (ancestry_of links.now rows.now class).field_order) }
 {
     if looks_upward(links, rows, class, supers.as_slice()) {
         return Ok(upward);
     }
-    searched(alloc, links, rows, class)
+    searched(alloc, list, links, rows, class)
 }
 
 /// The lists of a class, by those of the classes right above it.
-fn row_of(alloc: Global, links: &Links, rows: &[Row], class: u32) -> Result<Row, AllocError>
+fn row_of(
+    alloc: Global,
+    list: &mut DistinctClasses,
+    links: &Links,
+    rows: &[Row],
+    class: u32,
+) -> Result<Row, AllocError>
     requires above { IfSome links.now.above (λ s. s < length rows.now) }
     requires interfaces { All (λ i. i < length rows.now) links.now.interfaces }
     requires once { once (field_order_over rows.now links.now.above)
@@ -246,8 +257,8 @@ fn row_of(alloc: Global, links: &Links, rows: &[Row], class: u32) -> Result<Row,
 {
     let upward = upward(alloc, rows, class, links.above())?;
     let supers = upward.rest()?;
-    let superinterfaces = superinterfaces(alloc, links, rows, class)?;
-    let field_order = field_order(alloc, links, rows, class, upward, &supers)?;
+    let superinterfaces = superinterfaces(alloc, list, links, rows, class)?;
+    let field_order = field_order(alloc, list, links, rows, class, upward, &supers)?;
     Ok(Row::new(supers, superinterfaces, field_order))
 }
 
@@ -264,8 +275,10 @@ pub fn ancestries(alloc: Global, table: &[Links]) -> Result<Vec<Row>, AllocError
     let sorting = sort(alloc, table)?;
     let order = sorting.order();
     let mut rows = empty_rows(alloc, table.len())?;
+    let mut list = DistinctClasses::begin(alloc);
     for class in order {
-        let row = row_of(alloc, &table[*class as usize], rows.as_slice(), *class)?;
+        let links = &table[*class as usize];
+        let row = row_of(alloc, &mut list, links, rows.as_slice(), *class)?;
         rows[*class as usize] = row;
     }
     Ok(rows)

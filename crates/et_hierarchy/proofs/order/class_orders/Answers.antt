@@ -20,7 +20,7 @@ index_mut-requires c =
 pub loop-class-preserved : goal.loop-class-preserved
 loop-class-preserved c =
     let lt : c.loop-class.class-index < length c.order-order.result.now = omega arith in
-    lists_turn (λ k. slice_index_or c.args.needs.now k false) c.args.table.now c.args.rows.now _ _ _ _ _ c.loop-class.class-index _ c.requires.rows c.in_ok-sorting.ensures c.order-order.ensures lt c.loop-class.invariant c.as_slice.ensures.value c.in_ok-list.ensures
+    lists_turn (λ k. slice_index_or c.args.needs.now k false) c.args.table.now c.args.rows.now _ _ _ _ _ c.loop-class.class-index _ c.requires.rows c.in_ok-sorting.ensures c.order-order.ensures lt c.loop-class.invariant c.as_slice.ensures.value c.in_ok-found.ensures
 
 pub returns-clause-order : goal.returns-clause-order
 returns-clause-order c = λ k lt. lists_end (λ k. slice_index_or c.args.needs.now k false) c.args.table.now c.args.rows.now _ _ _ _ c.loop-class.class-index c.requires.within c.in_ok-sorting.ensures c.order-order.ensures c.requires.acyclic (omega arith) c.loop-class.invariant k lt

@@ -3,4 +3,4 @@ use Rattle.et_hierarchy.specs.Ancestry.{added_all}
 use Rattle.et_hierarchy.proofs.tables.add_all.Given as goal
 
 abbrev pub invariant-loop-class : goal.invariant-loop-class
-invariant-loop-class l = added_all l.list.keys (drop l.class-index l.classes) ≡ added_all l.fn.list.keys l.classes
+invariant-loop-class l = added_all l.list (drop l.class-index l.classes) ≡ added_all l.fn.list l.classes

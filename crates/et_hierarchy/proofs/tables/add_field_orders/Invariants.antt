@@ -4,4 +4,4 @@ use Rattle.et_hierarchy.specs.Ancestry.{added_all, ancestry_at}
 use Rattle.et_hierarchy.proofs.tables.add_field_orders.Given as goal
 
 abbrev pub invariant-loop-interface : goal.invariant-loop-interface
-invariant-loop-interface l = added_all l.list.keys (flat_map (λ i. (ancestry_at l.rows i).field_order) (drop l.interface-index l.interfaces)) ≡ added_all l.fn.list.keys (flat_map (λ i. (ancestry_at l.rows i).field_order) l.interfaces)
+invariant-loop-interface l = added_all l.list (flat_map (λ i. (ancestry_at l.rows i).field_order) (drop l.interface-index l.interfaces)) ≡ added_all l.fn.list (flat_map (λ i. (ancestry_at l.rows i).field_order) l.interfaces)

@@ -9,4 +9,4 @@ loop-interface-preserved c =
     let x = get_or c.args.interfaces.now c.loop-interface.interface-index 0 in
     let e = row_at c.args.rows.now x _ (c.requires c.loop-interface.interface-index 0 lt) c.index-rows-interface.is in
     add_more (λ i. (ancestry_at c.args.rows.now i).superinterfaces ++ i ∷ []) c.args.interfaces.now c.loop-interface.interface-index _ _ _ (c.superinterfaces.result.now ++ x ∷ []) lt c.loop-interface.invariant
-    (ap (λ r. r.superinterfaces ++ x ∷ []) e ∙ ap (λ s. s ++ x ∷ []) (sym c.superinterfaces.ensures)) (add_pair c.loop-interface.list.keys c.add_all.new.list.keys c.add.new.list.keys c.superinterfaces.result.now x c.in_ok-add_all.ensures c.in_ok-add.ensures)
+    (ap (λ r. r.superinterfaces ++ x ∷ []) e ∙ ap (λ s. s ++ x ∷ []) (sym c.superinterfaces.ensures)) (add_pair c.loop-interface.list c.add_all.new.list c.add.new.self c.superinterfaces.result.now x c.in_ok-add_all.ensures c.in_ok-add.ensures)
