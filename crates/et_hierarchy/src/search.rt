@@ -3,11 +3,12 @@
 ghost use Rattle.std.specs.Prelude.{◌≡◌, ℕ, ◌<◌, ◌^◌, ◌↔◌, [], ◌∷◌, length, All, OnOk, IfOk, IsTrue, Option, MatchOption};
 ghost use Rattle.std.specs.Option.{option_to_list};
 ghost use Rattle.et_hierarchy.specs.Search.{VisitsLinks, IsMarkedIn};
+ghost use Rattle.et_hierarchy.specs.Sorting.{IsSorted};
 ghost use Rattle.et_hierarchy.specs.Links.{parents_of, IsAncestor, HasLinksWithin, AnswersCycle};
 
 use crate::below::turned;
 use crate::links::Links;
-use crate::sorting::sort;
+use crate::sorting::{Sorting, sort};
 use std::alloc::{AllocError, Global};
 
 /// Marks a class and puts it on the list of work, unless it is marked.
@@ -85,18 +86,27 @@ pub(crate) fn ancestors(alloc: Global, table: &[Links], class: u32) -> Result<Ve
     Ok(marks)
 }
 
-/// The first class that is its own ancestor, where none before `from` is. A class that can be put in order behind all those
-/// below it has no such class below it, so it isn't one, and isn't searched from.
-fn first_among(alloc: Global, table: &[Links], from: usize) -> Result<Option<u32>, AllocError>
+/// The first class that is its own ancestor, where none before `from` is. A class that has a place behind all those above
+/// it, in `sorting`, is none. Nor is one that can be put in order behind all those below it. Neither is searched from.
+fn first_among(
+    alloc: Global,
+    table: &[Links],
+    sorting: &Sorting,
+    from: usize,
+) -> Result<Option<u32>, AllocError>
     requires few { length table.now < 2 ^ 32 }
     requires within { HasLinksWithin (length table.now) table.now }
+    requires sorted { IsSorted table.now sorting.now.order.items sorting.now.done.items }
     requires before { (j : ℕ) → j < from → IsAncestor table.now j j → ⊥ }
     ensures { IfOk result (AnswersCycle table.now) }
 {
     let below = turned(alloc, table)?;
-    let sorting = sort(alloc, below.as_slice())?;
+    let upward = sort(alloc, below.as_slice())?;
     for k in from..table.len() {
         if sorting.is_done(k) {
+            continue;
+        }
+        if upward.is_done(k) {
             continue;
         }
         let marks = ancestors(alloc, table, k as u32)?;
@@ -117,7 +127,7 @@ pub(crate) fn first_on_cycle(alloc: Global, table: &[Links]) -> Result<Option<u3
     let sorting = sort(alloc, table)?;
     for k in 0..table.len() {
         if !sorting.is_done(k) {
-            return first_among(alloc, table, k);
+            return first_among(alloc, table, &sorting, k);
         }
     }
     Ok(None)

@@ -6,12 +6,16 @@ use Rattle.et_hierarchy.proofs.BelowTable.{cycle_down}
 use Rattle.et_hierarchy.proofs.search.first_among.Goals as goal
 
 pub is_done-requires : goal.is_done-requires
-is_done-requires c = omega (arith, c.in_ok-sorting.ensures.done_length, c.in_ok-below.ensures.length)
+is_done-requires c = omega (arith, c.requires.sorted.done_length)
 
 pub loop-k-preserved-then-is_done : goal.loop-k-preserved-then-is_done
 loop-k-preserved-then-is_done c =
+    below_more (λ j. IsAncestor c.args.table.now j j → ⊥) _ c.loop-k.invariant (done_free c.args.table.now _ _ c.loop-k.k c.requires.sorted (sym c.is_done.ensures ∙ c.if-is_done.true))
+
+pub loop-k-preserved-then-is_done-2 : goal.loop-k-preserved-then-is_done-2
+loop-k-preserved-then-is_done-2 c =
     below_more (λ j. IsAncestor c.args.table.now j j → ⊥) _ c.loop-k.invariant
-    (λ h. done_free _ _ _ c.loop-k.k c.in_ok-sorting.ensures (sym c.is_done.ensures ∙ c.if-is_done.true) (subst (λ t. IsAncestor t c.loop-k.k c.loop-k.k) (sym c.as_slice.ensures.value) (cycle_down c.args.table.now _ c.in_ok-below.ensures.turned c.loop-k.k h)))
+    (λ h. done_free _ _ _ c.loop-k.k c.in_ok-upward.ensures (sym c.is_done-in-loop-k.ensures ∙ c.if-is_done-2.true) (subst (λ t. IsAncestor t c.loop-k.k c.loop-k.k) (sym c.as_slice.ensures.value) (cycle_down c.args.table.now _ c.in_ok-below.ensures.turned c.loop-k.k h)))
 
 pub loop-k-preserved : goal.loop-k-preserved
 loop-k-preserved c =
