@@ -5,13 +5,14 @@ ghost use Rattle.std.specs.List.{slice_index_or};
 ghost use Rattle.et_hierarchy.specs.Search.{AreMarksOf};
 ghost use Rattle.et_hierarchy.specs.Ancestry.{class_added};
 
+use et_base::ClassId;
 use std::alloc::{AllocError, Global};
 use std::marker::Model;
 
 /// Classes, each once, in the order in which they were added. A contract sees the list of them.
 #[derive(Drop)]
 pub(crate) struct DistinctClasses {
-    classes: Vec<u32>,
+    classes: Vec<ClassId>,
     /// Whether a class is in the list, at its place. The places stay when the classes are taken out.
     marks: Vec<bool>,
 }
@@ -28,6 +29,7 @@ impl Model for DistinctClasses {
 }
 
 /// Whether a class is marked.
+#[inline]
 pub(crate) fn is_marked(marks: &[bool], class: u32) -> bool
     ensures { result ≡ slice_index_or marks.now class false }
 {
@@ -52,12 +54,12 @@ fn make_places(marks: &mut Vec<bool>, class: u32) -> Result<(), AllocError>
 }
 
 /// Takes away the marks of these classes, which are all that are marked.
-fn unmark(marks: &mut Vec<bool>, classes: &[u32])
+fn unmark(marks: &mut Vec<bool>, classes: &[ClassId])
     requires { AreMarksOf classes.now marks.old.items }
     ensures { AreMarksOf [] marks.new.items }
 {
     for class in classes {
-        marks[*class as usize] = false;
+        marks[class.number() as usize] = false;
     }
 }
 
@@ -73,6 +75,7 @@ impl DistinctClasses {
     }
 
     /// Puts a class behind the others, unless it is one of them.
+    #[inline]
     pub(crate) fn add(&mut self, class: u32) -> Result<(), AllocError>
         ensures { OnOk result (self.new ≡ class_added self.old class) }
     {
@@ -80,7 +83,7 @@ impl DistinctClasses {
             return Ok(());
         }
         make_places(&mut self.marks, class)?;
-        self.classes.push(class)?;
+        self.classes.push(ClassId::new(class))?;
         self.marks[class as usize] = true;
         Ok(())
     }
@@ -94,7 +97,7 @@ impl DistinctClasses {
     }
 
     /// The classes in their order.
-    pub(crate) fn as_slice(&self) -> &[u32]
+    pub(crate) fn as_slice(&self) -> &[ClassId]
         ensures { result.now ≡ self.now }
     {
         self.classes.as_slice()

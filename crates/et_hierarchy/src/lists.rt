@@ -34,17 +34,6 @@ impl ClassList {
         Ok(ClassList { whole, from: 0 })
     }
 
-    /// The list of the classes of these numbers. The only error is want of memory.
-    pub fn of_numbers(alloc: Global, numbers: &[u32]) -> Result<Self, AllocError>
-        ensures { IfOk result (λ l. l ≡ numbers.now) }
-    {
-        let mut classes = Vec::with_capacity(alloc, numbers.len())?;
-        for number in numbers {
-            classes.push(ClassId::new(*number))?;
-        }
-        ClassList::of(classes)
-    }
-
     /// A further handle to the list. The only error is that there are too many of them.
     pub fn share(&self) -> Result<Self, AllocError>
         ensures { IfOk result (λ l. l ≡ self.now) }
@@ -74,4 +63,15 @@ impl ClassList {
     {
         &self.whole.as_slice()[self.from..]
     }
+}
+
+/// The numbers of these classes.
+pub(crate) fn numbers_of(alloc: Global, classes: &[ClassId]) -> Result<Vec<u32>, AllocError>
+    ensures { IfOk result (λ numbers. numbers.items ≡ classes.now) }
+{
+    let mut numbers = Vec::with_capacity(alloc, classes.len())?;
+    for class in classes {
+        numbers.push(class.number())?;
+    }
+    Ok(numbers)
 }

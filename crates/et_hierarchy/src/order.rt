@@ -55,14 +55,14 @@ pub fn interfaces_to_run(
 ghost use Rattle.std.specs.Prelude.{filter};
 
 /// Those of these classes that are marked.
-fn marked_among(alloc: Global, marks: &[bool], classes: &[u32]) -> Result<Vec<u32>, AllocError>
+fn marked_among(alloc: Global, marks: &[bool], classes: &[ClassId]) -> Result<Vec<u32>, AllocError>
     ensures { IfOk result
         (λ list. list.items ≡ filter (λ k. slice_index_or marks.now k false) classes.now) }
 {
     let mut list = Vec::new(alloc);
     for class in classes {
-        if is_marked(marks, *class) {
-            list.push(*class)?;
+        if is_marked(marks, class.number()) {
+            list.push(class.number())?;
         }
     }
     Ok(list)
@@ -104,7 +104,8 @@ fn order_of(
     add_each(list, order_over(orders, links.above()))?;
     add_all(list, found.as_slice())?;
     list.add(class)?;
-    let order = ClassList::of_numbers(alloc, list.as_slice())?;
+    let classes = Vec::from_slice(alloc, list.as_slice())?;
+    let order = ClassList::of(classes)?;
     Ok(order)
 }
 

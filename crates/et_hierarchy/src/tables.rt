@@ -8,7 +8,7 @@ ghost use Rattle.et_hierarchy.specs.Ancestry.{ancestry_at, added_all, once, supe
 
 use crate::distinct::DistinctClasses;
 use crate::links::Links;
-use crate::lists::ClassList;
+use crate::lists::{ClassList, numbers_of};
 use crate::rows::Row;
 use crate::sorting::sort;
 use et_base::ClassId;
@@ -34,7 +34,7 @@ pub(crate) fn distinct(
 {
     list.clear();
     add_all(list, classes)?;
-    let found = Vec::from_slice(alloc, list.as_slice())?;
+    let found = numbers_of(alloc, list.as_slice())?;
     Ok(found)
 }
 
@@ -170,7 +170,7 @@ fn superinterfaces(
     list.clear();
     add_superinterfaces_over(list, rows, above)?;
     add_interfaces(list, rows, interfaces.as_slice())?;
-    let found = Vec::from_slice(alloc, list.as_slice())?;
+    let found = numbers_of(alloc, list.as_slice())?;
     Ok(found)
 }
 
@@ -193,8 +193,9 @@ fn searched(
     list.add(class)?;
     add_field_orders(list, rows, interfaces.as_slice())?;
     add_field_order_over(list, rows, above)?;
-    let found = ClassList::of_numbers(alloc, list.as_slice())?;
-    Ok(found)
+    let found = Vec::from_slice(alloc, list.as_slice())?;
+    let order = ClassList::of(found)?;
+    Ok(order)
 }
 
 /// Whether two lists are the same.

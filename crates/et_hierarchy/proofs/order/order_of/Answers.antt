@@ -20,6 +20,7 @@ returns c =
     let two : c.add.new.self ≡ added_all c.add_each.new.list (with_interfaces needs c.args.table.now c.args.rows.now c.args.class) =
     with_added needs c.args.table.now c.args.rows.now c.args.class c.index-table-class.result c.add_each.new.list _ _ _ _ c.requires.class c.index-table-class.is c.in_ok-found.ensures c.as_slice.ensures.value c.in_ok-add_all.ensures c.in_ok-add.ensures in
     c.in_ok-order.ensures
+    ∙ (c.in_ok-classes.ensures.items
     ∙ (c.as_slice-2.ensures
     ∙ order_from c.args.table.now c.args.class c.index-table-class.result c.args.orders.now (with_interfaces needs c.args.table.now c.args.rows.now c.args.class) c.clear.new.self c.add_each.new.list c.add.new.self _ _ c.requires.class c.index-table-class.is
-    c.clear.ensures c.above.ensures c.order_over.ensures c.in_ok-add_each.ensures two)
+    c.clear.ensures c.above.ensures c.order_over.ensures c.in_ok-add_each.ensures two))
