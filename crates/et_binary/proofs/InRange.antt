@@ -1,11 +1,11 @@
 -- Whether the fields of a line that has a record are in their ranges is told by its numbers and the lengths of its names.
 use Rattle.std.proofs.Common.{◌≡◌, ℕ, ◌<◌, ◌≤◌, Bool, List, length, sym, subst, arith, inl, inr}
-use Rattle.std.specs.Prelude.{◌↔◌, IsTrue, All}
+use Rattle.std.specs.Prelude.{◌↔◌, IsTrue}
 use Rattle.std.specs.List.{AllByRecursion}
 use Rattle.std.proofs.lemmas.Bool.{cases_lt}
 use Rattle.et_base.specs.declared.line.TraceLine.{TraceLine}
 use Rattle.et_base.specs.declared.line.TraceLine.TheVariants.{Header, Class, Method, Alloc, Update, Enter, Exit, Unwind, Flush, Death, Finish}
-use Rattle.et_text.specs.Ranges.{greatest_event, thread_count, number_limit, object_limit, slot_limit, least_size, greatest_size, greatest_length, greatest_ending, IsEventNumber, IsThreadNumber, IsNumber, IsObject, IsText, IsShort, IsInRange}
+use Rattle.et_text.specs.Ranges.{greatest_event, thread_count, number_limit, object_limit, slot_limit, least_size, greatest_size, greatest_length, greatest_ending, IsEventNumber, IsThreadNumber, IsNumber, IsObject, IsText, IsInRange}
 use Rattle.et_binary.specs.Packing.{Prefixed, packing, packed_fields}
 use Rattle.et_binary.specs.Packs.{FitsWidth, IsPacked}
 

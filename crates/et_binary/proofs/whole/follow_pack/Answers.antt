@@ -1,9 +1,8 @@
-use Rattle.std.proofs.Common.{◌≡◌, ◌-◌, ℕ, [], ◌++◌, ◌∙◌, List, drop, length, take, sym, ap, inl, inr, refl, arith}
+use Rattle.std.proofs.Common.{ℕ, [], ◌++◌, ◌∙◌, List, sym, ap, inl, inr, refl}
 use Rattle.std.proofs.lemmas.List.{take_rest}
 use Rattle.std.proofs.lemmas.Result.{err_from_is_err_and, IfErr-weaker, IfOk-weaker}
 use Rattle.et_text.specs.Followed.{LacksFinish}
-use Rattle.et_text.specs.Rules.{has_ended}
-use Rattle.et_binary.specs.FollowedPacks.{IsFaultOfPack, LeavesFront}
+use Rattle.et_binary.specs.FollowedPacks.{IsFaultOfPack}
 use Rattle.et_binary.specs.Packing.{opening}
 use Rattle.et_binary.specs.Packs.LacksRecord.{EndsInOpening}
 use Rattle.et_binary.proofs.SomePack.{wrong_opening, part_opening, whole_opening}
