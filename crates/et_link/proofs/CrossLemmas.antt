@@ -10,10 +10,8 @@ use Rattle.std.specs.Option.{option_to_list}
 use Rattle.et_hierarchy.specs.Links.{LinkEntry, links, no_links, HasLinksWithin}
 use Rattle.et_hierarchy.specs.Ancestry.{Ancestry, ancestry_at, IsAncestry, supers_over}
 use Rattle.et_program.specs.declared.info.MethodInfo.{MethodInfo}
-use Rattle.et_program.specs.declared.method_index.MethodIndex.{MethodIndex}
 use Rattle.et_program.specs.Entries.{no_method}
 use Rattle.et_program.specs.Members.{is_method}
-use Rattle.et_program.specs.Finding.{found_by, FindsMethods}
 use Rattle.et_program.proofs.PlaceLemmas.{position_within}
 use Rattle.et_program.proofs.WordLemmas.{here, there, any_some, any_from}
 use Rattle.et_program.specs.LinkFaults.{IsSuperIn, IsSuper, may_redeclare, is_package_private, method_numbered, same_in, is_same_package, CrossesPackage}
@@ -21,17 +19,17 @@ use Rattle.et_link.specs.Crossing.{is_private_at, hides, crosses, lesser, IsLeas
 
 -- THE INDEX
 
-pub found_within : (methods : List MethodInfo) (x : MethodIndex) (n d : List ℕ) (s o num : ℕ) → FindsMethods x methods → Some o ≡ found_by x n d s → num ≡ o → num < length methods
-found_within methods x n d s o num finds e at =
-    let below : o < length methods = subst (λ (p : Option ℕ). IfSome p (λ j. j < length methods)) (sym (e ∙ finds n d s)) (position_within (is_method n d s) methods) in
+pub found_within : (methods : List MethodInfo) (n d : List ℕ) (s o num : ℕ) → Some o ≡ position_from (is_method n d s) 0 methods → num ≡ o → num < length methods
+found_within methods n d s o num e at =
+    let below : o < length methods = subst (λ (p : Option ℕ). IfSome p (λ j. j < length methods)) (sym e) (position_within (is_method n d s) methods) in
     omega arith
 
-pub hides_found : (set : List Outline) (methods : List MethodInfo) (m : MethodInfo) (s : ℕ) (n d : List ℕ) (x : MethodIndex) (o num : ℕ) (p : MethodInfo) (r : Bool) → FindsMethods x methods → n ≡ m.name → d ≡ m.descriptor → Some o ≡ found_by x n d s → num ≡ o
+pub hides_found : (set : List Outline) (methods : List MethodInfo) (m : MethodInfo) (s : ℕ) (n d : List ℕ) (o num : ℕ) (p : MethodInfo) (r : Bool) → n ≡ m.name → d ≡ m.descriptor → Some o ≡ position_from (is_method n d s) 0 methods → num ≡ o
     → p ≡ get_or methods num p → r ≡ is_package_private p → is_same_package set m.class s ≡ false → r ≡ hides set methods m s
-hides_found set methods m s n d x o num p r finds en ed e at is private apart =
-    let lt : num < length methods = found_within methods x n d s o num finds e at in
+hides_found set methods m s n d o num p r en ed e at is private apart =
+    let lt : num < length methods = found_within methods n d s o num e at in
     let same : same_in methods m s ≡ Some num =
-    sym (ap (λ (a : List ℕ). position_from (is_method a m.descriptor s) 0 methods) en) ∙ (sym (ap (λ (b : List ℕ). position_from (is_method n b s) 0 methods) ed) ∙ (sym (e ∙ finds n d s) ∙ ap (λ (k : ℕ). Some k) (sym at))) in
+    sym (ap (λ (a : List ℕ). position_from (is_method a m.descriptor s) 0 methods) en) ∙ (sym (ap (λ (b : List ℕ). position_from (is_method n b s) 0 methods) ed) ∙ (sym e ∙ ap (λ (k : ℕ). Some k) (sym at))) in
     let q : r ≡ is_private_at methods (same_in methods m s) = private ∙ (ap is_package_private (is ∙ get_or_default methods num p no_method lt) ∙ ap (is_private_at methods) (sym same)) in
     q ∙ sym (ap (λ b. not b && is_private_at methods (same_in methods m s)) apart)
 

@@ -5,7 +5,6 @@ ghost use Rattle.et_hierarchy.specs.Outline.{outline_at};
 ghost use Rattle.et_hierarchy.specs.Ancestry.{ancestry_at, IsBelow};
 ghost use Rattle.et_program.specs.declared.info.MethodInfo.{MethodInfo as MethodOf};
 ghost use Rattle.et_program.specs.Members.{is_method};
-ghost use Rattle.et_program.specs.Tables.{looked_up};
 ghost use Rattle.et_program.specs.LinkFaults.{package_of, may_redeclare, is_package_private, same_in, is_same_package, last_or};
 ghost use Rattle.et_link.specs.Crossing.{hides, crosses, AnswersLeast};
 ghost use Rattle.et_program.specs.Finding.{FindsMethods};
@@ -81,7 +80,9 @@ fn hides(
     if is_same_package(set, method.class, class) {
         return false;
     }
-    let found = index.find(method.name.as_slice(), method.descriptor.as_slice(), class);
+    let name = method.name.as_slice();
+    let descriptor = method.descriptor.as_slice();
+    let found = index.find(methods, name, descriptor, class);
     match found {
         Some(other) => is_package_private(&methods[other.number() as usize]),
         None => false,

@@ -4,9 +4,10 @@ pub mod WordLemmas
 pub mod PlaceLemmas
 pub mod Examples
 pub mod IndexLemmas
+pub mod OrderLemmas
+pub mod SignatureLemmas
 pub mod Puts
 pub mod PoolLemmas
-pub mod SignatureLemmas
 pub mod ShapeLemmas
 pub mod Standing
 pub mod DeclaredFields

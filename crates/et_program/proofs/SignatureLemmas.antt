@@ -1,32 +1,41 @@
--- A method is found by the numbers that are kept of its texts.
-use Rattle.std.proofs.Common.{◌≡◌, ℕ, zero, suc, ◌<◌, true, List, [], ◌∷◌, length, map, Option, None, Some, is_some, refl, ap, arith, ◌∙◌}
-use Rattle.std.specs.Prelude.{unwrap_or, option_and_then}
-use Rattle.std.specs.List.{slice_index_or}
-use Rattle.et_program.specs.declared.names.NameIndex.{NameIndex}
-use Rattle.et_program.specs.declared.members.MemberIndex.{MemberIndex}
+-- A method is found among those of a name and a descriptor, by the places that are kept.
+use Rattle.std.proofs.Common.{◌≡◌, ◌∙◌, ℕ, ◌<◌, ◌≤◌, List, length, map, Option, All, ap, arith}
+use Rattle.std.specs.List.{slice_index_or, position_from}
+use Rattle.std.proofs.lemmas.List.{get_or-map}
+use Rattle.std.proofs.lemmas.List.Elements.{All-map}
 use Rattle.et_program.specs.declared.info.MethodInfo.{MethodInfo}
 use Rattle.et_program.specs.declared.signatures.Signature.{Signature}
-use Rattle.et_program.specs.Indices.{number_of_name, member_number}
-use Rattle.et_program.specs.Indexed.{HasTexts}
 use Rattle.et_program.specs.Entries.{ClassEntry, no_method}
-use Rattle.et_program.specs.Tables.{looked_up}
-use Rattle.et_program.specs.Signatures.{signature_of, AreSigned}
+use Rattle.et_program.specs.Members.{is_method}
+use Rattle.et_program.specs.Order.{Key, is_key, method_key, IsOrder, place_of}
+use Rattle.et_program.specs.Signatures.{signature_of}
+use Rattle.et_program.proofs.OrderLemmas.{starts, ends, method_by_key}
 
-by_kept : (f : ℕ → ℕ → Option ℕ) (o p : Option ℕ) → is_some o ≡ true → is_some p ≡ true → f (unwrap_or o 0) (unwrap_or p 0) ≡ option_and_then (λ n. option_and_then (λ d. f n d) p) o
-by_kept f None p h g = absurd (cc)
-by_kept f (Some n) None h g = absurd (cc)
-by_kept f (Some n) (Some d) h g = refl
+module _ (classes : List ClassEntry) (methods : List MethodInfo) (entries : List (ℕ × ℕ)) (signatures : List Signature) (order : IsOrder (map method_key methods) entries) (within : All (λ (m : MethodInfo). m.class < length classes) methods)
+    (signed : signatures ≡ map (signature_of (map method_key methods) entries classes) methods) (m : ℕ) (s : Signature) (lt : m < length methods) (is : s ≡ slice_index_or signatures m s) where
+  abbrev like : MethodInfo
+  like = slice_index_or methods m no_method
 
--- the element of a list of what is made of each
-made_at : {X Y : Type 0} (f : X → Y) (xs : List X) (k : ℕ) (x : X) (y : Y) → k < length xs → y ≡ slice_index_or (map f xs) k y → y ≡ f (slice_index_or xs k x)
-made_at f [] k x y lt is = absurd (omega arith)
-made_at f (z ∷ xs) zero x y lt is = is
-made_at f (z ∷ xs) (suc k) x y lt is = made_at f xs k x y (omega arith) is
+  kept : s ≡ signature_of (map method_key methods) entries classes like
+  kept = is ∙ (ap (λ (ss : List Signature). slice_index_or ss m s) signed ∙ get_or-map (signature_of (map method_key methods) entries classes) methods m no_method s lt)
 
-pub found_like : (texts : NameIndex) (members : MemberIndex) (classes : List ClassEntry) (methods : List MethodInfo) (signatures : List Signature) (m c : ℕ) (s : Signature) → AreSigned texts classes methods signatures → m < length methods → s ≡ slice_index_or signatures m s
-    → member_number members c s.name s.descriptor ≡ looked_up texts members (slice_index_or methods m no_method).name (slice_index_or methods m no_method).descriptor c
-found_like texts members classes methods signatures m c s signed lt is =
-    let x : MethodInfo = slice_index_or methods m no_method in
-    let at : s ≡ signature_of texts classes x = made_at (signature_of texts classes) methods m no_method s lt (is ∙ ap (λ (ss : List Signature). slice_index_or ss m s) signed.signed) in
-    let has : HasTexts texts x.name x.descriptor = signed.numbered m no_method lt in
-    ap (λ (t : Signature). member_number members c t.name t.descriptor) at ∙ by_kept (λ n d. member_number members c n d) (number_of_name texts x.name) (number_of_name texts x.descriptor) has.name_has has.descriptor_has
+  few : All (λ (k : Key). k.2 < length classes) (map method_key methods)
+  few = All-map (λ (k : Key). k.2 < length classes) method_key methods within
+
+  pub start_le_end : s.start ≤ s.end
+  start_le_end =
+      let a : s.start ≡ place_of (map method_key methods) entries (like.name, like.descriptor, 0) = ap (λ (t : Signature). t.start) kept in
+      let b : s.end ≡ place_of (map method_key methods) entries (like.name, like.descriptor, length classes) = ap (λ (t : Signature). t.end) kept in
+      omega (arith, a, b, starts (map method_key methods) entries order like.name like.descriptor (length classes) few)
+
+  pub end_within : s.end ≤ length entries
+  end_within =
+      let b : s.end ≡ place_of (map method_key methods) entries (like.name, like.descriptor, length classes) = ap (λ (t : Signature). t.end) kept in
+      omega (arith, b, ends (map method_key methods) entries order like.name like.descriptor (length classes) few)
+
+  pub found_like : (c : ℕ) (r : Option ℕ)
+      → ((keys : List Key) (name descriptor : List ℕ) (count : ℕ) → IsOrder keys entries → All (λ (k : Key). k.2 < count) keys → s.start ≡ place_of keys entries (name, descriptor, 0) → s.end ≡ place_of keys entries (name, descriptor, count) → r ≡ position_from (is_key (name, descriptor, c)) 0 keys)
+      → r ≡ position_from (is_method like.name like.descriptor c) 0 methods
+  found_like c r finds =
+      finds (map method_key methods) like.name like.descriptor (length classes) order few (ap (λ (t : Signature). t.start) kept) (ap (λ (t : Signature). t.end) kept)
+      ∙ method_by_key like.name like.descriptor c methods

@@ -11,10 +11,10 @@ pub mod Words
 pub mod Shown
 pub mod Tables
 pub mod Counted
-pub mod Indexed
 pub mod Parts
 pub mod Finding
 pub mod Indices
+pub mod Order
 pub mod Loaded
 pub mod Files
 pub mod MembersOf

@@ -1,22 +1,20 @@
--- The numbers by which methods are looked for, and what calls read off their descriptors and their names.
-use Rattle.std.specs.Prelude.{◌≡◌, ℕ, ◌<◌, List, length, map, unwrap_or, codes}
+-- Where methods are looked for, and what calls read off their descriptors and their names.
+use Rattle.std.specs.Prelude.{◌≡◌, ℕ, ◌<◌, List, length, map, codes}
 use Rattle.std.specs.Str.{bytes_eq}
 use Rattle.et_class.specs.Operands.{shape_in}
-use Rattle.et_program.specs.declared.names.NameIndex.{NameIndex}
 use Rattle.et_program.specs.declared.info.MethodInfo.{MethodInfo}
 use Rattle.et_program.specs.declared.signatures.Signature.{Signature}
 use Rattle.et_program.specs.declared.signatures.Sought.{Sought}
 use Rattle.et_program.specs.declared.signatures.Sought.TheVariants.{Named, Like}
 use Rattle.et_program.specs.Entries.{ClassEntry, Linked, method_at}
 use Rattle.et_program.specs.BuiltIns.{built_in_of, is_deferred_in, text_method_in}
-use Rattle.et_program.specs.Indices.{number_of_name}
-use Rattle.et_program.specs.Indexed.{HasIndexedMethods}
+use Rattle.et_program.specs.Order.{Key, method_key, place_of}
 
--- the numbers of the name and of the descriptor of a method, and what a call reads off them
-abbrev pub signature_of : NameIndex → List ClassEntry → MethodInfo → Signature
-signature_of texts classes m = record {
-  name = unwrap_or (number_of_name texts m.name) 0;
-  descriptor = unwrap_or (number_of_name texts m.descriptor) 0;
+-- where the methods of the name and of the descriptor of a method stand, and what a call reads off the two
+abbrev pub signature_of : List Key → List (ℕ × ℕ) → List ClassEntry → MethodInfo → Signature
+signature_of keys entries classes m = record {
+  start = place_of keys entries (m.name, m.descriptor, 0);
+  end = place_of keys entries (m.name, m.descriptor, length classes);
   shape = shape_in m.descriptor;
   built_in = built_in_of m;
   is_deferred = is_deferred_in classes m;
@@ -24,10 +22,9 @@ signature_of texts classes m = record {
   is_constructor = bytes_eq m.name (codes "<init>");
 }
 
--- the texts of all methods have numbers, which are kept at the numbers of the methods with what calls read off them
-pub record AreSigned (texts : NameIndex) (classes : List ClassEntry) (methods : List MethodInfo) (signatures : List Signature) : Type 0 where
-  pub numbered : HasIndexedMethods texts methods
-  pub signed : signatures ≡ map (signature_of texts classes) methods
+-- these are kept of each method at its number
+abbrev pub AreSigned : List (ℕ × ℕ) → List ClassEntry → List MethodInfo → List Signature → Type 0
+AreSigned entries classes methods signatures = signatures ≡ map (signature_of (map method_key methods) entries classes) methods
 
 -- WHAT IS LOOKED FOR: a name and a descriptor, or those of a method
 

@@ -1,15 +1,13 @@
 -- What is true of the tables that a program keeps, and of the indices beside them.
-use Rattle.std.specs.Prelude.{◌≡◌, ℕ, ◌<◌, ◌^◌, List, length, All, IfSome, Option, None, option_and_then}
+use Rattle.std.specs.Prelude.{◌≡◌, ℕ, ◌<◌, ◌^◌, List, length, map, All, IfSome, Option, None}
 use Rattle.std.specs.List.{slice_index_or}
-use Rattle.et_program.specs.declared.names.NameIndex.{NameIndex}
-use Rattle.et_program.specs.declared.members.MemberIndex.{MemberIndex}
-use Rattle.et_program.specs.Indices.{number_of_name, member_number}
 use Rattle.et_program.specs.declared.info.MethodInfo.{MethodInfo}
 use Rattle.et_program.specs.declared.info.FieldInfo.{FieldInfo}
 use Rattle.et_program.specs.declared.kind.Leaf.{Leaf}
 use Rattle.et_program.specs.declared.kind.Leaf.TheVariants.{Base, Class}
 use Rattle.et_program.specs.Entries.{ClassInfoOf, ClassEntry, Linked}
-use Rattle.et_program.specs.Members.{class_named, method_in, field_in, base_array}
+use Rattle.et_program.specs.Members.{base_array}
+use Rattle.et_program.specs.Order.{class_key, method_key, field_key, IsOrder}
 
 -- the class under the dimensions is one of the first n
 abbrev pub IsLeafBelow : ℕ → Leaf → Type 0
@@ -43,16 +41,9 @@ pub record IsTabled (p : Linked) : Type 0 where
   pub few_methods : length p.methods < 2 ^ 32
   pub few_fields : length p.fields < 2 ^ 32
 
--- THE INDICES
-
--- the member of a class, by the numbers of its name and of its descriptor
-abbrev pub looked_up : NameIndex → MemberIndex → List ℕ → List ℕ → ℕ → Option ℕ
-looked_up texts members name descriptor class =
-    option_and_then (λ n. option_and_then (λ d. member_number members class n d) (number_of_name texts descriptor)) (number_of_name texts name)
-
--- the indices find what the definitions find
-pub record AreIndexed (p : Linked) (base_arrays : List (Option ℕ)) (places texts : NameIndex) (methods fields : MemberIndex) : Type 0 where
-  pub classes_found : (name : List ℕ) → number_of_name places name ≡ class_named p name
-  pub methods_found : (name descriptor : List ℕ) (c : ℕ) → looked_up texts methods name descriptor c ≡ method_in p name descriptor c
-  pub fields_found : (name descriptor : List ℕ) (c : ℕ) → looked_up texts fields name descriptor c ≡ field_in p name descriptor c
+-- THE INDICES: the orders of the three tables, and the array classes over base types
+pub record AreIndexed (p : Linked) (base_arrays : List (Option ℕ)) (classes methods fields : List (ℕ × ℕ)) : Type 0 where
+  pub classes_order : IsOrder (map class_key p.classes) classes
+  pub methods_order : IsOrder (map method_key p.methods) methods
+  pub fields_order : IsOrder (map field_key p.fields) fields
   pub base_arrays_found : (kind : ℕ) → kind < 256 → slice_index_or base_arrays kind None ≡ base_array p kind

@@ -1,20 +1,20 @@
 //! Methods by class, name and descriptor, before there is a program.
 
 ghost use Rattle.std.specs.Prelude.{◌≡◌, ◌<◌, ◌^◌, length, IfOk};
-ghost use Rattle.et_program.specs.Finding.{found_by, FindsMethods};
+ghost use Rattle.std.specs.List.{position_from};
+ghost use Rattle.et_program.specs.Members.{is_method};
+ghost use Rattle.et_program.specs.Finding.{FindsMethods};
 
-use crate::indices::{index_methods, number_texts};
 use crate::info::MethodInfo;
-use crate::members::MemberIndex;
-use crate::names::NameIndex;
+use crate::order::{Key, Order, Table};
 use et_base::{ClassId, MethodId, NoMemory};
 use std::alloc::Global;
 
-/// The methods of a list by class, name and descriptor; the first of each.
+/// The order in which the methods of a list are found by class, name and descriptor; the first of each. The names stand in the
+/// list alone, so each look-up is given the list.
 #[derive(Drop)]
 pub struct MethodIndex {
-    texts: NameIndex,
-    members: MemberIndex,
+    order: Order,
 }
 
 impl MethodIndex {
@@ -23,18 +23,27 @@ impl MethodIndex {
         requires { length methods.now < 2 ^ 32 }
         ensures { IfOk result (λ x. FindsMethods x methods.now) }
     {
-        let texts = number_texts(alloc, methods, &[])?;
-        let members = index_methods(alloc, &texts, methods)?;
-        Ok(MethodIndex { texts, members })
+        let order = Order::of(alloc, Table::Methods(methods))?;
+        Ok(MethodIndex { order })
     }
 
-    /// The place of the method of a class with this name and descriptor.
-    pub fn find(&self, name: &[u8], descriptor: &[u8], class: ClassId) -> Option<MethodId>
-        ensures { result ≡ found_by self.now name.now descriptor.now class }
+    /// The place of the method of a class with this name and descriptor among the methods of which this is the index.
+    pub fn find(
+        &self,
+        methods: &[MethodInfo],
+        name: &[u8],
+        descriptor: &[u8],
+        class: ClassId,
+    ) -> Option<MethodId>
+        requires { FindsMethods self.now methods.now }
+        ensures { result ≡ position_from (is_method name.now descriptor.now class) 0 methods.now }
     {
-        let name = self.texts.find(name)?;
-        let descriptor = self.texts.find(descriptor)?;
-        let method = self.members.find(class.number(), name, descriptor)?;
+        let key = Key {
+            name,
+            descriptor,
+            class: class.number(),
+        };
+        let method = self.order.find(Table::Methods(methods), key)?;
         Some(MethodId::new(method))
     }
 }

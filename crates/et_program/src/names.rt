@@ -7,25 +7,28 @@ ghost use Rattle.et_program.specs.Indices.{number_of_name};
 
 use et_base::NoMemory;
 use std::alloc::Global;
-use std::collections::HashMap;
+use std::collections::BTreeMap;
 
-/// The number of each name that was put in. `number_of_name` says what a contract sees of it.
+/// The number of each name that was put in. The names are in order, so that one more takes a few comparisons, whatever they are.
+/// `number_of_name` says what a contract sees of it.
 #[derive(Drop)]
 pub struct NameIndex {
-    places: HashMap<Vec<u8>, u32>,
+    places: BTreeMap<Vec<u8>, u32>,
 }
 
 impl NameIndex {
     /// No name has a number yet.
+    #[tactic(auto, unfolding(crate::specs::Indices::number_of_name))]
     pub fn begin(alloc: Global) -> Self
         ensures { (name : List ℕ) → number_of_name result name ≡ None }
     {
         NameIndex {
-            places: HashMap::new(alloc),
+            places: BTreeMap::new(alloc),
         }
     }
 
     /// The number of a name.
+    #[tactic(auto, unfolding(crate::specs::Indices::number_of_name))]
     pub fn find(&self, name: &[u8]) -> Option<u32>
         ensures { result ≡ number_of_name self.now name.now }
     {
@@ -33,6 +36,7 @@ impl NameIndex {
     }
 
     /// Gives a name a number, unless it has one. After `NoMemory` all is as before.
+    #[tactic(auto, unfolding(crate::specs::Indices::number_of_name))]
     pub fn put(&mut self, alloc: Global, name: &[u8], number: u32) -> Result<(), NoMemory>
         ensures ok { OnOk result ((q : List ℕ) → number_of_name self.new q ≡ option_or
             (number_of_name self.old q) (if bytes_eq q name.now then Some number else None)) }

@@ -7,10 +7,9 @@ ghost use Rattle.std.specs.Str.{bytes_eq};
 
 use crate::class::Class;
 use crate::errors::LinkError;
-use crate::indices::{index_base_arrays, index_classes, index_fields, index_methods, number_texts};
+use crate::indices::index_base_arrays;
 use crate::info::{ClassInfo, FieldInfo, MethodInfo};
-use crate::members::MemberIndex;
-use crate::names::NameIndex;
+use crate::order::{Key, Order, Table};
 use crate::resolved::{Resolved, ResolvedPool};
 use crate::shapes::{PoolShapes, shapes_of};
 use crate::signatures::{Signature, Sought, signatures_of};
@@ -21,8 +20,9 @@ use et_class::{CallShape, Pool};
 use std::alloc::Global;
 use std::marker::Model;
 
-/// The linked classes with their members. Contracts see it as the tables of the definition. No call of it takes memory,
-/// and each look-up by name goes by a map.
+/// The linked classes with their members. Contracts see it as the tables of the definition. No call of it takes memory. Each name
+/// stands in its table alone, and a look-up by name goes by halves through the order of the names: no choice of names makes it
+/// slow.
 #[derive(Drop)]
 pub struct Program {
     classes: Vec<Class>,
@@ -33,10 +33,9 @@ pub struct Program {
     main: MethodId,
     pools: Vec<Pool>,
     base_arrays: Vec<Option<ClassId>>,
-    places: NameIndex,
-    texts: NameIndex,
-    method_places: MemberIndex,
-    field_places: MemberIndex,
+    class_order: Order,
+    method_order: Order,
+    field_order: Order,
     signatures: Vec<Signature>,
     shapes: Vec<PoolShapes>,
     resolved: Vec<ResolvedPool>,
@@ -71,9 +70,10 @@ impl Model for Program {
       main = p.main;
       pools = p.pools.items;
     } in IsTabled l
-        × AreIndexed l p.base_arrays.items p.places p.texts p.method_places p.field_places
+        × AreIndexed l p.base_arrays.items p.class_order.entries.items p.method_order.entries.items
+        p.field_order.entries.items
         × IsLinked l
-        × AreSigned p.texts p.classes.items p.methods.items p.signatures.items
+        × AreSigned p.method_order.entries.items p.classes.items p.methods.items p.signatures.items
         × AreShaped p.pools.items p.shapes.items
         × AreResolved l p.resolved.items };
 }
@@ -115,14 +115,12 @@ impl Program {
         requires linked { IsLinked (shown_tables tables) }
         ensures { IfOk result (λ p. p ≡ shown_tables tables) }
     {
-        let places = index_classes(alloc, tables.classes.as_slice())?;
         let base_arrays = index_base_arrays(alloc, tables.classes.as_slice())?;
         let methods = tables.methods.as_slice();
-        let fields = tables.fields.as_slice();
-        let texts = number_texts(alloc, methods, fields)?;
-        let signatures = signatures_of(alloc, &texts, tables.classes.as_slice(), methods)?;
-        let method_places = index_methods(alloc, &texts, methods)?;
-        let field_places = index_fields(alloc, &texts, fields)?;
+        let class_order = Order::of(alloc, Table::Classes(tables.classes.as_slice()))?;
+        let method_order = Order::of(alloc, Table::Methods(methods))?;
+        let field_order = Order::of(alloc, Table::Fields(tables.fields.as_slice()))?;
+        let signatures = signatures_of(alloc, &method_order, tables.classes.as_slice(), methods)?;
         let shapes = shapes_of(alloc, tables.pools.as_slice())?;
         let Tables {
             classes,
@@ -142,10 +140,9 @@ impl Program {
             main,
             pools,
             base_arrays,
-            places,
-            texts,
-            method_places,
-            field_places,
+            class_order,
+            method_order,
+            field_order,
             signatures,
             shapes,
             resolved: Vec::new(alloc),
@@ -158,7 +155,7 @@ impl Program {
     ghost use Rattle.et_program.specs.Entries.{class_at, method_at, field_at};
     ghost use Rattle.et_program.specs.Tables.{IsWithinTables, IsInfoWithin};
     ghost use Rattle.et_program.specs.Shown.{info_of};
-    ghost use Rattle.et_program.specs.Members.{method_in, field_in, is_above, is_subclass, base_array};
+    ghost use Rattle.et_program.specs.Members.{class_named, method_in, field_in, is_above, is_subclass, base_array};
     ghost use Rattle.et_program.specs.Resolution.{resolve_class};
     ghost use Rattle.et_program.specs.Resolved.{IsResolved, AreResolved};
     ghost use Rattle.et_class.specs.Operands.{shape_in};
@@ -171,10 +168,24 @@ impl Program {
         ensures value { result ≡ resolve_class self.now name.now }
         ensures within { IfOk result (λ c. c < length self.now.classes) }
     {
-        match self.places.find(name) {
-            Some(class) => Ok(ClassId::new(class)),
+        match self.class_named(name) {
+            Some(class) => Ok(class),
             None => Err(LinkError::NoClassDefFound),
         }
+    }
+
+    /// The class of this name, by halves through the order of the names.
+    fn class_named(&self, name: &[u8]) -> Option<ClassId>
+        ensures { result ≡ class_named self.now name.now }
+    {
+        let key = Key {
+            name,
+            descriptor: &[],
+            class: 0,
+        };
+        let table = Table::Classes(self.classes.as_slice());
+        let class = self.class_order.find(table, key)?;
+        Some(ClassId::new(class))
     }
 
     /// The class of this number.
@@ -370,17 +381,21 @@ impl Program {
         self.entry(class).superinterfaces().contains(&interface)
     }
 
-    /// What the maps have of a method of a class.
+    /// The method of a class with this name and descriptor, by halves through the order of all.
     fn method_by_key(&self, name: &[u8], descriptor: &[u8], class: ClassId) -> Option<MethodId>
         ensures { result ≡ method_in self.now name.now descriptor.now class }
     {
-        let name = self.texts.find(name)?;
-        let descriptor = self.texts.find(descriptor)?;
-        let method = self.method_places.find(class.number(), name, descriptor)?;
+        let key = Key {
+            name,
+            descriptor,
+            class: class.number(),
+        };
+        let table = Table::Methods(self.methods.as_slice());
+        let method = self.method_order.find(table, key)?;
         Some(MethodId::new(method))
     }
 
-    /// The method of a class with the name and the descriptor of a method, by their numbers.
+    /// The method of a class with the name and the descriptor of a method, by halves through those that have them.
     fn method_like(&self, method: MethodId, class: ClassId) -> Option<MethodId>
         requires { method < length self.now.methods }
         ensures { result ≡ method_in self.now (method_at self.now method).name
@@ -388,8 +403,8 @@ impl Program {
     {
         let signature = &self.signatures[method.number() as usize];
         let found = self
-            .method_places
-            .find(class.number(), signature.name, signature.descriptor)?;
+            .method_order
+            .find_among(signature.start, signature.end, class.number())?;
         Some(MethodId::new(found))
     }
 
@@ -411,9 +426,13 @@ impl Program {
         ensures value { result ≡ field_in self.now name.now descriptor.now class }
         ensures within { IfSome result (λ f. f < length self.now.fields) }
     {
-        let name = self.texts.find(name)?;
-        let descriptor = self.texts.find(descriptor)?;
-        let field = self.field_places.find(class.number(), name, descriptor)?;
+        let key = Key {
+            name,
+            descriptor,
+            class: class.number(),
+        };
+        let table = Table::Fields(self.fields.as_slice());
+        let field = self.field_order.find(table, key)?;
         Some(FieldId::new(field))
     }
 }

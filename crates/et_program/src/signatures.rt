@@ -1,26 +1,29 @@
-//! The numbers by which methods are looked for, and what calls read off their descriptors and their names.
+//! Where methods are looked for, and what calls read off their descriptors and their names.
 
-ghost use Rattle.std.specs.Prelude.{◌≡◌, ◌<◌, length, map, All, IfOk};
+ghost use Rattle.std.specs.Prelude.{◌≡◌, ◌<◌, ◌^◌, length, map, All, IfOk};
 ghost use Rattle.std.specs.List.{slice_index_or};
 ghost use Rattle.et_program.specs.Entries.{no_class};
 ghost use Rattle.et_program.specs.BuiltIns.{is_deferred_in, text_method_in};
-ghost use Rattle.et_program.specs.Signatures.{signature_of as signature_in};
+ghost use Rattle.et_program.specs.Order.{method_key, IsOrder};
+ghost use Rattle.et_program.specs.Signatures.{signature_of as signature_in, AreSigned};
 ghost use Rattle.et_program.specs.declared.info.MethodInfo.{MethodInfo as Method};
 
 use crate::class::Class;
 use crate::info::MethodInfo;
-use crate::names::NameIndex;
+use crate::order::{Key, Order, Table};
 use et_base::{MethodId, NoMemory};
 use et_boot::{BuiltIn, TextMethod, built_in_called, is_deferring, text_method_called};
 use et_class::flags::{ABSTRACT, NATIVE, STATIC, has};
 use et_class::{CallShape, call_shape};
 use std::alloc::Global;
 
-/// The numbers of the name and of the descriptor of a method, and what a call reads off them.
+/// Where the methods of the name and of the descriptor of a method stand in their order, and what a call reads off the two.
 #[derive(Drop)]
 pub(crate) struct Signature {
-    pub name: u32,
-    pub descriptor: u32,
+    /// The place of the first of them.
+    pub start: usize,
+    /// The place behind the last of them.
+    pub end: usize,
     pub shape: Option<CallShape>,
     /// The built-in method that it is where it has no code.
     pub built_in: Option<BuiltIn>,
@@ -40,7 +43,7 @@ pub(crate) enum Sought<'a> {
         name: &'a [u8],
         descriptor: &'a [u8],
     },
-    /// By those of a method of the program, whose numbers are kept.
+    /// By those of a method of the program, whose places are kept.
     Like(MethodId),
 }
 
@@ -78,21 +81,37 @@ fn text_method(classes: &[Class], method: &MethodInfo) -> Option<TextMethod>
     )
 }
 
-/// The numbers of the name and descriptor of a method, and what calls read off them. The only error is want of memory.
+/// Where the methods of the name and of the descriptor of a method stand, and what calls read off the two. The only error is want
+/// of memory.
 fn signature_of(
     alloc: Global,
-    texts: &NameIndex,
+    order: &Order,
+    methods: &[MethodInfo],
     classes: &[Class],
     method: &MethodInfo,
 ) -> Result<Signature, NoMemory>
-    requires { method.now.class < length classes.now }
-    ensures { IfOk result (λ s. s ≡ signature_in texts.now classes.now method.now) }
+    requires few { length classes.now < 2 ^ 32 }
+    requires class { method.now.class < length classes.now }
+    requires order { IsOrder (map method_key methods.now) order.now.entries.items }
+    ensures { IfOk result (λ s. s ≡ signature_in (map method_key methods.now)
+        order.now.entries.items classes.now method.now) }
 {
     let name = method.name.as_slice();
     let descriptor = method.descriptor.as_slice();
+    let table = Table::Methods(methods);
+    let first = Key {
+        name,
+        descriptor,
+        class: 0,
+    };
+    let behind = Key {
+        name,
+        descriptor,
+        class: classes.len() as u32,
+    };
     Ok(Signature {
-        name: texts.find(name).unwrap_or(0),
-        descriptor: texts.find(descriptor).unwrap_or(0),
+        start: order.place(table, first),
+        end: order.place(table, behind),
         shape: call_shape(alloc, descriptor)?,
         built_in: if has(method.flags, ABSTRACT) {
             None
@@ -105,19 +124,23 @@ fn signature_of(
     })
 }
 
-/// The numbers of the names and descriptors of these methods, and what calls read off them. The only error is want of memory.
+/// Where the methods of the name and of the descriptor of each method stand, and what calls read off the two. The only error is
+/// want of memory.
 pub(crate) fn signatures_of(
     alloc: Global,
-    texts: &NameIndex,
+    order: &Order,
     classes: &[Class],
     methods: &[MethodInfo],
 ) -> Result<Vec<Signature>, NoMemory>
-    requires { All (λ (m : Method). m.class < length classes.now) methods.now }
-    ensures { IfOk result (λ s. s.items ≡ map (signature_in texts.now classes.now) methods.now) }
+    requires few { length classes.now < 2 ^ 32 }
+    requires classes { All (λ (m : Method). m.class < length classes.now) methods.now }
+    requires order { IsOrder (map method_key methods.now) order.now.entries.items }
+    ensures { IfOk result
+        (λ s. AreSigned order.now.entries.items classes.now methods.now s.items) }
 {
     let mut signatures = Vec::with_capacity(alloc, methods.len())?;
     for method in methods {
-        signatures.push(signature_of(alloc, texts, classes, method)?)?;
+        signatures.push(signature_of(alloc, order, methods, classes, method)?)?;
     }
     Ok(signatures)
 }
