@@ -40,9 +40,9 @@ use Rattle.et_walk.specs.Telling.{names_of_program}
 use Rattle.et_history.specs.Whole.{beside, cleared, whole_flushed, whole_start}
 use Rattle.et_history.proofs.Alike.{is_open}
 use Rattle.et_history.proofs.Wholes.{all_match, settled_match, go_on, flushed_here, picked_unended}
-use Rattle.et_walk.proofs.Words.{if_case}
 use Rattle.et_walk.proofs.Records.{alike_itself, alike_then, same_size}
 use Rattle.et_spoken.proofs.Events.{event_tells_objects as event_tells}
+use Rattle.et_sound.proofs.Outcomes.{if_case}
 
 -- LINES
 

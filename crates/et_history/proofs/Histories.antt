@@ -19,12 +19,12 @@ use Rattle.et_event.specs.Sound.{IsSoundMonitor, IsSoundFor}
 use Rattle.et_state.specs.Start.{start}
 use Rattle.et_sound.specs.WellFormed.{IsThere}
 use Rattle.et_sound.proofs.Growing.{free_is_sound}
+use Rattle.et_sound.proofs.Outcomes.{if_case}
 use Rattle.et_history.specs.Settings.{IsSoundRun, flushed_of}
 use Rattle.et_walk.specs.Holding.{monitor_in}
 use Rattle.et_history.specs.Histories.{state_at, settled_at, HistoryGoesOn, moment_at, times_held}
 use Rattle.et_history.proofs.Agreeing.{Agrees, IsNew, Excludes, holder, excludes_same, excludes_event}
 use Rattle.et_history.proofs.Wholes.{Next, next, state_sound}
-use Rattle.et_walk.proofs.Words.{if_case}
 
 -- MONITORS of a sound state
 

@@ -27,8 +27,9 @@ use Rattle.et_event.specs.Monitors.{Lock, OfObject, OfClass, with_monitor_of}
 use Rattle.et_event.specs.Sites.{LoadedConstant, AnInt, ALong, AString, constant_at, pool_of_class}
 use Rattle.et_event.specs.Strings.{interned, string_object}
 use Rattle.et_walk.proofs.Heaps.{newest}
-use Rattle.et_walk.proofs.Words.{if_case, updated_same}
 use Rattle.et_heap.specs.Queues.{with_waits, without_first_waiting, take_first}
+use Rattle.et_sound.proofs.Slots.{updated_state}
+use Rattle.et_sound.proofs.Outcomes.{if_case}
 
 -- the thread was started, and each object that is new is that of a string
 pub record OfStrings (e : Moment) (s : Kept) : Type 0 where
@@ -72,13 +73,13 @@ pub slot_strings : (e : Moment) (o i : ℕ) (v : Value) (d : Doing) → OfString
 slot_strings e o i v d h =
     let x : ObjectState = object_at d.state.heap o in
     let next : Doing = record { state = record { heap = with_object_at d.state.heap o (with_slot i v x); guest = d.state.guest }; records = d.records } in
-    subst (λ (s : Kept). OfStrings e s) (sym (updated_same e o i (slot_of x i) v next)) (object_strings e o (with_slot i v x) d.state h)
+    subst (λ (s : Kept). OfStrings e s) (sym (updated_state e o i (slot_of x i) v next)) (object_strings e o (with_slot i v x) d.state h)
 
 pub static_strings : (e : Moment) (i : ℕ) (v : Value) (d : Doing) → OfStrings e d.state → OfStrings e (static_written e i v d).state
 static_strings e i v d h =
     let next : Doing = doing_with_guest (with_static d.state.guest i v) d in
     let so : OfStrings e next.state = record { thread = h.thread; strings = h.strings } in
-    subst (λ (s : Kept). OfStrings e s) (sym (updated_same e 0 i (static_at d.state.guest i) v next)) so
+    subst (λ (s : Kept). OfStrings e s) (sym (updated_state e 0 i (static_at d.state.guest i) v next)) so
 
 pub referent_strings : (e : Moment) (o : ℕ) (r : Option ℕ) (d : Doing) → OfStrings e d.state → OfStrings e (with_referent_of o r d).state
 referent_strings e o r d h = object_strings e o (with_referent r (object_at d.state.heap o)) d.state h

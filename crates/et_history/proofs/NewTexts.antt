@@ -26,13 +26,13 @@ use Rattle.et_event.specs.Sites.{Site, natural_of}
 use Rattle.et_event.specs.TextRows.{ends_with_texts, is_fit_text, is_text_like, rewrites, shown, text_done, text_given, text_row}
 use Rattle.et_event.specs.Told.{event_with_texts, keeping}
 use Rattle.et_event.specs.declared.errors.GuestError.TheVariants.{OutOfMemoryError, StringIndexOutOfBoundsException}
-use Rattle.et_walk.proofs.Words.{if_case}
 use Rattle.et_spoken.proofs.Events.{each_way, moment}
 use Rattle.et_history.specs.Reaching.{AreReachedFrom, ReachesNew}
 use Rattle.et_history.proofs.NewRows.{Starts, done_new, ended_new, on_top_reached}
 use Rattle.et_history.proofs.NewStrings.{first}
 use Rattle.et_history.proofs.NewTurns.{event_reaches}
 use Rattle.et_history.proofs.NewWays.{New, each_int, ends_reached, one_reached, unless_ill_typed, unless_thrown, where_not_null}
+use Rattle.et_sound.proofs.Outcomes.{if_case}
 
 module _ (e : Moment) (here : Starts e) (at : Site) where
   -- ONE OBJECT is made, and put on the operands

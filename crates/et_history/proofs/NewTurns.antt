@@ -50,11 +50,11 @@ use Rattle.et_event.specs.Sites.{Site, Member, site_member, names_interface, sit
 use Rattle.et_event.specs.Table.{row_of}
 use Rattle.et_event.specs.Throw.{caught, handled, handler_of, left_if_owned, dropped, is_error, replaced, failed, unwound, unwound_clinit, by_handler, unwinds, unwinding_step}
 use Rattle.et_history.specs.Reaching.{AreReachedFrom, ReachesNew}
-use Rattle.et_walk.proofs.Words.{if_case}
 use Rattle.et_history.proofs.NewStrings.{OfStrings, first, thread_strings, top_strings, state_strings, started_strings, slot_strings, referent_strings, monitor_strings, prepared_strings, reference_strings, first_taken_strings}
 use Rattle.et_history.proofs.NewWays.{New, reached_beyond, one_reached, pending_reached, goes_new, ends_reached, ends_new, throws_new, unless_ill_typed, unless_thrown, where_resolved, where_not_null, unless_waiting, where_frame_fits, initialized_new, each_value}
 use Rattle.et_history.proofs.NewRows.{Starts, on_top, heap_new, throw_new, end_new, monitor_new, on_frame_new, constant_new, divides_new}
 use Rattle.et_heap.specs.Queues.{first_value}
+use Rattle.et_sound.proofs.Outcomes.{if_case}
 
 -- A METHOD IS ENTERED
 

@@ -31,8 +31,9 @@ use Rattle.et_event.specs.Initialization.{state_of, with_state, constants_set, i
 use Rattle.et_event.specs.Moments.{Moment, Doing, next_object, instance_made, with_thread_state, pending_now, fits_heap, goes, ends_event, throws, waits}
 use Rattle.et_history.specs.Reaching.{AreReachedFrom, ReachesNew}
 use Rattle.et_walk.proofs.Heaps.{newest}
-use Rattle.et_walk.proofs.Words.{if_case, thread_now}
+use Rattle.et_walk.proofs.Words.{thread_now}
 use Rattle.et_history.proofs.NewStrings.{OfStrings, thread_strings, state_strings, constants_strings, quietly_strings}
+use Rattle.et_sound.proofs.Outcomes.{if_case}
 
 abbrev pub New : Moment → Outcome Kept → Type 0
 New e x = ReachesNew e.before x

@@ -35,7 +35,6 @@ use Rattle.et_walk.specs.Writes.{HasCause, IsAtHand, IsOfReached, TellWrites, Wr
 use Rattle.et_spoken.specs.Writing.{TellsOtherWrites, reference_told}
 use Rattle.et_spoken.proofs.Events.{event_tells_objects as event_tells, event_writes_to_what_is_reached as event_writes_to_reached}
 use Rattle.et_spoken.proofs.Writing.{event_tells_other_writes, told_is, told_there}
-use Rattle.et_walk.proofs.Words.{if_case}
 use Rattle.et_history.specs.Histories.{picked, WholeGoesOn, whole_at, whole_picked, whole_settled_at}
 use Rattle.et_history.specs.Settings.{IsSoundRun, unended_threads}
 use Rattle.et_history.specs.Slots.{IsOfEvent, after_records, told_by}
@@ -43,6 +42,7 @@ use Rattle.et_history.specs.Whole.{beside, whole_flushed, whole_start}
 use Rattle.et_history.proofs.Alike.{is_open}
 use Rattle.et_history.proofs.Reporting.{if_known}
 use Rattle.et_history.proofs.Wholes.{Stands, go_on, keeps_at, picked_unended, reached_all, settled_match}
+use Rattle.et_sound.proofs.Outcomes.{if_case}
 
 -- RECORDS
 

@@ -31,7 +31,7 @@ use Rattle.et_spoken.proofs.Events.{event_with_texts_keeps_lists as event_keeps_
 use Rattle.et_history.proofs.FlushedLists.{flush_lined}
 use Rattle.et_walk.proofs.WaitingLists.{AreLined}
 use Rattle.et_history.proofs.Wholes.{Stands, all_match, settled_match, go_on, picked_unended, same_reached, tells}
-use Rattle.et_walk.proofs.Words.{if_case}
+use Rattle.et_sound.proofs.Outcomes.{if_case}
 
 abbrev pub Now : State → Type 0
 Now s = AreLined s.kept.heap s.reported

@@ -88,7 +88,7 @@ put_static_sound e at here makes slots initializers =
 
 -- INSTANCES AND ARRAYS
 
-class_within : (p : Linked) (name : List ℕ) (class : ℕ) → resolve_class p name ≡ Ok class → class < length p.classes
+pub class_within : (p : Linked) (name : List ℕ) (class : ℕ) → resolve_class p name ≡ Ok class → class < length p.classes
 class_within p name class e = ok_is (λ c. c < length p.classes) (class_named p name) NoClassDefFound class (class_found_within p name (class_named p name) refl) e
 
 pub new_sound : (e : Moment) (at : Site) → StandsAt e at → MakesSound e.program → HasSlots e.program → HasInitializers e.program → KeepsSound e.program (new_instance e at)
@@ -109,7 +109,7 @@ new_sound e at here makes slots initializers =
 
 -- an array of a base type over which the program has arrays
 
-base_is_array : (kind : ℕ) (e : Element) → is_base_array kind e ≡ true → is_array_element e ≡ true
+pub base_is_array : (kind : ℕ) (e : Element) → is_base_array kind e ≡ true → is_array_element e ≡ true
 base_is_array kind NoArray h = h
 base_is_array kind (Base k) h = refl
 base_is_array kind (Class c) h = refl

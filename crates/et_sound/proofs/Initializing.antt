@@ -78,7 +78,7 @@ written e c f v d has touched h kind =
       beside = static_beside e i v d;
     }
 
-any_reference : (k : Option Operand) (o : ℕ) → is_of_kind k Null ≡ true → is_of_kind k (Ref o) ≡ true
+pub any_reference : (k : Option Operand) (o : ℕ) → is_of_kind k Null ≡ true → is_of_kind k (Ref o) ≡ true
 any_reference None o h = h
 any_reference (Some operand.Int) o h = h
 any_reference (Some operand.Long) o h = h

@@ -3,6 +3,7 @@ use Rattle.std.proofs.Common.{◌≡◌, ℕ, Bool, true, false, List, [], Optio
 use Rattle.std.specs.Prelude.{if◌then◌else◌, option_and_then}
 use Rattle.std.specs.Option.{option_map_or}
 use Rattle.std.specs.Result.{result_ok}
+use Rattle.std.proofs.lemmas.Option.{none-some, same_Some}
 use Rattle.et_base.specs.declared.value.Value.{Value}
 use Rattle.et_class.specs.Descriptors.{MethodType, method_type}
 use Rattle.et_code.specs.declared.instr.Instr.{Instr}
@@ -31,23 +32,17 @@ use Rattle.et_sound.specs.Methods.{IsInstanceMethod, IsMethod}
 use Rattle.et_sound.proofs.Invoking.{as_wanted}
 use Rattle.et_sound.proofs.Resolving.{resolved_method, selected_method, selected_special}
 
-pub none_some : {A : Type 0} (a : A) → None ≡ Some a → ⊥
-none_some a e = cc
-
-pub some_same : {A : Type 0} (a b : A) → Some a ≡ Some b → a ≡ b
-some_same a b e = cc
-
 -- what a chain gives comes from what stands before it
 pub and_then_some : {A B : Type 0} (f : A → Option B) (o : Option A) (b : B) → option_and_then f o ≡ Some b → (a : A) × (o ≡ Some a) × (f a ≡ Some b)
-and_then_some f None b e = absurd (none_some b e)
+and_then_some f None b e = absurd (none-some b e)
 and_then_some f (Some a) b e = (a, refl, e)
 
 pub if_some : {A : Type 0} (c : Bool) (o : Option A) (a : A) → (if c then o else None) ≡ Some a → (c ≡ true) × (o ≡ Some a)
 if_some true o a e = (refl, e)
-if_some false o a e = absurd (none_some a e)
+if_some false o a e = absurd (none-some a e)
 
 kept_some : (test : ℕ → Bool) (o : Option ℕ) (m : ℕ) → kept test o ≡ Some m → o ≡ Some m
-kept_some test None m e = absurd (none_some m e)
+kept_some test None m e = absurd (none-some m e)
 kept_some test (Some k) m e = (if_some (test k) (Some k) m e).1
 
 -- THE CALL
@@ -75,10 +70,10 @@ record IsGiven (at : Site) (arguments : List Value) (method : Option TextMethod)
   method_is : method ≡ Some call.method
 
 given : (at : Site) (arguments : List Value) (method : Option TextMethod) (call : TextCall) → text_call_of at arguments method ≡ Some call → IsGiven at arguments method call
-given at arguments None call h = absurd (none_some call h)
+given at arguments None call h = absurd (none-some call h)
 given at arguments (Some m) call h =
     let made : TextCall = record { at = at; arguments = arguments; method = m } in
-    let same : made ≡ call = some_same made call h in
+    let same : made ≡ call = same_Some made call h in
     record { site = sym (ap (λ (c : TextCall). c.at) same); arguments_are = sym (ap (λ (c : TextCall). c.arguments) same); method_is = ap (λ (c : TextCall). Some c.method) same }
 
 abbrev passed_by : Moment → CallKind → Option MethodType → List Value
@@ -123,26 +118,26 @@ called_at e x kind call turn is row h =
     called_by e x kind call a.0 b.0 c.0 turn is row (given at (passed_at e at kind) (text_method_of p a.0) call a.2) b.1 c.1 d.0 d.1
 
 by_its_row : (e : Moment) (x : Instr × ℕ) (r : Row) (call : TextCall) → turn_of (thread_of e) ≡ Instruction → decoded_at e.program (current_frame e) ≡ Ok x → row_of x.0.opcode ≡ Some r → text_call_at e (site_of e.program (current_frame e) x) r ≡ Some call → IsTextCall e call
-by_its_row e x (Frame r) call turn is row h = absurd (none_some call h)
-by_its_row e x PoolConstant call turn is row h = absurd (none_some call h)
-by_its_row e x (Divide n o) call turn is row h = absurd (none_some call h)
-by_its_row e x (Heap r) call turn is row h = absurd (none_some call h)
+by_its_row e x (Frame r) call turn is row h = absurd (none-some call h)
+by_its_row e x PoolConstant call turn is row h = absurd (none-some call h)
+by_its_row e x (Divide n o) call turn is row h = absurd (none-some call h)
+by_its_row e x (Heap r) call turn is row h = absurd (none-some call h)
 by_its_row e x (Call (Invoke kind)) call turn is row h = called_at e x kind call turn is row h
-by_its_row e x (Call (Return kind)) call turn is row h = absurd (none_some call h)
-by_its_row e x Throw call turn is row h = absurd (none_some call h)
-by_its_row e x (Monitor r) call turn is row h = absurd (none_some call h)
+by_its_row e x (Call (Return kind)) call turn is row h = absurd (none-some call h)
+by_its_row e x Throw call turn is row h = absurd (none-some call h)
+by_its_row e x (Monitor r) call turn is row h = absurd (none-some call h)
 
 by_decoded : (e : Moment) (x : Result (Instr × ℕ) CodeFault) (call : TextCall) → turn_of (thread_of e) ≡ Instruction → decoded_at e.program (current_frame e) ≡ x → text_call_by e x ≡ Some call → IsTextCall e call
-by_decoded e (Err fault) call turn is h = absurd (none_some call h)
+by_decoded e (Err fault) call turn is h = absurd (none-some call h)
 by_decoded e (Ok x) call turn is h =
     let r = and_then_some (text_call_at e (site_of e.program (current_frame e) x)) (row_of x.0.opcode) call h in
     by_its_row e x r.0 call turn is r.1 r.2
 
 by_its_turn : (e : Moment) (turn : Turn) (call : TextCall) → turn_of (thread_of e) ≡ turn → text_call_in e turn ≡ Some call → IsTextCall e call
-by_its_turn e Unwind call is h = absurd (none_some call h)
-by_its_turn e EndThread call is h = absurd (none_some call h)
-by_its_turn e Entry call is h = absurd (none_some call h)
-by_its_turn e Initialize call is h = absurd (none_some call h)
+by_its_turn e Unwind call is h = absurd (none-some call h)
+by_its_turn e EndThread call is h = absurd (none-some call h)
+by_its_turn e Entry call is h = absurd (none-some call h)
+by_its_turn e Initialize call is h = absurd (none-some call h)
 by_its_turn e Instruction call is h = by_decoded e (decoded_at e.program (current_frame e)) call is refl h
 
 pub text_called : (p : Linked) (s : Kept) (t : ℕ) (call : TextCall) → text_call p s t ≡ Some call → IsTextCall (record { program = p; before = s; thread = t }) call
@@ -154,8 +149,8 @@ text_called p s t call h =
 -- THE METHOD that is selected is one of the name and the descriptor that the call names, and the receiver is there
 
 pub result_some : {A B : Type 0} (r : Result A B) (a : A) → result_ok r ≡ Some a → r ≡ Ok a
-result_some (Ok b) a h = ap Ok (some_same b a h)
-result_some (Err fault) a h = absurd (none_some a h)
+result_some (Ok b) a h = ap Ok (same_Some b a h)
+result_some (Err fault) a h = absurd (none-some a h)
 
 pub record IsSelected (e : Moment) (call : TextCall) (c : IsTextCall e call) : Type 0 where
   pub receiver : ℕ
@@ -174,7 +169,7 @@ on_kind e at Virtual arguments owner m o k name type is instance h =
 on_kind e at Special arguments owner m o k name type is instance h =
     let f = if_some (fits_resolved e (begins e) arguments m o) (result_ok (select_special e.program at.class (special_class e.program owner) m)) k h in
     (refl, as_named e.program m k name type is (selected_special e.program at.class (special_class e.program owner) m k is.within instance (result_some (select_special e.program at.class (special_class e.program owner) m) k f.1)))
-on_kind e at Static arguments owner m o k name type is instance h = absurd (none_some k h)
+on_kind e at Static arguments owner m o k name type is instance h = absurd (none-some k h)
 on_kind e at Interface arguments owner m o k name type is instance h =
     (refl, as_named e.program m k name type is (selected_method e.program (object_class (begins e) o) m true k is.within instance (result_some (select e.program (object_class (begins e) o) m true) k h)))
 

@@ -25,13 +25,13 @@ use Rattle.et_event.specs.Sound.{is_of_kind}
 use Rattle.et_sound.specs.Outcomes.{KeepsSound}
 use Rattle.et_sound.specs.WellFormed.{IsUnderWayAt, IsWellFormed, StandsAt}
 use Rattle.et_sound.proofs.Fields.{going, leaving_well}
-use Rattle.et_sound.proofs.Outcomes.{ends_sound, instance_well}
+use Rattle.et_sound.proofs.Outcomes.{ends_sound, instance_well, if_case}
 use Rattle.et_sound.proofs.Slots.{static_well}
 use Rattle.et_walk.proofs.Heaps.{new_held, statics_fine}
 use Rattle.et_walk.proofs.Held.{Ready, frame_fine}
 use Rattle.et_walk.proofs.Rows.{leaving_comes, operands_fine}
 use Rattle.et_walk.proofs.Values.{fine_at, frame_grows}
-use Rattle.et_walk.proofs.Words.{Still, begun, if_case, instance_still, level, top_still, written_static_still}
+use Rattle.et_walk.proofs.Words.{Still, begun, instance_still, level, top_still, written_static_still}
 use Rattle.et_walk.specs.Steps.{Begins, Ended, IsFramed, Level, Plainly, WithInstance}
 use Rattle.et_walk.specs.Values.{Fine, FineFrame}
 use Rattle.et_walk.specs.Writes.{is_out_slot}

@@ -3,6 +3,7 @@ use Rattle.std.proofs.Common.{◌≡◌, ℕ, ◌&&◌, Bool, true, Option, Some
 use Rattle.std.specs.Prelude.{option_and_then, option_map}
 use Rattle.std.specs.Result.{result_ok}
 use Rattle.std.proofs.lemmas.Bool.{and_parts, false≢true}
+use Rattle.std.proofs.lemmas.Option.{none-some, same_Some}
 use Rattle.et_class.specs.Descriptors.{is_field_descriptor}
 use Rattle.et_code.specs.declared.instr.Instr.{Instr}
 use Rattle.et_code.specs.declared.instr.CodeFault.{CodeFault}
@@ -25,7 +26,7 @@ use Rattle.et_event.specs.declared.rows.HeapRow.TheVariants as heap
 use Rattle.et_event.specs.declared.rows.Row.{Row}
 use Rattle.et_event.specs.declared.rows.Row.TheVariants.{Call, Divide, Frame, Heap, Monitor, PoolConstant, Throw}
 use Rattle.et_sound.proofs.Fields.{IsField, field_found}
-use Rattle.et_spoken.proofs.Called.{and_then_some, if_some, none_some, result_some, some_same}
+use Rattle.et_spoken.proofs.Called.{and_then_some, if_some, result_some}
 
 pub record IsOutRead (e : Moment) (x : OutRead) : Type 0 where
   pub turn : turn_of (thread_of e) ≡ Instruction
@@ -47,8 +48,8 @@ done_is Done h = refl
 done_is Failed h = absurd (false≢true h)
 
 map_some : {A B : Type 0} (f : A → B) (o : Option A) (b : B) → option_map f o ≡ Some b → (a : A) × (o ≡ Some a) × (f a ≡ b)
-map_some f None b e = absurd (none_some b e)
-map_some f (Some a) b e = (a, refl, some_same (f a) b e)
+map_some f None b e = absurd (none-some b e)
+map_some f (Some a) b e = (a, refl, same_Some (f a) b e)
 
 read_at : (e : Moment) (x : Instr × ℕ) (y : OutRead) → turn_of (thread_of e) ≡ Instruction → decoded_at e.program (current_frame e) ≡ Ok x → row_of x.0.opcode ≡ Some (Heap heap.GetStatic)
     → out_at e (site_of e.program (current_frame e) x) (Heap heap.GetStatic) ≡ Some y → IsOutRead e y
@@ -65,7 +66,7 @@ read_at e x y turn is row h =
     let t = if_some (is_static_at p b.0 && (is_out p b.0 && done)) (Some b.0) a.0 b.2 in
     let s = and_parts (is_static_at p b.0) (is_out p b.0 && done) t.0 in
     let q = and_parts (is_out p b.0) done s.1 in
-    let same : b.0 ≡ y.field = some_same b.0 a.0 t.1 ∙ ap (λ (z : OutRead). z.field) a.2 in
+    let same : b.0 ≡ y.field = same_Some b.0 a.0 t.1 ∙ ap (λ (z : OutRead). z.field) a.2 in
     record {
       turn = turn;
       decoded = x;
@@ -82,39 +83,39 @@ read_at e x y turn is row h =
 
 by_heap_row : (e : Moment) (x : Instr × ℕ) (r : HeapRow) (y : OutRead) → turn_of (thread_of e) ≡ Instruction → decoded_at e.program (current_frame e) ≡ Ok x → row_of x.0.opcode ≡ Some (Heap r) → out_at e (site_of e.program (current_frame e) x) (Heap r) ≡ Some y → IsOutRead e y
 by_heap_row e x heap.GetStatic y turn is row h = read_at e x y turn is row h
-by_heap_row e x heap.PutStatic y turn is row h = absurd (none_some y h)
-by_heap_row e x heap.GetField y turn is row h = absurd (none_some y h)
-by_heap_row e x heap.PutField y turn is row h = absurd (none_some y h)
-by_heap_row e x (heap.LoadElement kind) y turn is row h = absurd (none_some y h)
-by_heap_row e x (heap.StoreElement kind) y turn is row h = absurd (none_some y h)
-by_heap_row e x heap.New y turn is row h = absurd (none_some y h)
-by_heap_row e x heap.NewArray y turn is row h = absurd (none_some y h)
-by_heap_row e x heap.NewReferenceArray y turn is row h = absurd (none_some y h)
-by_heap_row e x heap.NewMultiArray y turn is row h = absurd (none_some y h)
-by_heap_row e x heap.ArrayLength y turn is row h = absurd (none_some y h)
-by_heap_row e x heap.CheckCast y turn is row h = absurd (none_some y h)
-by_heap_row e x heap.InstanceOf y turn is row h = absurd (none_some y h)
+by_heap_row e x heap.PutStatic y turn is row h = absurd (none-some y h)
+by_heap_row e x heap.GetField y turn is row h = absurd (none-some y h)
+by_heap_row e x heap.PutField y turn is row h = absurd (none-some y h)
+by_heap_row e x (heap.LoadElement kind) y turn is row h = absurd (none-some y h)
+by_heap_row e x (heap.StoreElement kind) y turn is row h = absurd (none-some y h)
+by_heap_row e x heap.New y turn is row h = absurd (none-some y h)
+by_heap_row e x heap.NewArray y turn is row h = absurd (none-some y h)
+by_heap_row e x heap.NewReferenceArray y turn is row h = absurd (none-some y h)
+by_heap_row e x heap.NewMultiArray y turn is row h = absurd (none-some y h)
+by_heap_row e x heap.ArrayLength y turn is row h = absurd (none-some y h)
+by_heap_row e x heap.CheckCast y turn is row h = absurd (none-some y h)
+by_heap_row e x heap.InstanceOf y turn is row h = absurd (none-some y h)
 
 by_its_row : (e : Moment) (x : Instr × ℕ) (r : Row) (y : OutRead) → turn_of (thread_of e) ≡ Instruction → decoded_at e.program (current_frame e) ≡ Ok x → row_of x.0.opcode ≡ Some r → out_at e (site_of e.program (current_frame e) x) r ≡ Some y → IsOutRead e y
-by_its_row e x (Frame r) y turn is row h = absurd (none_some y h)
-by_its_row e x PoolConstant y turn is row h = absurd (none_some y h)
-by_its_row e x (Divide n o) y turn is row h = absurd (none_some y h)
+by_its_row e x (Frame r) y turn is row h = absurd (none-some y h)
+by_its_row e x PoolConstant y turn is row h = absurd (none-some y h)
+by_its_row e x (Divide n o) y turn is row h = absurd (none-some y h)
 by_its_row e x (Heap r) y turn is row h = by_heap_row e x r y turn is row h
-by_its_row e x (Call r) y turn is row h = absurd (none_some y h)
-by_its_row e x Throw y turn is row h = absurd (none_some y h)
-by_its_row e x (Monitor r) y turn is row h = absurd (none_some y h)
+by_its_row e x (Call r) y turn is row h = absurd (none-some y h)
+by_its_row e x Throw y turn is row h = absurd (none-some y h)
+by_its_row e x (Monitor r) y turn is row h = absurd (none-some y h)
 
 by_decoded : (e : Moment) (x : Result (Instr × ℕ) CodeFault) (y : OutRead) → turn_of (thread_of e) ≡ Instruction → decoded_at e.program (current_frame e) ≡ x → out_by e x ≡ Some y → IsOutRead e y
-by_decoded e (Err fault) y turn is h = absurd (none_some y h)
+by_decoded e (Err fault) y turn is h = absurd (none-some y h)
 by_decoded e (Ok x) y turn is h =
     let r = and_then_some (out_at e (site_of e.program (current_frame e) x)) (row_of x.0.opcode) y h in
     by_its_row e x r.0 y turn is r.1 r.2
 
 by_its_turn : (e : Moment) (turn : Turn) (y : OutRead) → turn_of (thread_of e) ≡ turn → out_in e turn ≡ Some y → IsOutRead e y
-by_its_turn e Unwind y is h = absurd (none_some y h)
-by_its_turn e EndThread y is h = absurd (none_some y h)
-by_its_turn e Entry y is h = absurd (none_some y h)
-by_its_turn e Initialize y is h = absurd (none_some y h)
+by_its_turn e Unwind y is h = absurd (none-some y h)
+by_its_turn e EndThread y is h = absurd (none-some y h)
+by_its_turn e Entry y is h = absurd (none-some y h)
+by_its_turn e Initialize y is h = absurd (none-some y h)
 by_its_turn e Instruction y is h = by_decoded e (decoded_at e.program (current_frame e)) y is refl h
 
 pub out_found : (p : Linked) (s : Kept) (t : ℕ) (y : OutRead) → out_turn p s t ≡ Some y → IsOutRead (record { program = p; before = s; thread = t }) y

@@ -35,9 +35,9 @@ use Rattle.et_walk.proofs.Held.{Ready}
 use Rattle.et_walk.proofs.Records.{newest_at}
 use Rattle.et_walk.proofs.Rows.{operands_fine}
 use Rattle.et_walk.proofs.Values.{fines_drop}
-use Rattle.et_walk.proofs.Words.{if_case}
 use Rattle.et_walk.specs.Steps.{Begins, Ended, IsFramed, Level, Plainly, WithError, WithInstance}
 use Rattle.et_walk.specs.Values.{Fines}
+use Rattle.et_sound.proofs.Outcomes.{if_case}
 
 -- THE TEXTS after a row: as they were, or one object was given one
 

@@ -6,6 +6,7 @@ use Rattle.std.specs.List.{list_all}
 use Rattle.std.specs.Str.{bytes_eq}
 use Rattle.std.proofs.lemmas.Bool.{and_parts, false≢true}
 use Rattle.std.proofs.lemmas.Slice.Eq.{bytes_eq-Decides}
+use Rattle.std.proofs.lemmas.Option.{same_Some}
 use Rattle.et_base.specs.declared.value.Value.{Value}
 use Rattle.et_base.specs.declared.value.Value.TheVariants.{Unset, Int, Long, LongHigh, Null, Ref}
 use Rattle.et_class.specs.Descriptors.{MethodType, method_type, types_of, after_dimensions, after_name}
@@ -50,9 +51,6 @@ described_by b descriptor type e is = (bytes_eq-Decides descriptor type).0 (subs
 none_some : (b : BuiltIn) (o : Option BuiltIn) → o ≡ None → o ≡ Some b → ⊥
 none_some b o none some = cc
 
-same_some : (a b : BuiltIn) → Some a ≡ Some b → a ≡ b
-same_some a b e = cc
-
 module _ (m : MethodInfo) (b : BuiltIn) (type : List ℕ) (is : type_of b ≡ Some type) where
   abbrev third : List ℕ × List ℕ × BuiltIn → BuiltIn
   third row = row.2
@@ -68,7 +66,7 @@ module _ (m : MethodInfo) (b : BuiltIn) (type : List ℕ) (is : type_of b ≡ So
           → (option_map third (find (is_called m.name m.descriptor) rows) ≡ Some b → m.descriptor ≡ type) → m.descriptor ≡ type
       by true called q more =
           sym ((bytes_eq-Decides row.1 m.descriptor).0 (and_parts (bytes_eq row.0 m.name) (bytes_eq row.1 m.descriptor) called).1)
-          ∙ described_by row.2 row.1 type parts.0 (ap (λ (k : BuiltIn). type_of k) (same_some row.2 b q) ∙ is)
+          ∙ described_by row.2 row.1 type parts.0 (ap (λ (k : BuiltIn). type_of k) (same_Some row.2 b q) ∙ is)
       by false called q more = more q
 
   described : built_in_of m ≡ Some b → m.descriptor ≡ type
@@ -110,13 +108,10 @@ pub record IsPassed (m : MethodInfo) (arguments : List Value) : Type 0 where
   pub typed : method_type m.descriptor ≡ Some type
   pub passed : are_arguments false type arguments ≡ true
 
-same_type : (a b : MethodType) → Some a ≡ Some b → a ≡ b
-same_type a b e = cc
-
 -- .. of this descriptor
 typed_so : (m : MethodInfo) (arguments : List Value) (descriptor : List ℕ) (type : MethodType) → IsPassed m arguments → m.descriptor ≡ descriptor → method_type descriptor ≡ Some type → are_arguments false type arguments ≡ true
 typed_so m arguments descriptor type h is typed =
-    subst (λ (t : MethodType). are_arguments false t arguments ≡ true) (same_type h.type type (sym h.typed ∙ (ap method_type is ∙ typed))) h.passed
+    subst (λ (t : MethodType). are_arguments false t arguments ≡ true) (same_Some h.type type (sym h.typed ∙ (ap method_type is ∙ typed))) h.passed
 
 abbrev message_typed : MethodType
 message_typed = record { parameters = codes "Ljava/lang/String;" ∷ []; returned = codes "V" }

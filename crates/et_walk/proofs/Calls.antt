@@ -36,6 +36,7 @@ use Rattle.et_program.specs.declared.info.MethodInfo.{MethodInfo}
 use Rattle.et_sound.proofs.Invoking.{as_wanted}
 use Rattle.et_sound.proofs.Resolving.{resolved_method, selected_method, selected_special}
 use Rattle.et_sound.specs.Methods.{IsInstanceMethod, IsMethod}
+use Rattle.et_sound.proofs.Outcomes.{if_case}
 use Rattle.et_state.specs.Outcome.{Outcome}
 use Rattle.et_state.specs.State.{Kept}
 use Rattle.et_state.specs.Threads.{FrameState, in_clinit, most_threads, thread_with, with_pending, with_top_of}
@@ -54,7 +55,6 @@ use Rattle.et_walk.proofs.Rows.{later_fine, object_sound, on_top, operands_fine}
 use Rattle.et_walk.proofs.Taken.{any_value, fine_entries, fine_read, fine_value}
 use Rattle.et_walk.proofs.Values.{fine_at, fine_grows, fines_append, fines_drop, fines_reverse, fines_take, fines_unset}
 use Rattle.et_walk.proofs.Ways.{end_leads, ends_lead, initialized_leads, prepared_comes, throws_lead, unless_ill_typed, unless_thrown, unless_waiting, where_frame_fits, where_not_null, where_resolved}
-use Rattle.et_walk.proofs.Words.{if_case}
 use Rattle.et_walk.specs.Steps.{AllThere, Begins, Catches, ClassBecomes, Comes, CountsEntered, Drops, Ended, EntersClinit, EntersCode, IsFramed, IsMethodOf, IsReference, IsUnder, Leads, Level, MayWrite, Plainly, Polls, Returns, SetsQueue, SetsReferent, Shifted, Starts, StringsAlone, Unwinds, UnwindsClinit, WithCause, WritesSlot, own_lock}
 use Rattle.et_walk.specs.Values.{Fine, FineFrame, FineSome, FineThread, Fines}
 use Rattle.std.proofs.Common.{List, None, Option, Some, [], ap, arith, drop, false, inl, length, refl, sym, take, true, ℕ, ◌++◌, ◌+◌, ◌-◌, ◌<◌, ◌==◌, ◌∙◌, ◌∷◌, ◌≡◌, ◌≤◌}

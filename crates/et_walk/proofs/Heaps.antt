@@ -7,6 +7,7 @@ use Rattle.std.proofs.lemmas.List.Elements.{Contains-append_left, Contains-appen
 use Rattle.et_base.specs.declared.value.Value.{Value}
 use Rattle.et_heap.specs.Objects.{ObjectState, Objects, IsHeld, is_there, at, found, object_at, with_object_at, free_monitor, new_object, with_queue}
 use Rattle.std.specs.Option.{option_to_list}
+use Rattle.std.proofs.lemmas.Option.{none-some}
 use Rattle.et_heap.specs.Refs.{refs_of, targets_of, leads_to}
 use Rattle.et_heap.proofs.HeapLists.{pair_at, at_pair, held_within, held_set, set_held, held_push, pairs_push}
 use Rattle.et_state.specs.ThreadRoots.{thread_roots}
@@ -202,9 +203,6 @@ first_none : (xs : Objects) (y : ObjectState) → 0 < length xs → (IsHeld xs 0
 first_none [] y lt out h = absurd (omega arith)
 first_none (x ∷ xs) y lt out h = out h
 
-none_some : (o : ℕ) → None ≡ Some o → ⊥
-none_some o e = cc
-
 pub made_sound : (s : Kept) (class elements slots : ℕ) → IsSound s → IsSound (record { heap = s.heap ++ Some (new_object class elements slots) ∷ []; guest = s.guest })
 made_sound s class elements slots sound =
     let y : ObjectState = new_object class elements slots in
@@ -217,7 +215,7 @@ made_sound s class elements slots sound =
       slots = λ u o c. held_push s.heap y o (sound.slots u o (subst (λ (ps : List (ℕ × ℕ)). Contains ps (u, o)) (pairs_push s.heap y (leads-new class elements slots)) c));
       referents = λ u o e. held_push s.heap y o (elim (at_push s.heap y u) [
         | inl f ↦ sound.referents u o (subst (λ (x : Option ObjectState). (found x).referent ≡ Some o) f e)
-        | inr f ↦ absurd (none_some o (subst (λ (x : Option ObjectState). (found x).referent ≡ Some o) f.1 e))
+        | inr f ↦ absurd (none-some o (subst (λ (x : Option ObjectState). (found x).referent ≡ Some o) f.1 e))
       ]);
     }
 

@@ -24,13 +24,13 @@ use Rattle.et_state.specs.declared.stage.Stage.{Stage}
 use Rattle.et_state.specs.declared.stage.Stage.TheVariants.{Before, Clinit, Plain}
 use Rattle.et_walk.proofs.Heaps.{fine_thread}
 use Rattle.et_walk.proofs.Values.{fines_append, fines_unset, frame_grows, first_fine as frame_first}
-use Rattle.et_walk.proofs.Words.{if_case}
 use Rattle.et_walk.specs.Steps.{AllThere, own_lock}
 use Rattle.et_walk.specs.Values.{Fine, FineFrame, FineFrames, FineSome, FineThread, Fines, Grows}
 use Rattle.std.proofs.Common.{Bool, List, None, Option, Some, [], ap, arith, false, get_or, inl, inr, length, refl, replicate, suc, true, zero, ℕ, ◌-◌, ◌<◌, ◌∷◌, ◌≡◌, ◌≤◌}
 use Rattle.std.proofs.lemmas.Bool.{cases_lt, false≢true, true≢false}
 use Rattle.std.specs.Prelude.{if◌then◌else◌, option_map, unwrap_or}
 use Rattle.et_event.specs.PoolOperands.Operand.TheVariants as operand
+use Rattle.et_sound.proofs.Outcomes.{if_case}
 
 -- what is known of the moment: the state is sound, and the thread was started and has not ended
 pub record Knows (e : Moment) : Type 0 where

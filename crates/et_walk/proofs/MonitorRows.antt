@@ -39,9 +39,10 @@ use Rattle.et_walk.proofs.MonitorFrames.{Does, Fits, Moved, moved_by, pushed_loc
 use Rattle.et_walk.proofs.SaysMonitors.{by_monitors, by_steps}
 use Rattle.et_walk.proofs.Turns.{event_leads}
 use Rattle.et_walk.proofs.WaitingLists.{KeepLists}
-use Rattle.et_walk.proofs.Words.{Still, level, if_case, begun, thread_now, top_still, instance_still, pending_still, given_up_still}
+use Rattle.et_walk.proofs.Words.{Still, level, begun, thread_now, top_still, instance_still, pending_still, given_up_still}
 use Rattle.et_event.specs.Runnable.{IsRunnable}
 use Rattle.et_sound.proofs.Turning.{parts, some_frame}
+use Rattle.et_sound.proofs.Outcomes.{if_case}
 use Rattle.et_state.specs.Outcome as outcome
 use Rattle.et_event.specs.declared.errors.GuestError.TheVariants as errors
 use Rattle.et_event.specs.declared.rows.MonitorRow.TheVariants as monitor

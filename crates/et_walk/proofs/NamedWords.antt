@@ -1,13 +1,12 @@
 -- What the words of an event tell: each takes what was told so far on.
 use Rattle.et_walk.specs.Steps.{IsMethodOf}
-use Rattle.et_walk.proofs.Words.{if_case}
 use Rattle.et_state.specs.declared.stage.Stage.{Stage}
 use Rattle.et_state.specs.declared.stage.Stage.TheVariants.{Plain, Before, Clinit}
 use Rattle.et_event.specs.Calls.{class_done_by}
 use Rattle.et_event.specs.Throw.{dropped, left_if_owned}
 use Rattle.et_event.specs.Monitors.{owns, Lock, OfObject, OfClass, entered, left, entered_some, left_some}
-use Rattle.et_state.specs.Threads.{without_top, FrameState, ThreadState, has_frame, as_entered}
-use Rattle.et_event.specs.BuiltIns.{with_queue_of, with_referent_of, with_reference_made, with_first_taken}
+use Rattle.et_state.specs.Threads.{without_top, FrameState, ThreadState}
+use Rattle.et_event.specs.BuiltIns.{with_queue_of, with_referent_of, with_first_taken}
 use Rattle.std.proofs.Common.{◌≡◌, ℕ, ◌+◌, ◌<◌, List, [], ◌∷◌, length, Option, Some, None, refl, ◌∙◌}
 use Rattle.std.specs.Prelude.{All, codes, is_some}
 use Rattle.std.proofs.lemmas.List.Elements.{All-nil, All-cons, All-append}
@@ -25,9 +24,10 @@ use Rattle.et_state.specs.declared.records.Record.TheVariants.{Alloc, Update, En
 use Rattle.et_state.specs.Naming.{IsNamed}
 use Rattle.et_event.specs.Errors.{class_called}
 use Rattle.et_event.specs.Initialization.{with_state}
-use Rattle.et_event.specs.Moments.{Moment, Doing, begins, doing_with_guest, with_thread_state, with_frame, told, next_object, instance_made, array_made, updated, slot_written, static_written, pending_now, entry_given_up}
+use Rattle.et_event.specs.Moments.{Moment, Doing, begins, doing_with_guest, with_thread_state, with_frame, told, next_object, instance_made, array_made, updated, slot_written, static_written, pending_now}
 use Rattle.et_event.specs.Strings.{interned}
 use Rattle.et_walk.specs.Telling.{names_of_program}
+use Rattle.et_sound.proofs.Outcomes.{if_case}
 
 -- so far the clock is one on, and what the records name is of the program
 pub record Tells (e : Moment) (d : Doing) : Type 0 where
@@ -113,9 +113,6 @@ static_told e i v d h = updated_told e 0 i (static_at d.state.guest i) v (doing_
 pub referent_told : (e : Moment) (o : ℕ) (r : Option ℕ) (d : Doing) → Tells e d → Tells e (with_referent_of o r d)
 referent_told e o r d h = record { clock = h.clock; records = h.records }
 
-pub reference_told : (e : Moment) (o : ℕ) (r q : Option ℕ) (d : Doing) → Tells e d → Tells e (with_reference_made o r q d)
-reference_told e o r q d h = record { clock = h.clock; records = h.records }
-
 pub first_taken_told : (e : Moment) (q : ℕ) (d : Doing) → Tells e d → Tells e (with_first_taken q d)
 first_taken_told e q d h = record { clock = h.clock; records = h.records }
 
@@ -147,11 +144,6 @@ left_some_told e (Some lock) d h = left_told e lock d h
 
 pub pending_told : (e : Moment) (o : ℕ) (d : Doing) → Tells e d → Tells e (pending_now e o d)
 pending_told e o d h = thread_told e _ d h
-
-pub given_up_told : (e : Moment) (d : Doing) → Tells e d → Tells e (entry_given_up e d)
-given_up_told e d h =
-    if_case (Tells e) (has_frame (thread_at d.state.guest e.thread).frames) d (with_thread_state e (as_entered (thread_at d.state.guest e.thread)) d) h
-    (thread_told e (as_entered (thread_at d.state.guest e.thread)) d h)
 
 -- FRAMES
 

@@ -12,7 +12,7 @@ use Rattle.et_program.specs.declared.info.Element.TheVariants.{NoArray, Base, Cl
 use Rattle.et_heap.specs.declared.monitor.Monitor.{Monitor}
 use Rattle.et_heap.specs.Objects.{ObjectState, Objects, IsHeld, found, new_object, object_at, slot_of, with_slot, with_referent, with_monitor, with_object_at, with_queue}
 use Rattle.et_heap.proofs.HeapLists.{held_within, held_push, held_set}
-use Rattle.et_state.specs.Threads.{FrameState, ThreadState, new_thread, has_frame, with_top_of, as_entered, with_pending}
+use Rattle.et_state.specs.Threads.{FrameState, ThreadState, new_thread, with_top_of, as_entered, with_pending}
 use Rattle.et_state.specs.declared.class_state.ClassState.{ClassState}
 use Rattle.et_state.specs.declared.records.Record.{Record}
 use Rattle.et_state.specs.declared.records.Record.TheVariants.{Alloc, Update}
@@ -21,11 +21,11 @@ use Rattle.et_state.specs.Sound.{IsSound}
 use Rattle.et_state.specs.State.{GuestState, Kept}
 use Rattle.et_state.specs.Words.{thread_at, with_thread, with_new_thread, static_at, with_static, with_string, with_class_state, with_class_monitor}
 use Rattle.et_state.proofs.Places.{string_root}
-use Rattle.et_event.specs.BuiltIns.{with_referent_of, with_thread_for, with_queue_of, with_reference_made, with_first_taken}
+use Rattle.et_event.specs.BuiltIns.{with_referent_of, with_thread_for, with_queue_of, with_first_taken}
 use Rattle.et_event.specs.Errors.{class_called}
 use Rattle.et_event.specs.Initialization.{with_state}
 use Rattle.et_event.specs.Kinds.{is_array_element}
-use Rattle.et_event.specs.Moments.{Moment, Doing, begins, told, doing_with_guest, with_thread_state, with_frame, next_object, object_added, instance_made, array_made, array_size, element_width, number_of_value, updated, slot_written, static_written, pending_now, entry_given_up}
+use Rattle.et_event.specs.Moments.{Moment, Doing, begins, told, doing_with_guest, with_thread_state, with_frame, next_object, object_added, instance_made, array_made, array_size, element_width, number_of_value, updated, slot_written, static_written, pending_now}
 use Rattle.et_event.specs.Monitors.{Lock, OfObject, OfClass, with_monitor_of}
 use Rattle.et_event.specs.Strings.{interned, string_object}
 use Rattle.et_walk.specs.Records.{size_by, size_of, IsAlike, IsMadeBefore, IsMadeBeforeOrNone, IsUpdated, next_after, IsAllocationOf, IsRecordOf, AreRecordsOf, HasPlainStrings, Steady}
@@ -33,10 +33,11 @@ use Rattle.et_walk.proofs.Values.{fine_grows, fine_at, fines_set, rest_fine}
 use Rattle.et_walk.specs.Steps.{HasSlot}
 use Rattle.et_walk.specs.Values.{Fine, Fines, FineSome, FineFrame, FineThread, Grows}
 use Rattle.et_walk.proofs.Heaps.{sound_guest, fine_thread, thread_sound, new_thread_sound, string_sound, static_sound, statics_fine, slots_fine, referent_fine, object_sound, made_sound, new_held, AreRestHeld, rest_held, rest_with_queue, rest_without_first}
-use Rattle.et_walk.proofs.Words.{if_case, object_in, object_pushed, updated_same}
+use Rattle.et_walk.proofs.Words.{object_in, object_pushed}
 use Rattle.et_walk.proofs.Records.{steady_itself, steady_then, steady_set, steady_push, newest_at, records_grow, records_more}
 use Rattle.et_heap.specs.Queues.{with_waits, without_first_waiting, take_first}
 use Rattle.et_state.proofs.UnderWay.{waiting_pair}
+use Rattle.et_sound.proofs.Slots.{updated_state}
 
 -- an event has come to this state with these records
 pub record Tells (e : Moment) (s : Kept) (rs : List Record) : Type 0 where
@@ -125,16 +126,6 @@ pub queue_told : (e : Moment) (o : ℕ) (q : Option ℕ) (d : Doing) → Told e 
 queue_told e o q d h held fine =
     object_told e o (with_queue q (object_at d.state.heap o)) d h held (record { class = refl; elements = refl; slots = refl }) (slots_fine d.state o h.sound) (referent_fine d.state o h.sound) (rest_with_queue d.state o q h.sound fine)
 
-some_held : (h : Objects) (o : ℕ) (y : ObjectState) → IsHeld h o → (q : Option ℕ) → FineSome h q → FineSome (with_object_at h o y) q
-some_held h o y held None fine = tt
-some_held h o y held (Some z) fine = held_set h o y z held fine
-
--- a weak reference is made
-pub reference_told : (e : Moment) (o : ℕ) (r q : Option ℕ) (d : Doing) → Told e d → IsHeld d.state.heap o → FineSome d.state.heap r → FineSome d.state.heap q → Told e (with_reference_made o r q d)
-reference_told e o r q d h held fine queue =
-    let y : ObjectState = with_referent r (object_at d.state.heap o) in
-    queue_told e o q (with_referent_of o r d) (referent_told e o r d h held fine) (held_set d.state.heap o y o held held) (some_held d.state.heap o y held q queue)
-
 taken_told : (e : Moment) (q : ℕ) (ws : List ℕ) (d : Doing) → (object_at d.state.heap q).waiting ≡ ws → Told e d → IsHeld d.state.heap q → Told e (record { state = record { heap = take_first ws q d.state.heap; guest = d.state.guest }; records = d.records })
 taken_told e q [] d is h held = record { sound = h.sound; clock = h.clock; thread = h.thread; steady = h.steady; records = h.records }
 taken_told e q (r ∷ ws) d is h held =
@@ -205,7 +196,7 @@ pub slot_steady : (e : Moment) (o i : ℕ) (v : Value) (d : Doing) → IsHeld d.
 slot_steady e o i v d held =
     let x : ObjectState = object_at d.state.heap o in
     let next : Doing = record { state = record { heap = with_object_at d.state.heap o (with_slot i v x); guest = d.state.guest }; records = d.records } in
-    subst (λ (s : Kept). Steady d.state.heap s.heap) (sym (updated_same e o i (slot_of x i) v next)) (with_slot_steady d.state.heap o i v held)
+    subst (λ (s : Kept). Steady d.state.heap s.heap) (sym (updated_state e o i (slot_of x i) v next)) (with_slot_steady d.state.heap o i v held)
 
 pub slot_told : (e : Moment) (o i : ℕ) (v : Value) (d : Doing) → Told e d → IsHeld d.state.heap o → HasSlot d.state.heap o i → Fine d.state.heap v → Told e (slot_written e o i v d)
 slot_told e o i v d h held has fine =
@@ -322,7 +313,3 @@ as_entered_told e d h =
     let x : ThreadState = thread_at d.state.guest e.thread in
     let was : FineThread d.state.heap x = told_thread e d h in
     thread_told e (as_entered x) d h (record { frames = was.frames; pending = was.pending; entry = λ u. tt; object = was.object })
-
-pub given_up_told : (e : Moment) (d : Doing) → Told e d → Told e (entry_given_up e d)
-given_up_told e d h =
-    if_case (λ (x : Doing). Told e x) (has_frame (thread_at d.state.guest e.thread).frames) d (with_thread_state e (as_entered (thread_at d.state.guest e.thread)) d) h (as_entered_told e d h)

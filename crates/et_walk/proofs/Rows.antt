@@ -23,19 +23,19 @@ use Rattle.et_event.specs.declared.rows.MonitorRow.{MonitorRow}
 use Rattle.et_event.specs.declared.rows.Number.{Number}
 use Rattle.et_graph.specs.Graph.{IsReached}
 use Rattle.et_state.specs.Roots.{graph_of}
-use Rattle.et_heap.specs.Objects.{IsHeld, ObjectState, Objects, at, found, is_there, object_at, slot_of}
+use Rattle.et_heap.specs.Objects.{IsHeld, at, found, object_at, slot_of}
 use Rattle.et_pool.specs.Descriptors.{is_field_descriptor}
-use Rattle.et_program.proofs.PlaceLemmas.{class_found_within}
 use Rattle.et_program.specs.Entries.{Linked, class_at, field_at}
-use Rattle.et_program.specs.Members.{base_array, class_named, is_subclass}
+use Rattle.et_program.specs.Members.{base_array, is_subclass}
 use Rattle.et_program.specs.Resolution.{resolve_class, resolve_field}
 use Rattle.et_program.specs.Types.{passes}
-use Rattle.et_program.specs.declared.errors.LinkError.TheVariants.{NoClassDefFound}
 use Rattle.et_program.specs.declared.info.Element.{Element}
 use Rattle.et_program.specs.declared.info.Element.TheVariants.{Base, Class, NoArray}
 use Rattle.et_sound.proofs.Arrays.{length-naturals}
-use Rattle.et_sound.proofs.Fields.{IsField, field_found, kind_of_one, ok_is}
+use Rattle.et_sound.proofs.Fields.{IsField, field_found, kind_of_one}
 use Rattle.et_sound.proofs.Values.{element_kind, narrowed_kind}
+use Rattle.et_sound.proofs.Objects.{found_there}
+use Rattle.et_sound.proofs.Classes.{class_within}
 use Rattle.et_state.specs.Outcome.{Outcome}
 use Rattle.et_state.specs.State.{Kept}
 use Rattle.et_state.specs.Threads.{FrameState, as_ended}
@@ -70,17 +70,6 @@ pub record MakesArrays (p : Linked) (at : Site) (r : HeapRow) : Type 0 where
   pub base : r ≡ row.NewArray → IsArrayClass p (unwrap_or (base_array p (natural_of at.instr.first)) 0)
   pub single : r ≡ row.NewReferenceArray → (name : List ℕ) (class : ℕ) → class_operand at ≡ Some name → resolve_class p name ≡ Ok class → IsArrayClass p (unwrap_or (class_at p class).array 0)
   pub multi : r ≡ row.NewMultiArray → (name : List ℕ) (class : ℕ) → class_operand at ≡ Some name → resolve_class p name ≡ Ok class → (0 < natural_of at.instr.second) × HasDimensions p (natural_of at.instr.second) class
-
-class_within : (p : Linked) (name : List ℕ) (class : ℕ) → resolve_class p name ≡ Ok class → class < length p.classes
-class_within p name class e = ok_is (λ c. c < length p.classes) (class_named p name) NoClassDefFound class (class_found_within p name (class_named p name) refl) e
-
--- the object that is held
-found_at : (h : Objects) (o : ℕ) → IsHeld h o → at h o ≡ Some (object_at h o)
-found_at h o held = by (at h o) held
-  where
-    by : (x : Option ObjectState) → is_there x → x ≡ Some (found x)
-    by None there = absurd there
-    by (Some x) there = refl
 
 -- an array has a slot for each element
 no_elements : (kind : Elements) → are_elements kind NoArray ≡ true → ⊥
@@ -218,7 +207,7 @@ module _ (e : Moment) (ready : Ready e) (framed : IsFramed e) where
 
   -- the object of a field has its slot
   pub object_sound : (o : ℕ) → IsHeld e.before.heap o → IsSoundObject e.program (object_at e.before.heap o)
-  object_sound o there = (ready.knows.sound.objects o (object_at e.before.heap o) (found_at e.before.heap o there)).0
+  object_sound o there = (ready.knows.sound.objects o (object_at e.before.heap o) (found_there e.before.heap o there)).0
 
   field_there : (o k : ℕ) → IsHeld e.before.heap o → k < length e.program.fields → is_static_at e.program k ≡ false → is_subclass e.program (object_at e.before.heap o).class (field_at e.program k).class ≡ true
       → HasField e.program (object_at e.before.heap o) k

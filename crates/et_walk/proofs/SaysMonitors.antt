@@ -11,6 +11,8 @@ use Rattle.et_event.specs.Throw.{dropped, handled, left_if_owned}
 use Rattle.et_heap.specs.Objects.{IsHeld, ObjectState, at, object_at, slot_of, with_object_at, with_slot}
 use Rattle.et_program.specs.Entries.{Linked, method_at}
 use Rattle.et_sound.specs.WellFormed.{IsThere}
+use Rattle.et_sound.proofs.Slots.{updated_state}
+use Rattle.et_sound.proofs.Frames.{length-resumed}
 use Rattle.et_state.specs.Outcome.{Outcome}
 use Rattle.et_state.specs.State.{Kept}
 use Rattle.et_state.specs.Threads.{FrameState, ThreadState, as_ended, entered_by, in_clinit, rest_of, turn_of, with_pending, with_top_of}
@@ -19,10 +21,10 @@ use Rattle.et_state.specs.declared.class_state.ClassState.{ClassState}
 use Rattle.et_state.specs.declared.stage.Stage.{Stage}
 use Rattle.et_walk.proofs.Folding.{MadeOf, comes_so}
 use Rattle.et_walk.proofs.Held.{Ready, frame_fine, frames_grow, method_frame_fine, returned_fine, thread_fine}
-use Rattle.et_walk.proofs.MonitorFrames.{Does, Fits, all_there, beyond_none, beyond_one, done_still, dropped_lock, dropped_still, entered_some_still, fits_by, frames_are, left_if_still, left_some_still, level_fits, may_go, moved_by, pushed_lock, rest_shorter, returned_length, same_lock}
+use Rattle.et_walk.proofs.MonitorFrames.{Does, Fits, all_there, beyond_none, beyond_one, done_still, dropped_lock, dropped_still, entered_some_still, fits_by, frames_are, left_if_still, left_some_still, level_fits, may_go, moved_by, pushed_lock, rest_shorter, same_lock}
 use Rattle.et_walk.proofs.Monitors.{way}
 use Rattle.et_walk.proofs.Values.{frame_grows, rest_fine, some_grows}
-use Rattle.et_walk.proofs.Words.{Still, Way, array_still, as_entered_still, begun, counted, first_taken_still, instance_still, interned_still, level, pending_still, queue_still, referent_still, slot_still, started_still, state_still, still_thread, thread_now, thread_still, top_still, updated_same, written_static_still}
+use Rattle.et_walk.proofs.Words.{Still, Way, array_still, as_entered_still, begun, counted, first_taken_still, instance_still, interned_still, level, pending_still, queue_still, referent_still, slot_still, started_still, state_still, still_thread, thread_now, thread_still, top_still, written_static_still}
 use Rattle.et_walk.specs.Holding.{lock_beyond, monitor_row_at}
 use Rattle.et_walk.specs.Steps.{AllObjects, AllThere, Begins, BeginsClass, Catches, ClassBecomes, Comes, CountsEntered, Drops, Ends, EntersClinit, EntersCode, EntersMonitor, GoesOn, Interns, IsFramed, IsUnder, Leads, LeavesMonitor, Level, Locked, MakesArray, MakesInstance, MayWrite, Pends, Phase, Polls, Returns, SetsQueue, SetsReferent, Shifted, Starts, Unwinds, UnwindsClinit, WritesSlot, WritesStatic, own_lock}
 use Rattle.et_walk.specs.Values.{FineFrame, FineThread, Fines, Grows}
@@ -119,7 +121,7 @@ module _ (e : Moment) (ready : Ready e) (none : monitor_row_at e (turn_of (threa
         entry = λ u. some_grows e.before.heap x.state.heap (thread_of e).entry grown (was.entry u);
         object = λ u. some_grows e.before.heap x.state.heap (thread_of e).object grown (was.object u);
       } in
-      dropped_shifts e (length fs) lock (frame_returned e values (begins e)).state framed (thread_still e t x.state h now) (returned_length p stage values below) refl (all_there e lock has)
+      dropped_shifts e (length fs) lock (frame_returned e values (begins e)).state framed (thread_still e t x.state h now) (length-resumed p stage values below) refl (all_there e lock has)
 
   unwound_shifts : IsFramed e → AllThere e (own_lock e) → Shifts e (dropped e (left_if_owned e (own_lock e) (begins e))).state
   unwound_shifts framed has =
@@ -174,7 +176,7 @@ module _ (e : Moment) (ready : Ready e) (none : monitor_row_at e (turn_of (threa
       let x : ObjectState = object_at d.state.heap o in
       let next : Doing = record { state = record { heap = with_object_at d.state.heap o (with_slot i v x); guest = d.state.guest }; records = d.records } in
       shifts_on e d.state (slot_written e o i v d).state h (λ w g. let m : MayWrite d.state.heap o i v = a (under e d g) in slot_still e o i v d g m.held m.value)
-      (ap (λ (z : Kept). (thread_at z.guest e.thread).frames) (updated_same e o i (slot_of x i) v next))
+      (ap (λ (z : Kept). (thread_at z.guest e.thread).frames) (updated_state e o i (slot_of x i) v next))
   slot_good Locked o i v d a h = h
 
   -- THE STEPS

@@ -28,12 +28,12 @@ use Rattle.et_walk.proofs.Held.{Ready}
 use Rattle.et_walk.proofs.Recording.{Told}
 use Rattle.et_walk.proofs.SaysRecords.{records_come, under}
 use Rattle.et_walk.proofs.Turns.{event_leads}
-use Rattle.et_walk.proofs.Words.{if_case}
 use Rattle.et_walk.specs.Steps.{AllObjects, Begins, BeginsClass, Catches, ClassBecomes, Comes, CountsEntered, Drops, Ends, EntersClinit, EntersCode, EntersMonitor, GoesOn, Interns, IsUnder, Leads, LeavesMonitor, Level, MakesArray, MakesInstance, MayWrite, Pends, Phase, Polls, Returns, SetsQueue, SetsReferent, Starts, Unwinds, UnwindsClinit, WritesSlot, WritesStatic, own_lock}
 use Rattle.et_walk.specs.Writes.{IsAtHand, IsBesideOut, IsOfReached, TellsBesideOut, WritesToReached, is_out_slot}
 use Rattle.std.proofs.Common.{List, None, Option, Some, [], false, inl, inr, refl, subst, ℕ, ◌∷◌, ◌≡◌, ◌⊎◌}
 use Rattle.std.proofs.lemmas.List.Elements.{All-append, All-cons, All-nil, All-weaker}
 use Rattle.std.specs.Prelude.{All, codes, is_some, unwrap_or}
+use Rattle.et_sound.proofs.Outcomes.{if_case}
 
 -- what a U record is of: a static that isn't that of System.out, or an object at hand
 abbrev IsOf : Moment → (object slot : ℕ) → Type 0

@@ -14,6 +14,7 @@ use Rattle.et_event.specs.Throw.{dropped, handled, left_if_owned}
 use Rattle.et_heap.specs.Objects.{IsHeld, at}
 use Rattle.et_program.specs.Entries.{Linked, method_at}
 use Rattle.et_sound.proofs.Wholes.{sound}
+use Rattle.et_sound.proofs.Outcomes.{if_case}
 use Rattle.et_state.specs.Outcome.{Outcome}
 use Rattle.et_state.specs.State.{Kept}
 use Rattle.et_state.specs.Threads.{FrameState, ThreadState, as_ended, entered_by, in_clinit, rest_of, with_pending, with_top_of, without_top}
@@ -27,7 +28,6 @@ use Rattle.et_walk.proofs.Held.{Ready, frame_fine, frames_grow, method_frame_fin
 use Rattle.et_walk.proofs.Recording.{HasLock, Told, array_told, as_entered_told, begun, first_taken_told, instance_told, interned_told, monitor_told, pending_told, queue_told, record_told, referent_told, slot_told, some_there, started_told, state_told, there, thread_told, told_thread, top_told, written_static_told}
 use Rattle.et_walk.proofs.Turns.{event_leads}
 use Rattle.et_walk.proofs.Values.{frame_grows, rest_fine, some_grows}
-use Rattle.et_walk.proofs.Words.{if_case}
 use Rattle.et_walk.specs.Records.{HasPlainStrings, TellsObjects}
 use Rattle.et_walk.specs.Steps.{AllObjects, AllThere, Begins, BeginsClass, Catches, ClassBecomes, Comes, CountsEntered, Drops, Ends, EntersClinit, EntersCode, EntersMonitor, GoesOn, Interns, IsUnder, Leads, LeavesMonitor, Level, MakesArray, MakesInstance, MayWrite, Pends, Phase, Polls, Returns, SetsQueue, SetsReferent, Starts, Unwinds, UnwindsClinit, WritesSlot, WritesStatic, own_lock}
 use Rattle.et_walk.specs.Values.{FineFrame, FineThread, Fines, Grows}

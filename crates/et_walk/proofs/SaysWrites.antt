@@ -30,6 +30,7 @@ use Rattle.et_event.specs.Sound.{IsSoundFor, is_of_kind}
 use Rattle.et_event.specs.Strings.{interned}
 use Rattle.et_event.specs.Throw.{dropped, left_if_owned}
 use Rattle.et_sound.proofs.Slots.{updated_state}
+use Rattle.et_sound.proofs.Outcomes.{if_case}
 use Rattle.et_walk.specs.Records.{HasPlainStrings}
 use Rattle.et_walk.specs.Steps.{AllObjects, AllThere, Begins, BeginsClass, Catches, ClassBecomes, Comes, CountsEntered, Drops, Ends, EntersClinit, EntersCode, EntersMonitor, GoesOn, Interns, IsTyped, Leads, LeavesMonitor, Level, MakesArray, MakesInstance, MayTell, MayWrite, Pends, Phase, Polls, Returns, SetsQueue, SetsReferent, Starts, Unwinds, UnwindsClinit, WritesSlot, WritesStatic, kind_of_static, own_lock}
 use Rattle.et_walk.specs.Writes.{HasCause, TellsWrites, reference_at}
@@ -39,7 +40,6 @@ use Rattle.et_walk.proofs.Typed.{reference_or_none}
 use Rattle.et_walk.proofs.Recording.{HasLock, Told}
 use Rattle.et_walk.proofs.SaysRecords.{records_come, still_there, under}
 use Rattle.et_walk.proofs.Turns.{event_leads}
-use Rattle.et_walk.proofs.Words.{if_case}
 use Rattle.et_walk.proofs.Writing.{TellsSo, first_taken_writes, made_writes, monitor_writes, object_writes, record_writes, slot_writes, static_writes}
 
 -- STATICS hold values of their types

@@ -100,10 +100,3 @@ kept_reference kind (Ref o) is = kept_ref kind o
 pub kept_plain : (kind : Elements) (v old : Value) → IsReference v ⊎ (number_of_value old ≡ 0) → IsReference (kept_element kind v) ⊎ (number_of_value old ≡ 0)
 kept_plain kind v old (inl is) = inl (kept_reference kind v is)
 kept_plain kind v old (inr none) = inr none
-
--- where null may stand, an object may
-pub reference_kind : (kind : Option Operand) (o : ℕ) → is_of_kind kind Null ≡ true → is_of_kind kind (Ref o) ≡ true
-reference_kind None o is = is
-reference_kind (Some operand.Int) o is = is
-reference_kind (Some operand.Long) o is = is
-reference_kind (Some operand.Reference) o is = refl

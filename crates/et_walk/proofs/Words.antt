@@ -5,6 +5,7 @@ use Rattle.std.specs.Str.{bytes_eq}
 use Rattle.std.proofs.lemmas.Bool.{cases_lt}
 use Rattle.std.proofs.lemmas.List.{length-set, length-append, get_or_append_left}
 use Rattle.std.proofs.lemmas.Slice.Eq.{bytes_eq-Decides}
+use Rattle.std.proofs.lemmas.Option.{same_Some, none-some}
 use Rattle.et_base.specs.declared.value.Value.{Value}
 use Rattle.et_base.specs.declared.value.Value.TheVariants.{Unset, Int, Long, LongHigh, Null, Ref}
 use Rattle.et_base.proofs.Lists.{Contains-here, Contains-there}
@@ -14,21 +15,21 @@ use Rattle.et_heap.specs.declared.monitor.Monitor.{Monitor}
 use Rattle.et_heap.specs.Objects.{ObjectState, Objects, IsHeld, free_monitor, new_object, object_at, slot_of, with_slot, with_referent, with_object_at, with_queue}
 use Rattle.et_state.specs.Threads.{FrameState, ThreadState, no_thread, new_thread, has_frame, rest_of, with_top_of, as_entered, with_pending}
 use Rattle.et_state.specs.declared.class_state.ClassState.{ClassState}
-use Rattle.et_state.specs.declared.class_state.ClassState.TheVariants.{Untouched, Begun, Done, Failed}
 use Rattle.et_state.specs.Interned.{object_of, interned_objects}
 use Rattle.et_state.specs.Sound.{IsSound}
 use Rattle.et_state.specs.State.{GuestState, Kept}
 use Rattle.et_state.specs.Words.{thread_at, with_thread, with_top, with_new_thread, static_at, with_static, with_string, with_class_state}
 use Rattle.et_state.proofs.Places.{string_root}
-use Rattle.et_event.specs.BuiltIns.{with_referent_of, with_thread_for, with_queue_of, with_reference_made, with_first_taken}
+use Rattle.et_event.specs.BuiltIns.{with_referent_of, with_thread_for, with_queue_of, with_first_taken}
 use Rattle.et_event.specs.Errors.{class_called}
-use Rattle.et_event.specs.Initialization.{with_state, constant_set, field_set, constants_set, class_done, quietly_done, quietly_if_untouched, prepared, state_of}
+use Rattle.et_event.specs.Initialization.{constant_set, field_set, constants_set}
 use Rattle.et_event.specs.Kinds.{narrowed}
 use Rattle.et_event.specs.Moments.{Moment, Doing, begins, thread_of, doing_with_guest, with_thread_state, next_object, instance_made, array_made, updated, slot_written, static_written, pending_now, entry_given_up}
 use Rattle.et_event.specs.Monitors.{Lock, OfObject, OfClass}
 use Rattle.et_event.specs.Sites.{LoadedConstant, AnInt, ALong, AString, constant_at, pool_of_class}
 use Rattle.et_event.specs.Strings.{interned, string_object}
 use Rattle.et_sound.specs.WellFormed.{IsThere}
+use Rattle.et_sound.proofs.Outcomes.{if_case}
 use Rattle.et_walk.specs.Holding.{monitor_in}
 use Rattle.et_walk.specs.Changing.{becomes, Changes}
 use Rattle.et_walk.specs.Values.{Fine, Fines, FineSome, FineFrame, FineThread}
@@ -59,10 +60,6 @@ level e = record { frames = length (thread_of e).frames; entry = None; exit = No
 
 abbrev pub with_frames : ℕ → Way → Way
 with_frames n w = record w { frames = n }
-
-pub if_case : {A : Type 0} (P : A → Type 0) (b : Bool) (x y : A) → P x → P y → P (if b then x else y)
-if_case P true x y h i = h
-if_case P false x y h i = i
 
 -- CHANGES
 
@@ -238,12 +235,6 @@ pub queue_still : (e : Moment) {w : Way} (o : ℕ) (q : Option ℕ) (d : Doing) 
 queue_still e o q d h held fine =
     object_still e o (with_queue q (object_at d.state.heap o)) d.state h held refl refl refl (slots_fine d.state o h.changes.sound) (referent_fine d.state o h.changes.sound) (rest_with_queue d.state o q h.changes.sound fine)
 
--- a weak reference is made
-pub reference_still : (e : Moment) {w : Way} (o : ℕ) (r q : Option ℕ) (d : Doing) → Still e w d.state → IsHeld d.state.heap o → FineSome d.state.heap r → FineSome d.state.heap q → Still e w (with_reference_made o r q d).state
-reference_still e o r q d h held fine queue =
-    let y : ObjectState = with_referent r (object_at d.state.heap o) in
-    queue_still e o q (with_referent_of o r d) (referent_still e o r d h held fine) (held_set d.state.heap o y o held held) (some_held d.state.heap o y held q queue)
-
 taken_still : (e : Moment) {w : Way} (q : ℕ) (ws : List ℕ) (s : Kept) → (object_at s.heap q).waiting ≡ ws → Still e w s → IsHeld s.heap q → Still e w (record { heap = take_first ws q s.heap; guest = s.guest })
 taken_still e q [] s is h held = record { changes = h.changes; lists = h.lists; thread = h.thread; monitors = h.monitors; frames = h.frames }
 taken_still e {w = w} q (r ∷ ws) s is h held =
@@ -267,43 +258,21 @@ taken_still e {w = w} q (r ∷ ws) s is h held =
 pub first_taken_still : (e : Moment) {w : Way} (q : ℕ) (d : Doing) → Still e w d.state → IsHeld d.state.heap q → Still e w (with_first_taken q d).state
 first_taken_still e q d h held = taken_still e q (object_at d.state.heap q).waiting d.state refl h held
 
--- what was held before a slot was written is held after it
-pub updated_same : (e : Moment) (o i : ℕ) (old v : Value) (d : Doing) → (updated e o i old v d).state ≡ d.state
-updated_same e o i old Unset d = refl
-updated_same e o i old (Int n) d = refl
-updated_same e o i old (Long n) d = refl
-updated_same e o i old LongHigh d = refl
-updated_same e o i old Null d = refl
-updated_same e o i old (Ref new) d = refl
-
-pub written_held : (e : Moment) (o i : ℕ) (v : Value) (d : Doing) (k : ℕ) → IsHeld d.state.heap o → IsHeld d.state.heap k → IsHeld (slot_written e o i v d).state.heap k
-written_held e o i v d k held there =
-    let s : Kept = d.state in
-    let x : ObjectState = object_at s.heap o in
-    let next : Doing = record { state = record { heap = with_object_at s.heap o (with_slot i v x); guest = s.guest }; records = d.records } in
-    subst (λ (y : Kept). IsHeld y.heap k) (sym (updated_same e o i (slot_of x i) v next)) ((grown_set s.heap o (with_slot i v x) held refl).stays k there).0
-
 pub made_held : (h : Objects) (y : ObjectState) (k : ℕ) → y.monitor ≡ free_monitor → IsHeld h k → IsHeld (h ++ Some y ∷ []) k
 made_held h y k free held = ((grown_push h y free).stays k held).0
 
 -- STRINGS OF CONSTANTS
 
-some_inj : (i j : ℕ) → Some i ≡ Some j → i ≡ j
-some_inj i j e = cc
-
-none_some : (i : ℕ) → None ≡ Some i → ⊥
-none_some i e = cc
-
 object_step : (b : Bool) (v : ℕ) (vs : List ℕ) (r : Option ℕ) (o : ℕ) → (r ≡ Some o → Contains vs o) → cond b (Some v) r ≡ Some o → Contains (v ∷ vs) o
-object_step true v vs r o ih h = subst (λ (k : ℕ). Contains (v ∷ vs) k) (some_inj v o h) (Contains-here v vs)
+object_step true v vs r o ih h = subst (λ (k : ℕ). Contains (v ∷ vs) k) (same_Some v o h) (Contains-here v vs)
 object_step false v vs r o ih h = Contains-there v vs o (ih h)
 
 pub object_in : (es : List (List ℕ × ℕ)) (bytes : List ℕ) (o : ℕ) → object_of es bytes ≡ Some o → Contains (interned_objects es) o
-object_in [] bytes o h = absurd (none_some o h)
+object_in [] bytes o h = absurd (none-some o h)
 object_in (e ∷ es) bytes o h = object_step (bytes_eq bytes e.0) e.1 (interned_objects es) (object_of es bytes) o (object_in es bytes o) h
 
 push_step : (b : Bool) (v n : ℕ) (r r' : Option ℕ) → (r ≡ None → r' ≡ Some n) → cond b (Some v) r ≡ None → cond b (Some v) r' ≡ Some n
-push_step true v n r r' ih h = absurd (none_some v (sym h))
+push_step true v n r r' ih h = absurd (none-some v (sym h))
 push_step false v n r r' ih h = ih h
 
 pub object_pushed : (es : List (List ℕ × ℕ)) (bytes : List ℕ) (n : ℕ) → object_of es bytes ≡ None → object_of (es ++ (bytes, n) ∷ []) bytes ≡ Some n
@@ -388,21 +357,3 @@ constant_still e f (Some (AString bytes)) d h =
 pub constants_still : (e : Moment) {w : Way} (c : ℕ) (d : Doing) → Still e w d.state → Still e w (constants_set e c d).state
 constants_still e c d h =
     fold_still e (field_set e) (λ x f g. constant_still e (field_at e.program f) (constant_at (pool_of_class e.program (field_at e.program f).class) (field_at e.program f).constant) x g) (class_at e.program c).info.constants d h
-
-class_done_still : (e : Moment) {w : Way} (c : ℕ) (x : ClassState) (d : Doing) → Still e w d.state → Still e w (class_done e c x d).state
-class_done_still e c Untouched d h = constants_still e c (with_state c Done d) (state_still e c Done d.state h)
-class_done_still e c (Begun t) d h = h
-class_done_still e c Done d h = h
-class_done_still e c Failed d h = h
-
-pub quietly_still : (e : Moment) {w : Way} (c : ℕ) (d : Doing) → Still e w d.state → Still e w (quietly_done e c d).state
-quietly_still e c d h = fold_still e (λ x k. class_done e k (state_of x k) x) (λ x k g. class_done_still e k (state_of x k) x g) (class_at e.program c).init_order d h
-
-if_untouched_still : (e : Moment) {w : Way} (c : ℕ) (x : ClassState) (d : Doing) → Still e w d.state → Still e w (quietly_if_untouched e c x d).state
-if_untouched_still e c Untouched d h = quietly_still e c d h
-if_untouched_still e c (Begun t) d h = h
-if_untouched_still e c Done d h = h
-if_untouched_still e c Failed d h = h
-
-pub prepared_still : (e : Moment) {w : Way} (classes : List ℕ) (d : Doing) → Still e w d.state → Still e w (prepared e classes d).state
-prepared_still e classes d h = fold_still e (λ x k. quietly_if_untouched e k (state_of x k) x) (λ x k g. if_untouched_still e k (state_of x k) x g) classes d h
