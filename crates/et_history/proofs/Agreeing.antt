@@ -2,6 +2,7 @@
 use Rattle.std.proofs.Common.{◌≡◌, ℕ, zero, suc, ◌+◌, ◌-◌, ◌<◌, ◌≤◌, ◌⊎◌, ◌==◌, Bool, true, false, length, Option, Some, None, refl, sym, ◌∙◌, ap, subst, inl, inr, arith, rules}
 use Rattle.std.specs.Prelude.{if◌then◌else◌, nat_le, IsSome, IfSome}
 use Rattle.std.proofs.lemmas.Bool.{cases_eq, eqb-true, eq-eqb, true≢false, false≢true, leb-true}
+use Rattle.std.proofs.lemmas.Option.{same_Some, none-some}
 use Rattle.et_base.specs.declared.value.End.{End}
 use Rattle.et_heap.specs.declared.monitor.Monitor.{Monitor}
 use Rattle.et_heap.specs.Objects.{ObjectState, is_there, at, free_monitor}
@@ -35,24 +36,18 @@ pub record Excludes (s : Kept) (lock : Lock) (n : ℕ → ℕ) : Type 0 where
   pub new : IsNew s lock → (t : ℕ) → n t ≡ 0
   pub one : (t u : ℕ) → 0 < n t → 0 < n u → t ≡ u
 
-some_inj : (i j : ℕ) → Some i ≡ Some j → i ≡ j
-some_inj i j e = cc
-
-none_some : (i : ℕ) → None ≡ Some i → ⊥
-none_some i e = cc
-
 owned_or : (m : Monitor) (t : ℕ) → (m.owner ≡ Some t) ⊎ (m.owner ≡ Some t → ⊥)
 owned_or m t = by m.owner
   where
     by : (o : Option ℕ) → (o ≡ Some t) ⊎ (o ≡ Some t → ⊥)
-    by None = inr (λ e. none_some t e)
-    by (Some k) = elim (cases_eq k t) [ inl e ↦ inl (ap (λ (i : ℕ). Some i) e) | inr ne ↦ inr (λ e. ne (some_inj k t e)) ]
+    by None = inr (λ e. none-some t e)
+    by (Some k) = elim (cases_eq k t) [ inl e ↦ inl (ap (λ (i : ℕ). Some i) e) | inr ne ↦ inr (λ e. ne (same_Some k t e)) ]
 
 pub holder : (m : Monitor) (n : ℕ → ℕ) (t : ℕ) → Agrees m n → 0 < n t → m.owner ≡ Some t
 holder m n t h holds = elim (owned_or m t) [ inl e ↦ e | inr ne ↦ (let none = h.others t ne in absurd (omega arith)) ]
 
 pub agrees_one : (m : Monitor) (n : ℕ → ℕ) (t u : ℕ) → Agrees m n → 0 < n t → 0 < n u → t ≡ u
-agrees_one m n t u h a b = some_inj t u (sym (holder m n t h a) ∙ holder m n u h b)
+agrees_one m n t u h a b = same_Some t u (sym (holder m n t h a) ∙ holder m n u h b)
 
 agrees_same : (m : Monitor) (n k : ℕ → ℕ) → Agrees m n → ((t : ℕ) → k t ≡ n t) → Agrees m k
 agrees_same m n k h same = record { owner = λ t e. same t ∙ h.owner t e; others = λ t ne. same t ∙ h.others t ne }
@@ -82,8 +77,8 @@ neither thread n t = recount thread false false n t (λ x. x ≡ n t) (λ same. 
 -- .. ENTERED
 
 open_owner : (thread t : ℕ) (o : Option ℕ) → is_open_to thread o ≡ true → o ≡ Some t → thread ≡ t
-open_owner thread t None free e = absurd (none_some t e)
-open_owner thread t (Some k) free e = sym (eqb-true k thread free) ∙ some_inj k t e
+open_owner thread t None free e = absurd (none-some t e)
+open_owner thread t (Some k) free e = sym (eqb-true k thread free) ∙ same_Some k t e
 
 no_owner : IsSome free_monitor.owner → ⊥
 no_owner h = search (rules, h)
@@ -96,7 +91,7 @@ entered_agrees : (m : Monitor) (n : ℕ → ℕ) (thread : ℕ) (b : Bool) → A
 entered_agrees m n thread b h owned free = record {
   owner = λ t e. recount thread true b n t (λ x. x ≡ m.count + 1)
       (λ same. ap (λ (k : ℕ). k + 1) (subst (λ (u : ℕ). n u ≡ m.count) same first))
-      (λ other. absurd (other (some_inj thread t e)));
+      (λ other. absurd (other (same_Some thread t e)));
   others = λ t ne. recount thread true b n t (λ x. x ≡ 0)
       (λ same. absurd (ne (ap (λ (i : ℕ). Some i) same)))
       (λ other. h.others t (λ q. other (open_owner thread t m.owner free q)));
@@ -115,23 +110,23 @@ is_own thread None e = absurd (false≢true e)
 is_own thread (Some k) e = ap (λ (i : ℕ). Some i) (eqb-true k thread e)
 
 own_is : (thread : ℕ) (o : Option ℕ) → is_owner thread o ≡ false → o ≡ Some thread → ⊥
-own_is thread None e q = none_some thread q
-own_is thread (Some k) e q = true≢false (sym (eq-eqb k thread (some_inj k thread q)) ∙ e)
+own_is thread None e q = none-some thread q
+own_is thread (Some k) e q = true≢false (sym (eq-eqb k thread (same_Some k thread q)) ∙ e)
 
 left_agrees : (m : Monitor) (n : ℕ → ℕ) (thread : ℕ) → Agrees m n → Agrees (left_by_owner thread m) (recounted thread false true n)
 left_agrees m n thread h = by (is_owner thread m.owner) refl
   where
     once : (y : Bool) → nat_le m.count 1 ≡ y → m.owner ≡ Some thread → Agrees (if y then free_monitor else record { owner = m.owner; count = m.count - 1 }) (recounted thread false true n)
     once true le own = record {
-      owner = λ t e. absurd (none_some t e);
+      owner = λ t e. absurd (none-some t e);
       others = λ t ne. recount thread false true n t (λ x. x ≡ 0)
           (λ same. let few = leb-true m.count 1 le in let is : n t ≡ m.count = h.owner t (own ∙ ap (λ (i : ℕ). Some i) same) in omega arith)
-          (λ other. h.others t (λ q. other (some_inj thread t (sym own ∙ q))));
+          (λ other. h.others t (λ q. other (same_Some thread t (sym own ∙ q))));
     }
     once false le own = record {
       owner = λ t e. recount thread false true n t (λ x. x ≡ m.count - 1)
           (λ same. ap (λ (k : ℕ). k - 1) (h.owner t e))
-          (λ other. absurd (other (some_inj thread t (sym own ∙ e))));
+          (λ other. absurd (other (same_Some thread t (sym own ∙ e))));
       others = λ t ne. recount thread false true n t (λ x. x ≡ 0)
           (λ same. absurd (ne (own ∙ ap (λ (i : ℕ). Some i) same)))
           (λ other. h.others t ne);
@@ -203,7 +198,7 @@ new_absent s (OfObject o) new held = let lt = held_within s.heap o held in let l
 new_absent s (OfClass c) new held = new
 
 free_agrees : (m : Monitor) (n : ℕ → ℕ) → m ≡ free_monitor → ((t : ℕ) → n t ≡ 0) → Agrees m n
-free_agrees m n free none = record { owner = λ t e. absurd (none_some t (sym (ap (λ (x : Monitor). x.owner) free) ∙ e)); others = λ t ne. none t }
+free_agrees m n free none = record { owner = λ t e. absurd (none-some t (sym (ap (λ (x : Monitor). x.owner) free) ∙ e)); others = λ t ne. none t }
 
 fresh_agrees : (e : Moment) (entry exit : Option Lock) (after : Kept) (lock : Lock) (n : ℕ → ℕ) → Changes e entry exit after → (IsThere e.before lock → ⊥) → IsThere after lock → (IsNew e.before lock → (t : ℕ) → n t ≡ 0) → Agrees (monitor_in after lock) n
 fresh_agrees e entry exit after (OfObject o) n h not there none =

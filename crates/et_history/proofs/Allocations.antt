@@ -134,7 +134,7 @@ module _ (P Q : (event object size elements : ℕ) → Type 0) (so : (event obje
 
 -- OBJECTS of a state
 
-held_in : (s : State) (o : ℕ) → IsHeld s.kept.heap o → object_in s o ≡ object_at s.kept.heap o
+pub held_in : (s : State) (o : ℕ) → IsHeld s.kept.heap o → object_in s o ≡ object_at s.kept.heap o
 held_in s o held = by (at s.kept.heap o) held
   where
     by : (x : Option ObjectState) → is_there x → found (first_of x (at s.reported o)) ≡ found x

@@ -4,6 +4,7 @@ use Rattle.std.specs.Prelude.{All, bytes_eq, codes, if◌then◌else◌, option_
 use Rattle.std.specs.List.{cons_option, list_any, slice_index_or}
 use Rattle.std.specs.Option.{option_to_list}
 use Rattle.std.proofs.lemmas.List.Elements.{All-nil, All-cons, All-head, All-tail, All-append, All-filter, All-push}
+use Rattle.std.proofs.lemmas.Option.{none-some}
 use Rattle.et_pool.specs.declared.tags.TheConstants.{CLASS}
 use Rattle.et_pool.specs.Descriptors.{is_array}
 use Rattle.et_pool.specs.Entries.{Item}
@@ -21,7 +22,7 @@ use Rattle.et_program.specs.Files.{set_of}
 use Rattle.et_program.specs.Loaded.{LoadedMember, LoadedClass}
 use Rattle.et_program.specs.ProgramOf.{class_names_of}
 use Rattle.et_linked.proofs.Making.{numbered_all}
-use Rattle.et_history.proofs.PoolWords.{AreTexts, AreNames, class_texts, nothing}
+use Rattle.et_history.proofs.PoolWords.{AreTexts, AreNames, class_texts}
 
 either : {X : Type 0} (P : X → Type 0) (b : Bool) (x y : X) → P x → P y → P (if b then x else y)
 either P true x y h g = h
@@ -53,12 +54,12 @@ module _ (Q P : List ℕ → Type 0) (is : IsOfArrays Q P) where
   -- WHAT A POOL NAMES AND CODE MAKES
   module _ (slots : List (Option Item)) (names : AreNames Q slots) where
     if_named : (o : Option (List ℕ)) → ((name : List ℕ) → o ≡ Some name → Q name) → (name : List ℕ) → if_array o ≡ Some name → P name
-    if_named None h name e = absurd (nothing name e)
+    if_named None h name e = absurd (none-some name e)
     if_named (Some x) h name e = is.named name (by (is_array x) e)
       where
         by : (b : Bool) → (if b then Some x else None) ≡ Some name → Q name
         by true k = h name k
-        by false k = absurd (nothing name k)
+        by false k = absurd (none-some name k)
 
     cons : (o : Option (List ℕ)) (rest : List (List ℕ)) → ((name : List ℕ) → o ≡ Some name → P name) → AreAll rest → AreAll (cons_option o rest)
     cons None rest h all = all

@@ -2,8 +2,9 @@
 use Rattle.std.proofs.Common.{◌≡◌, ℕ, zero, suc, ◌+◌, ◌≤◌, ◌&&◌, Bool, true, false, List, [], ◌∷◌, ◌++◌, length, Option, Some, None, Contains, refl, sym, ◌∙◌, ap, subst, inl, inr, arith}
 use Rattle.std.specs.Prelude.{◌||◌, ◌==◌, not, if◌then◌else◌, map}
 use Rattle.std.specs.Option.{is_some, option_map_or}
-use Rattle.std.proofs.lemmas.Bool.{false≢true, and_parts, and_from, eqb-true, eq-eqb}
+use Rattle.std.proofs.lemmas.Bool.{false≢true, and_parts, and_from, eqb-true, eq-eqb, not-true, false_from_ne_true}
 use Rattle.std.proofs.lemmas.List.Elements.{Contains-append_left, Contains-append_right, Contains-append_cases}
+use Rattle.std.proofs.lemmas.Option.{same_Some}
 use Rattle.et_base.proofs.Lists.{Contains-none, Contains-here, Contains-cons}
 use Rattle.et_heap.specs.Links.{StandOnce}
 use Rattle.et_heap.specs.Objects.{ObjectState, Objects, IsHeld, is_there, at, found, object_at}
@@ -12,6 +13,7 @@ use Rattle.et_state.specs.Enqueuing.{is_free_to_wait, has_queue, has_this_queue,
 use Rattle.et_state.specs.Past.{IsPast, first_of, reporting}
 use Rattle.et_state.proofs.Enqueued.{flushed_at}
 use Rattle.et_history.specs.Whole.{cleared}
+use Rattle.et_history.proofs.Freed.{at_cleared}
 use Rattle.et_walk.proofs.WaitingLists.{lined_same, Coming, lined_more, seen, AreLined}
 
 -- WHO COMES TO A LIST
@@ -80,16 +82,12 @@ this_queue : (q : ℕ) (o : Option ℕ) → option_map_or (λ u. u == q) o false
 this_queue q None e = absurd (false≢true e)
 this_queue q (Some u) e = ap (λ (n : ℕ). Some n) (eqb-true u q e)
 
-not_true : (b : Bool) → not b ≡ true → b ≡ false
-not_true true e = absurd (false≢true e)
-not_true false e = refl
-
 is_comer : (here : ℕ → Bool) (q r : ℕ) (x : Option ObjectState) → comes here q r x ≡ true → Comer here q r x
 is_comer here q r None e = absurd (false≢true e)
 is_comer here q r (Some x) e =
     let parts = and_parts (is_free_to_wait here (here r) (Some x)) (has_this_queue q (Some x)) e in
     let free = and_parts (here r && is_cleared here x.referent) (not x.waits) parts.0 in
-    record { there = tt; stays = (and_parts (here r) (is_cleared here x.referent) free.0).0; queue = this_queue q x.queue parts.1; free = not_true x.waits free.1 }
+    record { there = tt; stays = (and_parts (here r) (is_cleared here x.referent) free.0).0; queue = this_queue q x.queue parts.1; free = not-true x.waits free.1 }
 
 -- what begins to wait has a queue, and comes to its list
 begins_some : (here : ℕ → Bool) (r : ℕ) (x : Option ObjectState) → (is_free_to_wait here (here r) x && has_queue x) ≡ true → (q : ℕ) × (comes here q r x ≡ true)
@@ -123,13 +121,6 @@ begins_here here b (Some x) e =
     let free = (and_parts (is_free_to_wait here b (Some x)) (is_some x.queue) e).0 in
     (tt, (and_parts b (is_cleared here x.referent) (and_parts (b && is_cleared here x.referent) (not x.waits) free).0).0)
 
-some_same : (q u : ℕ) → Some q ≡ Some u → q ≡ u
-some_same q u e = ap (λ (o : Option ℕ). by o) e
-  where
-    by : Option ℕ → ℕ
-    by None = 0
-    by (Some n) = n
-
 seen_free : (x y : Option ObjectState) → is_there x → (found x).waits ≡ false → (found (first_of x y)).waits ≡ false
 seen_free None y there e = absurd there
 seen_free (Some x) y there e = e
@@ -142,7 +133,7 @@ coming here h rs = record {
   one = λ q u r c d.
       let a = is_comer here q r (at h r) (comer here h q r c) in
       let b = is_comer here u r (at h r) (comer here h u r d) in
-      some_same q u (sym a.queue ∙ b.queue);
+      same_Some q u (sym a.queue ∙ b.queue);
   once = λ q. come_once here q 0 h;
 }
 
@@ -164,11 +155,6 @@ reporting_at here k (x ∷ xs) [] (suc o) le =
 reporting_at here k (x ∷ xs) (r ∷ rs) zero le = ap (λ (i : ℕ). first_of r (left_over (here i) x)) (let same : k ≡ k + 0 = omega arith in same)
 reporting_at here k (x ∷ xs) (r ∷ rs) (suc o) le =
     reporting_at here (k + 1) xs rs o (omega (arith, le)) ∙ ap (λ (i : ℕ). first_of (at rs o) (left_over (here i) (at xs o))) (let same : k + 1 + o ≡ k + suc o = omega arith in same)
-
-at_cleared : (here : ℕ → Bool) (rs : Objects) (o : ℕ) → at (map (cleared here) rs) o ≡ cleared here (at rs o)
-at_cleared here [] o = refl
-at_cleared here (r ∷ rs) zero = refl
-at_cleared here (r ∷ rs) (suc o) = at_cleared here rs o
 
 none_more : (ns : List ℕ) (ws : List ℕ) → ns ≡ [] → ws ≡ ws ++ ns
 none_more ns ws none = sym (ap (λ (l : List ℕ). ws ++ l) none ∙ by ws)
@@ -209,10 +195,6 @@ nobody : (rs : List ℕ) → ((r : ℕ) → Contains rs r → ⊥) → rs ≡ []
 nobody [] none = refl
 nobody (r ∷ rs) none = absurd (none r (Contains-here r rs))
 
-not_begun : (b : Bool) → (b ≡ true → ⊥) → b ≡ false
-not_begun true none = absurd (none refl)
-not_begun false none = refl
-
 -- A FLUSH, where the queue of what stays stays
 
 module _ (here : ℕ → Bool) (h rs : Objects) (past : IsPast h rs) (closed : (r q : ℕ) → IsHeld h r → here r ≡ true → (object_at h r).queue ≡ Some q → IsHeld h q × (here q ≡ true)) where
@@ -237,5 +219,5 @@ module _ (here : ℕ → Bool) (h rs : Objects) (past : IsPast h rs) (closed : (
       lined_same (λ q. (seen h rs q).waiting ++ newcomers here h q) (λ q. (seen now reports q).waiting) (λ r. (seen h rs r).waits || begins_to_wait here h r) (λ r. (seen now reports r).waits)
       (λ q. ap (λ (x : ObjectState). x.waiting) (place_after q) ∙ list_after here (newcomers here h) (begins_to_wait here h) q (here q) (at h q) (at rs q) (past.apart q) (none_comes q))
       (λ r. ap (λ (x : ObjectState). x.waits) (place_after r) ∙ mark_after here (newcomers here h) (begins_to_wait here h) r (here r) (at h r) (at rs r) (past.apart r)
-      (λ out. not_begun (begins_to_wait here h r) (λ e. out (begins_here here (here r) (at h r) e))))
+      (λ out. false_from_ne_true (begins_to_wait here h r) (λ e. out (begins_here here (here r) (at h r) e))))
       (lined_more (λ q. (seen h rs q).waiting) (newcomers here h) (λ r. (seen h rs r).waits) (begins_to_wait here h) lined (coming here h rs))

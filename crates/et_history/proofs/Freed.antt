@@ -42,7 +42,7 @@ reported_stays here k (y ∷ xs) [] o x le h = absurd (none_some h)
 reported_stays here k (y ∷ xs) (r ∷ rs) zero x le h = first_stays r _ x h
 reported_stays here k (y ∷ xs) (r ∷ rs) (suc o) x le h = reported_stays here (k + 1) xs rs o x (omega (arith, le)) h
 
-at_cleared : (here : ℕ → Bool) (rs : Objects) (o : ℕ) → at (map (cleared here) rs) o ≡ cleared here (at rs o)
+pub at_cleared : (here : ℕ → Bool) (rs : Objects) (o : ℕ) → at (map (cleared here) rs) o ≡ cleared here (at rs o)
 at_cleared here [] o = refl
 at_cleared here (r ∷ rs) zero = refl
 at_cleared here (r ∷ rs) (suc o) = at_cleared here rs o

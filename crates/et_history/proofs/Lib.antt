@@ -1,6 +1,6 @@
 pub mod Unended
 mod Agreeing
-mod Alike
+pub mod Alike
 pub mod Wholes
 mod Freed
 pub mod Reporting
@@ -17,7 +17,7 @@ mod NewRows
 mod NewTurns
 mod NewTexts
 mod Reached
-mod Allocations
+pub mod Allocations
 mod LinkedSizes
 mod Causes
 pub mod Ends

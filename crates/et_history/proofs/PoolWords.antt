@@ -4,6 +4,7 @@ use Rattle.std.specs.Prelude.{All, if◌then◌else◌}
 use Rattle.std.specs.List.{flat_map, list_all, slice_index_or}
 use Rattle.std.proofs.lemmas.Bool.{and_parts}
 use Rattle.std.proofs.lemmas.List.Elements.{All-nil, All-cons, All-head, All-tail, All-append}
+use Rattle.std.proofs.lemmas.Option.{none-some, same_Some}
 use Rattle.et_pool.specs.declared.tags.TheConstants.{CLASS}
 use Rattle.et_pool.specs.Entries.{Item, Text, Word, Wide, Name, Pair, Handle, slots_of_item, slots_of}
 use Rattle.et_pool.specs.Looks.{text_of_slot, utf8_at, named_by}
@@ -24,12 +25,6 @@ each_passes t P says (x ∷ xs) h =
     let parts = and_parts (t x) (list_all t xs) h in
     All-cons P x xs (says x parts.0) (each_passes t P says xs parts.1)
 
-pub nothing : {X : Type 0} (x : X) → None ≡ Some x → ⊥
-nothing x e = cc
-
-pub some_same : {X : Type 0} (x y : X) → Some x ≡ Some y → x ≡ y
-some_same x y e = cc
-
 -- TEXTS of which something holds
 module _ (P : List ℕ → Type 0) where
   abbrev pub AreTexts : List (Option Item) → Type 0
@@ -42,15 +37,15 @@ module _ (P : List ℕ → Type 0) where
   IsSlot s = (name : List ℕ) → text_of_slot s ≡ Some name → P name
 
   no_text : IsSlot None
-  no_text name e = absurd (nothing name e)
+  no_text name e = absurd (none-some name e)
 
   item_texts : ((bytes : List ℕ) → IsEntry (Text bytes) → P bytes) → (e : Item) → IsEntry e → All IsSlot (slots_of_item e)
-  item_texts says (Text bytes) h = All-cons IsSlot (Some (Text bytes)) [] (λ name e. subst P (some_same bytes name e) (says bytes h)) (All-nil IsSlot)
-  item_texts says (Word tag bits) h = All-cons IsSlot (Some (Word tag bits)) [] (λ name e. absurd (nothing name e)) (All-nil IsSlot)
-  item_texts says (Wide tag bits) h = All-cons IsSlot (Some (Wide tag bits)) (None ∷ []) (λ name e. absurd (nothing name e)) (All-cons IsSlot None [] no_text (All-nil IsSlot))
-  item_texts says (Name tag index) h = All-cons IsSlot (Some (Name tag index)) [] (λ name e. absurd (nothing name e)) (All-nil IsSlot)
-  item_texts says (Pair tag first second) h = All-cons IsSlot (Some (Pair tag first second)) [] (λ name e. absurd (nothing name e)) (All-nil IsSlot)
-  item_texts says (Handle kind index) h = All-cons IsSlot (Some (Handle kind index)) [] (λ name e. absurd (nothing name e)) (All-nil IsSlot)
+  item_texts says (Text bytes) h = All-cons IsSlot (Some (Text bytes)) [] (λ name e. subst P (same_Some bytes name e) (says bytes h)) (All-nil IsSlot)
+  item_texts says (Word tag bits) h = All-cons IsSlot (Some (Word tag bits)) [] (λ name e. absurd (none-some name e)) (All-nil IsSlot)
+  item_texts says (Wide tag bits) h = All-cons IsSlot (Some (Wide tag bits)) (None ∷ []) (λ name e. absurd (none-some name e)) (All-cons IsSlot None [] no_text (All-nil IsSlot))
+  item_texts says (Name tag index) h = All-cons IsSlot (Some (Name tag index)) [] (λ name e. absurd (none-some name e)) (All-nil IsSlot)
+  item_texts says (Pair tag first second) h = All-cons IsSlot (Some (Pair tag first second)) [] (λ name e. absurd (none-some name e)) (All-nil IsSlot)
+  item_texts says (Handle kind index) h = All-cons IsSlot (Some (Handle kind index)) [] (λ name e. absurd (none-some name e)) (All-nil IsSlot)
 
   items_texts : ((bytes : List ℕ) → IsEntry (Text bytes) → P bytes) → (items : List Item) → All IsEntry items → All IsSlot (flat_map slots_of_item items)
   items_texts says [] h = All-nil IsSlot
@@ -64,14 +59,14 @@ module _ (P : List ℕ → Type 0) where
 
   -- the names of Class entries
   pub class_texts : (slots : List (Option Item)) → AreTexts slots → AreNames slots
-  class_texts slots texts None name e = absurd (nothing name e)
-  class_texts slots texts (Some (Text bytes)) name e = absurd (nothing name e)
-  class_texts slots texts (Some (Word tag bits)) name e = absurd (nothing name e)
-  class_texts slots texts (Some (Wide tag bits)) name e = absurd (nothing name e)
+  class_texts slots texts None name e = absurd (none-some name e)
+  class_texts slots texts (Some (Text bytes)) name e = absurd (none-some name e)
+  class_texts slots texts (Some (Word tag bits)) name e = absurd (none-some name e)
+  class_texts slots texts (Some (Wide tag bits)) name e = absurd (none-some name e)
   class_texts slots texts (Some (Name tag index)) name e = by (tag == CLASS) e
     where
       by : (b : Bool) → (if b then utf8_at slots index else None) ≡ Some name → P name
       by true k = texts index name k
-      by false k = absurd (nothing name k)
-  class_texts slots texts (Some (Pair tag first second)) name e = absurd (nothing name e)
-  class_texts slots texts (Some (Handle kind index)) name e = absurd (nothing name e)
+      by false k = absurd (none-some name k)
+  class_texts slots texts (Some (Pair tag first second)) name e = absurd (none-some name e)
+  class_texts slots texts (Some (Handle kind index)) name e = absurd (none-some name e)

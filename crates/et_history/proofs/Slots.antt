@@ -1,5 +1,5 @@
 -- In every state of the history in which nothing is freed the references in slots are those that the U records told.
-use Rattle.std.proofs.Common.{◌≡◌, ℕ, zero, suc, ◌+◌, ◌<◌, ◌≤◌, ◌==◌, ◌&&◌, ◌⊎◌, Bool, true, false, List, [], ◌∷◌, length, replicate, get_or, Option, Some, None, refl, sym, ◌∙◌, ap, subst, inl, inr, arith}
+use Rattle.std.proofs.Common.{◌≡◌, ℕ, zero, suc, ◌+◌, ◌<◌, ◌≤◌, ◌==◌, ◌&&◌, ◌⊎◌, Bool, true, false, List, [], ◌∷◌, length, Option, Some, None, refl, sym, ◌∙◌, ap, subst, inl, inr, arith}
 use Rattle.std.specs.Prelude.{All, if◌then◌else◌, slice_index_or}
 use Rattle.std.proofs.lemmas.Bool.{and_parts, eqb-true, false≢true}
 use Rattle.std.proofs.lemmas.List.Elements.{All-cons, All-head, All-nil, All-tail}
@@ -42,6 +42,7 @@ use Rattle.et_history.specs.Whole.{beside, whole_flushed, whole_start}
 use Rattle.et_history.proofs.Alike.{is_open}
 use Rattle.et_history.proofs.Reporting.{if_known}
 use Rattle.et_history.proofs.Wholes.{Stands, go_on, keeps_at, picked_unended, reached_all, settled_match}
+use Rattle.et_history.proofs.NewArrays.{unset_at}
 use Rattle.et_sound.proofs.Outcomes.{if_case}
 
 -- RECORDS
@@ -168,11 +169,6 @@ event_is_of p t k outcome.ObjectLimit tells = All-nil (IsOfEvent (t.kept.guest.c
 
 -- THE FIRST STATE: nothing stands anywhere
 
-no_static : (n i : ℕ) → get_or (replicate n Unset) i Unset ≡ Unset
-no_static zero i = refl
-no_static (suc n) zero = refl
-no_static (suc n) (suc i) = no_static n i
-
 start_slot : (p : Linked) (o i : ℕ) → number_at (start p).heap o i ≡ 0
 start_slot p zero i = refl
 start_slot p (suc zero) i = refl
@@ -185,7 +181,7 @@ both_none false x y none other = other
 start_empty : (p : Linked) (o i : ℕ) → reference_told p (start p) o i ≡ 0
 start_empty p o i =
     both_none ((o == 0) && is_out_slot p i) 0 (reference_at (start p) o i) refl
-    (both_none (o == 0) (number_of_value (static_at (start p).guest i)) (number_at (start p).heap o i) (ap (λ (v : Value). number_of_value v) (no_static (length p.statics) i)) (start_slot p o i))
+    (both_none (o == 0) (number_of_value (static_at (start p).guest i)) (number_at (start p).heap o i) (ap (λ (v : Value). number_of_value v) (unset_at (length p.statics) i)) (start_slot p o i))
 
 -- an object that is reached and made is held
 reached_is_held : (s : Kept) (p : Linked) (o : ℕ) → IsSoundFor p s → 0 < o → o < length s.heap → IsReached (graph_of s) o → IsHeld s.heap o

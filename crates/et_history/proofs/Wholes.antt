@@ -3,7 +3,7 @@ use Rattle.std.proofs.Common.{◌≡◌, ℕ, zero, suc, ◌<◌, ◌≤◌, ◌
 use Rattle.std.specs.Prelude.{◌%◌, slice_index, IsTrue, if◌then◌else◌, map}
 use mathlib.Core.Path.{fun_ext}
 use Rattle.std.proofs.Math.Nat.{mod-lt}
-use Rattle.std.proofs.lemmas.Bool.{eq-eqb, true≢false, cases_eq, cases_lt}
+use Rattle.std.proofs.lemmas.Bool.{eq-eqb, true≢false, cases_eq, cases_lt, eqb-false}
 use Rattle.std.proofs.lemmas.List.{length-map}
 use Rattle.std.proofs.lemmas.List.Elements.{Contains-append_left, Contains-get_or, Contains-append_cases}
 use Rattle.et_base.specs.declared.value.End.{End}
@@ -112,7 +112,7 @@ past_on h h' reported longer fresh past = record {
 pub is_now : (b : Bool) → IsTrue b → b ≡ true
 is_now b t = search (rules, t)
 
-now_is : (b : Bool) → b ≡ true → IsTrue b
+pub now_is : (b : Bool) → b ≡ true → IsTrue b
 now_is b e = search (rules, e)
 
 pub tells : (g : Graph) (here : ℕ → Bool) → ((o : ℕ) → IsTrue (here o) ↔ IsReached g o) → (o : ℕ) → (here o ≡ true) ↔ IsReached g o
@@ -130,9 +130,6 @@ picked_unended s k some = by (length (unended_threads s)) refl
     by (suc n) e =
         let positive : 0 < length us = omega arith in
         unended_thread s.guest (slice_index us (k % length us)) (Contains-get_or us (k % length us) 0 (mod-lt k positive))
-
-not_same : (a b : ℕ) → (a == b) ≡ false → a ≡ b → ⊥
-not_same a b e same = true≢false (sym (eq-eqb a b same) ∙ e)
 
 below_limit : (e limit : ℕ) → e ≤ limit → (e ≡ limit → ⊥) → e < limit
 below_limit e limit le ne = omega arith
@@ -312,7 +309,7 @@ module _ (reached : Graph → ℕ → Bool) (p : Linked) (options : Options) (pi
       (λ turn.
       let k : Kept = t.kept in
       let unended : IsUnended k.guest thread = subst (λ (i : ℕ). IsUnended k.guest i) (sym turn.thread_is) (picked_unended k (pick (suc e)) turn.some) in
-      let below : e < options.limit = below_limit e options.limit m.1.within (not_same e options.limit turn.within) in
+      let below : e < options.limit = below_limit e options.limit m.1.within (eqb-false e options.limit turn.within) in
       let few : k.guest.clock < 2 ^ 40 = (let clock = m.1.clock in omega (arith, below, are.limit)) in
       after_event p options e t thread (event_with_texts p k thread) (event_keeps_monitors p k thread m.1.state unended run.runnable) (event_leads_to_sound p k thread m.1.state unended run.runnable few) m.1 below)
 

@@ -54,7 +54,7 @@ pub some_frame : (fs : List FrameState) → has_frame fs ≡ true → 0 < length
 some_frame [] e = absurd (false≢true e)
 some_frame (f ∷ fs) e = omega arith
 
-no_frame : (fs : List FrameState) → has_frame fs ≡ false → fs ≡ []
+pub no_frame : (fs : List FrameState) → has_frame fs ≡ false → fs ≡ []
 no_frame [] e = refl
 no_frame (f ∷ fs) e = absurd (true≢false e)
 

@@ -1,5 +1,5 @@
 pub mod Called
-mod Read
+pub mod Read
 mod Rooms
 pub mod Rows
 pub mod Out

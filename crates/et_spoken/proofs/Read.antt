@@ -47,7 +47,7 @@ done_is (Begun t) h = absurd (false≢true h)
 done_is Done h = refl
 done_is Failed h = absurd (false≢true h)
 
-map_some : {A B : Type 0} (f : A → B) (o : Option A) (b : B) → option_map f o ≡ Some b → (a : A) × (o ≡ Some a) × (f a ≡ b)
+pub map_some : {A B : Type 0} (f : A → B) (o : Option A) (b : B) → option_map f o ≡ Some b → (a : A) × (o ≡ Some a) × (f a ≡ b)
 map_some f None b e = absurd (none-some b e)
 map_some f (Some a) b e = (a, refl, same_Some (f a) b e)
 

@@ -7,11 +7,11 @@ use Rattle.std.proofs.lemmas.List.{reverse-append, reverse-reverse}
 use Rattle.std.proofs.lemmas.List.Elements.{All-nil, All-cons, All-head, All-tail, All-contains, All-weaker}
 use Rattle.std.proofs.lemmas.List.Kept.{Contains-from_dedup}
 use Rattle.std.proofs.lemmas.List.Sorted.{All-permutation, IsPermutation-reverse}
+use Rattle.std.proofs.lemmas.Option.{none-some, same_Some}
 use Rattle.et_base.specs.declared.line.TraceLine.{TraceLine}
 use Rattle.et_base.specs.declared.line.TraceLine.TheVariants.{Header, Class, Method, Alloc, Update, Enter, Exit, Unwind, Flush, Death, Finish}
 use Rattle.et_text.specs.Rules.{AreFine, IsGood, after, awaited, has_ended, interval, is_before, is_open, is_timely, keeps_order, latest, misses_no_flush, newest_flush, next_fault, order, standing_flush, stands_at}
 use Rattle.et_replay.specs.Curve.{curve_events, happens_at}
-use Rattle.et_history.proofs.PoolWords.{nothing, some_same}
 
 -- the event of the line, if it has one, is at most this one
 abbrev IsBy : ℕ → TraceLine → Type 0
@@ -51,20 +51,20 @@ rises past (Finish event how) h = omega arith
 
 -- an event that is this one
 is_at : (event n : ℕ) → Some event ≡ Some n → n ≤ event
-is_at event n e = let same = some_same event n e in omega (arith, same)
+is_at event n e = let same = same_Some event n e in omega (arith, same)
 
 own : (past : List TraceLine) (l : TraceLine) → IsBy (latest (l ∷ past)) l
-own past (Header version k) n e = absurd (nothing n e)
-own past (Class number name) n e = absurd (nothing n e)
-own past (Method number class name descriptor) n e = absurd (nothing n e)
+own past (Header version k) n e = absurd (none-some n e)
+own past (Class number name) n e = absurd (none-some n e)
+own past (Method number class name descriptor) n e = absurd (none-some n e)
 own past (Alloc event thread object class size length) n e = is_at event n e
 own past (Update event thread object slot old new) n e = is_at event n e
 own past (Enter event thread method receiver) n e = is_at event n e
 own past (Exit event thread method) n e = is_at event n e
 own past (Unwind event thread method exception) n e = is_at event n e
-own past (Flush event deaths) n e = absurd (nothing n e)
-own past (Death object time) n e = absurd (nothing n e)
-own past (Finish event how) n e = absurd (nothing n e)
+own past (Flush event deaths) n e = absurd (none-some n e)
+own past (Death object time) n e = absurd (none-some n e)
+own past (Finish event how) n e = absurd (none-some n e)
 
 all_by : (version : ℕ) (past : List TraceLine) → AreFine version past → All (IsBy (latest past)) past
 all_by version [] h = All-nil (IsBy 0)
@@ -74,18 +74,18 @@ all_by version (l ∷ past) h =
 
 -- the flush that stands last is of the latest event
 standing_is : (past : List TraceLine) (f : ℕ) → standing_flush past ≡ Some f → latest past ≡ f
-standing_is [] f e = absurd (nothing f e)
-standing_is (Header version n ∷ past) f e = absurd (nothing f e)
-standing_is (Class number name ∷ past) f e = absurd (nothing f e)
-standing_is (Method number class name descriptor ∷ past) f e = absurd (nothing f e)
-standing_is (Alloc event thread object class size length ∷ past) f e = absurd (nothing f e)
-standing_is (Update event thread object slot old new ∷ past) f e = absurd (nothing f e)
-standing_is (Enter event thread method receiver ∷ past) f e = absurd (nothing f e)
-standing_is (Exit event thread method ∷ past) f e = absurd (nothing f e)
-standing_is (Unwind event thread method exception ∷ past) f e = absurd (nothing f e)
-standing_is (Flush event deaths ∷ past) f e = some_same event f e
+standing_is [] f e = absurd (none-some f e)
+standing_is (Header version n ∷ past) f e = absurd (none-some f e)
+standing_is (Class number name ∷ past) f e = absurd (none-some f e)
+standing_is (Method number class name descriptor ∷ past) f e = absurd (none-some f e)
+standing_is (Alloc event thread object class size length ∷ past) f e = absurd (none-some f e)
+standing_is (Update event thread object slot old new ∷ past) f e = absurd (none-some f e)
+standing_is (Enter event thread method receiver ∷ past) f e = absurd (none-some f e)
+standing_is (Exit event thread method ∷ past) f e = absurd (none-some f e)
+standing_is (Unwind event thread method exception ∷ past) f e = absurd (none-some f e)
+standing_is (Flush event deaths ∷ past) f e = same_Some event f e
 standing_is (Death object time ∷ past) f e = standing_is past f e
-standing_is (Finish event how ∷ past) f e = absurd (nothing f e)
+standing_is (Finish event how ∷ past) f e = absurd (none-some f e)
 
 last_by : (past : List TraceLine) (last : ℕ) (o : Option ℕ) → standing_flush past ≡ o → stands_at o last ≡ true → latest past ≡ last
 last_by past last None e h = absurd (false≢true h)

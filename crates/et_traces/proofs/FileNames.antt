@@ -4,6 +4,7 @@ use Rattle.std.specs.Prelude.{All}
 use Rattle.std.proofs.lemmas.Bool.{and_parts, false≢true}
 use Rattle.std.proofs.lemmas.List.{length-map}
 use Rattle.std.proofs.lemmas.List.Elements.{All-map}
+use Rattle.std.proofs.lemmas.Option.{none-some}
 use Rattle.et_base.specs.Marks.{Mark}
 use Rattle.et_text.specs.Ranges.{IsText}
 use Rattle.et_pool.specs.Descriptors.{MethodType, method_type}
@@ -27,7 +28,6 @@ use Rattle.et_linked.specs.Rules.{KeepsMethodRules}
 use Rattle.et_linked.proofs.Marks.{AreWell, well_before, well_behind, well_first, well_rest, along_each}
 use Rattle.et_linked.proofs.Places.{at_mapped}
 use Rattle.et_linked.proofs.PromisedFiles.{keeps_method_rules}
-use Rattle.et_history.proofs.PoolWords.{nothing}
 use Rattle.et_traces.proofs.PoolTexts.{AreSmall, texts_small, classes_named}
 use Rattle.et_traces.proofs.ApartMethods.{HasKey, HasApartMethods, file_apart}
 
@@ -73,8 +73,8 @@ typed_text : (slots : List (Option Item)) (i : ℕ) (type : MethodType) → meth
 typed_text slots i type h = by (utf8_at slots i) refl h
   where
     by : (o : Option (List ℕ)) → utf8_at slots i ≡ o → method_type (or_empty o) ≡ Some type → (text : List ℕ) × (utf8_at slots i ≡ Some text) × (0 < length text)
-    by None e k = absurd (nothing type k)
-    by (Some []) e k = absurd (nothing type k)
+    by None e k = absurd (none-some type k)
+    by (Some []) e k = absurd (none-some type k)
     by (Some (a ∷ text)) e k = (a ∷ text, e, omega arith)
 
 is_text_of : (slots : List (Option Item)) (i : ℕ) (text : List ℕ) → AreSmallTexts slots → utf8_at slots i ≡ Some text → 0 < length text → IsText (pool_text slots i)

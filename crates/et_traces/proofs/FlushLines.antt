@@ -1,9 +1,9 @@
 -- The lines of a flush keep the rules, and so does the last line.
-use Rattle.std.proofs.Common.{◌≡◌, ℕ, zero, suc, ◌+◌, ◌-◌, ◌*◌, ◌/◌, ◌%◌, ◌<◌, ◌≤◌, ◌^◌, ◌==◌, ◌⊎◌, Bool, true, false, not, ◌&&◌, ◌||◌, List, [], ◌∷◌, ◌++◌, length, Option, Some, None, refl, sym, ◌∙◌, ap, subst, inl, inr, arith}
+use Rattle.std.proofs.Common.{◌≡◌, ℕ, zero, suc, ◌+◌, ◌-◌, ◌*◌, ◌/◌, ◌%◌, ◌<◌, ◌≤◌, ◌^◌, ◌==◌, ◌⊎◌, Bool, true, false, ◌&&◌, ◌||◌, List, [], ◌∷◌, ◌++◌, length, Option, Some, None, refl, sym, ◌∙◌, ap, subst, inl, inr, arith}
 use Rattle.std.specs.Prelude.{map, nat_le, nat_lt, if◌then◌else◌, slice_index, unwrap_or}
 use Rattle.std.specs.List.{list_any}
 use Rattle.std.proofs.Math.Nat.{mod-lt}
-use Rattle.std.proofs.lemmas.Bool.{cases_eq, eq-eqb, eqb-true, le-leb, lt-ltb, ltb-true, and_from, true≢false}
+use Rattle.std.proofs.lemmas.Bool.{cases_eq, eq-eqb, le-leb, lt-ltb, ltb-true, true≢false, ne_eqb, or_right, or_parts, or_from, not_from_false}
 use Rattle.std.proofs.lemmas.List.{append-nil}
 use Rattle.std.proofs.lemmas.List.Folds.{list_any-append}
 use Rattle.std.proofs.lemmas.Nat.{div-add-mod', div-mul-add}
@@ -13,35 +13,11 @@ use Rattle.et_state.specs.History.{deaths_to, flush_lines}
 use Rattle.et_state.specs.Naming.{Names, Mentions}
 use Rattle.et_text.specs.Rules.{AreFine, awaited, births, classes, newest_flush, has_begun, has_class, has_ended, has_method, interval, is_before, is_flush_point, is_reported, last_dead, latest, methods, misses_no_flush, standing_flush, stands_at}
 use Rattle.et_traces.proofs.Numbering.{AreNamed}
-use Rattle.et_traces.proofs.Standing.{behind, Stands, fault_free, timely}
-
-both : {a b : Bool} → a ≡ true → b ≡ true → (a && b) ≡ true
-both {a} {b} e f = and_from a b e f
-
-negates : (b : Bool) → b ≡ false → not b ≡ true
-negates b e = rw e refl
-
-neither : (a b : Bool) → a ≡ false → b ≡ false → (a || b) ≡ false
-neither a b e f = rw (e, f) refl
-
-or_none : (a b : Bool) → (a || b) ≡ false → (a ≡ false) × (b ≡ false)
-or_none false b e = (refl, e)
-or_none true b e = absurd (true≢false e)
-
-or_second : (a b : Bool) → b ≡ true → (a || b) ≡ true
-or_second true b e = refl
-or_second false b e = e
+use Rattle.et_traces.proofs.Standing.{behind, Stands, both, fault_free, timely}
 
 or_other : (a b : Bool) → (a || b) ≡ true → a ≡ false → b ≡ true
 or_other true b e f = absurd (true≢false f)
 or_other false b e f = e
-
-apart_test : (a b : ℕ) → (a ≡ b → ⊥) → (a == b) ≡ false
-apart_test a b ne = by (a == b) refl
-  where
-    by : (x : Bool) → (a == b) ≡ x → x ≡ false
-    by false e = refl
-    by true e = absurd (ne (eqb-true a b e))
 
 -- DEATHS
 
@@ -87,11 +63,11 @@ pub alive_is_unlisted : (here gone : ℕ → Bool) (time : ℕ → ℕ) (n o : �
 alive_is_unlisted here gone time zero o alive = refl
 alive_is_unlisted here gone time (suc n) o alive =
     list_any-append (λ (d : ℕ × ℕ). d.0 == o) (deaths_to here gone time n) (if here (suc n) || gone (suc n) then [] else (suc n, time (suc n)) ∷ [])
-    ∙ neither (lists (deaths_to here gone time n) o) (lists (if here (suc n) || gone (suc n) then [] else (suc n, time (suc n)) ∷ []) o) (alive_is_unlisted here gone time n o alive) (by (here (suc n) || gone (suc n)) refl)
+    ∙ or_from (lists (deaths_to here gone time n) o) (lists (if here (suc n) || gone (suc n) then [] else (suc n, time (suc n)) ∷ []) o) (alive_is_unlisted here gone time n o alive) (by (here (suc n) || gone (suc n)) refl)
   where
     by : (b : Bool) → (here (suc n) || gone (suc n)) ≡ b → lists (if b then [] else (suc n, time (suc n)) ∷ []) o ≡ false
     by true e = refl
-    by false e = neither (suc n == o) false (apart_test (suc n) o (λ same. true≢false (sym (subst (λ (k : ℕ). here k ≡ true) (sym same) alive) ∙ (or_none (here (suc n)) (gone (suc n)) e).0))) refl
+    by false e = or_from (suc n == o) false (ne_eqb (suc n) o (λ same. true≢false (sym (subst (λ (k : ℕ). here k ≡ true) (sym same) alive) ∙ (or_parts (here (suc n)) (gone (suc n)) e).0))) refl
 
 abbrev pub death_lines : List (ℕ × ℕ) → List TraceLine
 death_lines ds = map (λ (d : ℕ × ℕ). Death d.0 d.1) ds
@@ -100,8 +76,8 @@ death_lines ds = map (λ (d : ℕ × ℕ). Death d.0 d.1) ds
 pub unlisted_stays : (ds : List (ℕ × ℕ)) (past : List TraceLine) (o : ℕ) → lists ds o ≡ false → is_reported past o ≡ false → is_reported (behind past (death_lines ds)) o ≡ false
 unlisted_stays [] past o out h = h
 unlisted_stays (d ∷ ds) past o out h =
-    let parts = or_none (d.0 == o) (lists ds o) out in
-    unlisted_stays ds (Death d.0 d.1 ∷ past) o parts.1 (neither (d.0 == o) (is_reported past o) parts.0 h)
+    let parts = or_parts (d.0 == o) (lists ds o) out in
+    unlisted_stays ds (Death d.0 d.1 ∷ past) o parts.1 (or_from (d.0 == o) (is_reported past o) parts.0 h)
 
 -- A FLUSH UNDER WAY
 
@@ -164,7 +140,7 @@ module _ (names : Names) (version every e next : ℕ) (event_within : e ≤ 2 ^ 
       let lives : nat_le (slice_index (births past) (o - 1)) time ≡ true = le-leb (slice_index (births past) (o - 1)) time (let a = h.births_within o some made in let b = d.born in omega arith) in
       let within : time ≤ e = d.within in
       record {
-        fine = (h.fine, ((omega arith, omega arith), omega arith), fault_free past (Death o time) h.unended (both (both more rises) timed) known lives (negates (is_reported past o) none));
+        fine = (h.fine, ((omega arith, omega arith), omega arith), fault_free past (Death o time) h.unended (both (both more rises) timed) known lives (not_from_false (is_reported past o) none));
         begun = refl;
         unended = refl;
         awaited_is = (let a = h.awaited_is in omega arith);
@@ -176,12 +152,12 @@ module _ (names : Names) (version every e next : ℕ) (event_within : e ≤ 2 ^ 
         named = h.named;
         made = h.made;
         few = h.few;
-        none_reported = neither (o == 0) (is_reported past 0) (apart_test o 0 (λ same. omega (arith, same))) h.none_reported;
+        none_reported = or_from (o == 0) (is_reported past 0) (ne_eqb o 0 (λ same. omega (arith, same))) h.none_reported;
         reported_made = λ x is. elim (cases_eq o x) [
           | inl same ↦ omega (arith, same)
-          | inr ne ↦ h.reported_made x (or_other (o == x) (is_reported past x) is (apart_test o x ne))
+          | inr ne ↦ h.reported_made x (or_other (o == x) (is_reported past x) is (ne_eqb o x ne))
         ];
-        unreported = λ x lt here. neither (o == x) (is_reported past x) (apart_test o x (λ same. omega (arith, same, lt))) (h.unreported x (omega (arith, lt)) here);
+        unreported = λ x lt here. or_from (o == x) (is_reported past x) (ne_eqb o x (λ same. omega (arith, same, lt))) (h.unreported x (omega (arith, lt)) here);
         births_within = h.births_within;
       }
 
@@ -229,7 +205,7 @@ module _ (names : Names) (version every e next : ℕ) (event_within : e ≤ 2 ^ 
     where
       misses_none : (every e : ℕ) → misses_no_flush every (Some e) (suc e) ≡ true
       misses_none zero e = refl
-      misses_none (suc n) e = or_second (suc n == 0) (nat_le ((suc e - 1) / suc n) (e / suc n)) (le-leb ((suc e - 1) / suc n) (e / suc n) (let same : suc e - 1 ≡ e = omega arith in subst (λ (x : ℕ). x / suc n ≤ e / suc n) (sym same) (omega arith)))
+      misses_none (suc n) e = or_right (suc n == 0) (nat_le ((suc e - 1) / suc n) (e / suc n)) (le-leb ((suc e - 1) / suc n) (e / suc n) (let same : suc e - 1 ≡ e = omega arith in subst (λ (x : ℕ). x / suc n ≤ e / suc n) (sym same) (omega arith)))
 
 -- WHERE NO FLUSH IS DUE
 
@@ -264,8 +240,8 @@ same_rows n (suc k) out =
 still_none : (every e : ℕ) (newest : Option ℕ) → is_flush_point every e ≡ false → misses_no_flush every newest e ≡ true → misses_no_flush every newest (suc e) ≡ true
 still_none zero e newest out h = refl
 still_none (suc n) e newest out h =
-    let was : nat_le ((e - 1) / suc n) (unwrap_or newest 0 / suc n) ≡ true = or_other (suc n == 0) (nat_le ((e - 1) / suc n) (unwrap_or newest 0 / suc n)) h (apart_test (suc n) 0 (λ none. omega (arith, none))) in
-    or_second (suc n == 0) (nat_le ((suc e - 1) / suc n) (unwrap_or newest 0 / suc n))
+    let was : nat_le ((e - 1) / suc n) (unwrap_or newest 0 / suc n) ≡ true = or_other (suc n == 0) (nat_le ((e - 1) / suc n) (unwrap_or newest 0 / suc n)) h (ne_eqb (suc n) 0 (λ none. omega (arith, none))) in
+    or_right (suc n == 0) (nat_le ((suc e - 1) / suc n) (unwrap_or newest 0 / suc n))
     (subst (λ (x : ℕ). nat_le x (unwrap_or newest 0 / suc n) ≡ true) (sym (same_rows n e out)) was)
 
 still_before : (newest : Option ℕ) (e : ℕ) → is_before newest e ≡ true → is_before newest (suc e) ≡ true

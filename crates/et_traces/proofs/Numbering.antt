@@ -3,7 +3,7 @@ use Rattle.std.proofs.Common.{◌≡◌, ℕ, ◌+◌, ◌<◌, ◌≤◌, ◌^�
 use Rattle.std.specs.Prelude.{bytes_eq}
 use Rattle.std.specs.List.{IsDistinct, list_any, position_or_len, prefix_len}
 use Rattle.std.specs.Cmp.{nat_eq_equiv}
-use Rattle.std.proofs.lemmas.Bool.{eq-eqb, eqb-true, true≢false}
+use Rattle.std.proofs.lemmas.Bool.{eq-eqb, eqb-true, true≢false, or_right, or_left, or_cases}
 use Rattle.std.proofs.lemmas.List.Folds.{list_any-append}
 use Rattle.std.proofs.lemmas.List.Sums.{passes_at_first}
 use Rattle.std.proofs.lemmas.Map.Keys.{IsDistinct-push}
@@ -22,17 +22,6 @@ pub record AreTellable (names : Names) : Type 0 where
 
 abbrev pub IsIn : List ℕ → ℕ → Type 0
 IsIn seen x = list_any (λ y. x == y) seen ≡ true
-
-or_left : (a b : Bool) → a ≡ true → (a || b) ≡ true
-or_left a b e = rw e refl
-
-or_cases : (a b : Bool) → (a || b) ≡ true → (a ≡ true) ⊎ (b ≡ true)
-or_cases true b e = inl refl
-or_cases false b e = inr e
-
-or_right : (a b : Bool) → b ≡ true → (a || b) ≡ true
-or_right true b e = refl
-or_right false b e = e
 
 pub in_more : (seen : List ℕ) (y x : ℕ) → IsIn seen x → IsIn (seen ++ y ∷ []) x
 in_more seen y x h = list_any-append (λ z. x == z) seen (y ∷ []) ∙ or_left (list_any (λ z. x == z) seen) (list_any (λ z. x == z) (y ∷ [])) h

@@ -3,6 +3,7 @@ use Rattle.std.proofs.Common.{◌≡◌, ℕ, ◌+◌, ◌<◌, ◌==◌, ◌&&�
 use Rattle.std.specs.Prelude.{All, if◌then◌else◌}
 use Rattle.std.proofs.lemmas.Bool.{and_parts, or_cases, leb-true, eqb-true, false≢true}
 use Rattle.std.proofs.lemmas.List.Elements.{All-nil, All-cons}
+use Rattle.std.proofs.lemmas.Option.{none-some, same_Some}
 use Rattle.et_base.specs.Marks.{Mark, mark}
 use Rattle.et_pool.specs.declared.tags.TheConstants.{UTF8, CLASS}
 use Rattle.et_pool.specs.Entries.{Item, Text, Word, Wide, Name, Pair, Handle}
@@ -16,7 +17,7 @@ use Rattle.et_class.specs.Names.{has}
 use Rattle.et_class.specs.Rules.{pool_marks, header_marks, members_marks, header_of, members_of}
 use Rattle.et_class.specs.Spelling.{ArePoolSlots}
 use Rattle.et_linked.proofs.Marks.{well_before, well_first, along_each}
-use Rattle.et_history.proofs.PoolWords.{AreTexts, each_at, nothing, pool_texts, some_same}
+use Rattle.et_history.proofs.PoolWords.{AreTexts, each_at, pool_texts}
 
 abbrev pub AreSmall : List ℕ → Type 0
 AreSmall bytes = All (λ b. b < 256) bytes
@@ -87,25 +88,25 @@ texts_small = pool_texts AreSmall (λ bytes h. modified_small bytes h.0)
 -- THE NAMES of Class entries
 
 name_some : (o : Option (List ℕ)) (name : List ℕ) → is_name o ≡ true → o ≡ Some name → 0 < length name
-name_some None name h e = absurd (nothing name e)
+name_some None name h e = absurd (none-some name e)
 name_some (Some []) name h e = absurd (false≢true h)
-name_some (Some (a ∷ bytes)) name h e = subst (λ (n : List ℕ). 0 < length n) (some_same (a ∷ bytes) name e) (omega arith)
+name_some (Some (a ∷ bytes)) name h e = subst (λ (n : List ℕ). 0 < length n) (same_Some (a ∷ bytes) name e) (omega arith)
 
 abbrev IsNamedSlot : List (Option Item) → Option Item → Type 0
 IsNamedSlot slots s = (name : List ℕ) → named_by slots CLASS s ≡ Some name → 0 < length name
 
 fit_named : (slots : List (Option Item)) (s : Option Item) → is_fit_slot slots s ≡ true → IsNamedSlot slots s
-fit_named slots None h name e = absurd (nothing name e)
-fit_named slots (Some (Text bytes)) h name e = absurd (nothing name e)
-fit_named slots (Some (Word tag bits)) h name e = absurd (nothing name e)
-fit_named slots (Some (Wide tag bits)) h name e = absurd (nothing name e)
+fit_named slots None h name e = absurd (none-some name e)
+fit_named slots (Some (Text bytes)) h name e = absurd (none-some name e)
+fit_named slots (Some (Word tag bits)) h name e = absurd (none-some name e)
+fit_named slots (Some (Wide tag bits)) h name e = absurd (none-some name e)
 fit_named slots (Some (Name tag index)) h name e = by (tag == CLASS) h e
   where
     by : (b : Bool) → (if b then is_name (utf8_at slots index) else (tag_at slots index == UTF8)) ≡ true → (if b then utf8_at slots index else None) ≡ Some name → 0 < length name
     by true f k = name_some (utf8_at slots index) name f k
-    by false f k = absurd (nothing name k)
-fit_named slots (Some (Pair tag first second)) h name e = absurd (nothing name e)
-fit_named slots (Some (Handle kind index)) h name e = absurd (nothing name e)
+    by false f k = absurd (none-some name k)
+fit_named slots (Some (Pair tag first second)) h name e = absurd (none-some name e)
+fit_named slots (Some (Handle kind index)) h name e = absurd (none-some name e)
 
 pub classes_named : (bytes : List ℕ) (c : ClassOf) → IsClassFile bytes c → (i : ℕ) (name : List ℕ) → class_name_at c.slots i ≡ Some name → 0 < length name
 classes_named bytes c is i =
@@ -113,4 +114,4 @@ classes_named bytes c is i =
     let fit : All (IsNamedSlot c.slots) c.slots =
     along_each (IsNamedSlot c.slots) slot_bytes (λ before place s. mark place POOL (is_fit_slot c.slots s) ∷ []) (λ before place s w. fit_named c.slots s (well_first _ [] w)) [] 10 c.slots
     (well_before (pool_marks c.slots) behind (record { none = is.rules })) in
-    each_at (IsNamedSlot c.slots) c.slots i None (λ name e. absurd (nothing name e)) fit
+    each_at (IsNamedSlot c.slots) c.slots i None (λ name e. absurd (none-some name e)) fit

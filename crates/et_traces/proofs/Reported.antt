@@ -1,5 +1,5 @@
 -- What was reported in a history in which nothing is freed is reached no more.
-use Rattle.std.proofs.Common.{◌≡◌, ℕ, suc, ◌+◌, ◌-◌, ◌<◌, ◌≤◌, ◌↔◌, Bool, true, Some, Contains, sym, ◌∙◌, subst, IsTrue, arith, rules}
+use Rattle.std.proofs.Common.{◌≡◌, ℕ, suc, ◌+◌, ◌-◌, ◌<◌, ◌≤◌, ◌↔◌, Bool, true, Some, Contains, sym, ◌∙◌, subst, arith}
 use Rattle.et_graph.specs.Graph.{Graph, IsReached, Decides}
 use Rattle.et_graph.proofs.Sound.{reached_held}
 use Rattle.et_heap.specs.Objects.{ObjectState, Objects, IsHeld, at}
@@ -15,9 +15,7 @@ use Rattle.et_history.specs.Histories.{state_at, whole_picked, whole_at}
 use Rattle.et_history.specs.Same.{IsHere, IsReportedAs, TellsTheSame}
 use Rattle.et_history.specs.Whole.{whole_start}
 use Rattle.et_history.proofs.Reporting.{IsFlushed, as_there, reported_next, settled_to, there_some}
-
-now_is : (b : Bool) → b ≡ true → IsTrue b
-now_is b e = search (rules, e)
+use Rattle.et_history.proofs.Wholes.{now_is}
 
 -- THE HISTORY
 module _ (reached : Graph → ℕ → Bool) (p : Linked) (options : Options) (pick : ℕ → ℕ) where

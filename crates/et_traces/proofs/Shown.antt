@@ -1,5 +1,5 @@
 -- A snapshot of a trace shows the state that its event left.
-use Rattle.std.proofs.Common.{◌≡◌, ℕ, zero, suc, ◌+◌, ◌-◌, ◌<◌, ◌≤◌, nat_le, not, ◌&&◌, ◌==◌, ◌⊎◌, Bool, true, false, List, [], ◌∷◌, ◌++◌, filter, length, Option, Some, None, Contains, refl, sym, ◌∙◌, ap, subst, inl, inr, arith, append-nil}
+use Rattle.std.proofs.Common.{◌≡◌, ℕ, zero, suc, ◌+◌, ◌-◌, ◌<◌, ◌≤◌, nat_le, not, ◌&&◌, ◌==◌, ◌⊎◌, Bool, true, false, List, [], ◌∷◌, ◌++◌, filter, length, Contains, refl, sym, ◌∙◌, ap, subst, inl, inr, arith, append-nil}
 use Rattle.std.specs.Prelude.{All, if◌then◌else◌, slice_index_or}
 use Rattle.std.proofs.lemmas.Bool.{cases_eq, eqb-true, false_from_ne_true, le-leb, true≢false}
 use Rattle.std.specs.List.{flat_map}
@@ -11,12 +11,11 @@ use Rattle.et_base.specs.declared.value.Value.{Value}
 use Rattle.et_base.specs.declared.value.Value.TheVariants.{Unset, Int, Long, LongHigh, Null, Ref}
 use Rattle.et_base.proofs.Lists.{Contains-here, Contains-none, Contains-there, Contains-cons, filter_kept, filter_keeps}
 use Rattle.et_graph.specs.Graph.{Graph, Decides, IsReached}
-use Rattle.et_heap.specs.Objects.{ObjectState, IsHeld, at, found, is_there, object_at, slot_of}
+use Rattle.et_heap.specs.Objects.{ObjectState, IsHeld, object_at, slot_of}
 use Rattle.et_heap.specs.Refs.{refs_of, refs_of_value}
 use Rattle.et_heap.proofs.HeapLists.{held_within}
 use Rattle.et_program.specs.Entries.{Linked}
 use Rattle.et_state.specs.History.{deaths, flush_lines, how_of, lines_to, records_at, trace_of}
-use Rattle.et_state.specs.Past.{first_of}
 use Rattle.et_state.specs.Roots.{graph, graph_of, numbers_from, roots_of}
 use Rattle.et_state.specs.State.{GuestState, State, Kept}
 use Rattle.et_state.specs.Words.{static_at}
@@ -31,6 +30,7 @@ use Rattle.et_history.specs.Histories.{whole_picked}
 use Rattle.et_history.specs.Slots.{IsOfEvent, told_by}
 use Rattle.et_history.specs.Whole.{whole_start}
 use Rattle.et_history.proofs.Reporting.{found_before}
+use Rattle.et_history.proofs.Allocations.{held_in}
 use Rattle.et_replay.specs.Curve.{dies_before}
 use Rattle.et_snapshot.specs.Snapshot.{content}
 use Rattle.et_traces.specs.LiveBytes.{is_reached_from}
@@ -82,14 +82,6 @@ place_refers (v ∷ vs) (suc i) t is some = Contains-append_right (refs_of_value
 
 static_root : (g : GuestState) (t : ℕ) → Contains (refs_of g.statics) t → Contains (roots_of g) t
 static_root g t c = Contains-append_right (flat_map thread_roots g.threads) _ t (Contains-append_left (refs_of g.statics) (interned_objects g.interned) t c)
-
--- an object that is held
-held_in : (s : State) (o : ℕ) → IsHeld s.kept.heap o → object_in s o ≡ object_at s.kept.heap o
-held_in s o held = by (at s.kept.heap o) held
-  where
-    by : (x : Option ObjectState) → is_there x → found (first_of x (at s.reported o)) ≡ found x
-    by None h = absurd h
-    by (Some x) h = refl
 
 no_zero : (o : ℕ) → 0 < o → (o == 0) ≡ false
 no_zero o some = false_from_ne_true (o == 0) (λ h. let same : o ≡ 0 = eqb-true o 0 h in absurd (omega (arith, same, some)))

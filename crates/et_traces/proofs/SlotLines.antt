@@ -2,7 +2,7 @@
 use Rattle.std.proofs.Common.{◌≡◌, ℕ, zero, suc, ◌+◌, ◌<◌, ◌≤◌, ◌==◌, ◌&&◌, nat_le, Bool, true, false, List, [], ◌∷◌, ◌++◌, Option, Some, None, refl, sym, ◌∙◌, ap, inl, inr, arith}
 use Rattle.std.specs.Prelude.{All, if◌then◌else◌, map, length, unwrap_or}
 use Rattle.std.specs.List.{cons_option, filter_map, flat_map, last_or, list_any}
-use Rattle.std.proofs.lemmas.Bool.{cases_eq, eq-eqb, eqb-true, false_from_ne_true, le-leb, lt-leb}
+use Rattle.std.proofs.lemmas.Bool.{cases_eq, eq-eqb, le-leb, lt-leb, ne_eqb}
 use Rattle.std.proofs.lemmas.List.Elements.{All-head, All-tail}
 use Rattle.et_base.specs.declared.line.TraceLine.{TraceLine}
 use Rattle.et_base.specs.declared.line.TraceLine.TheVariants as line
@@ -17,12 +17,8 @@ use Rattle.et_history.proofs.Reporting.{if_known}
 use Rattle.et_snapshot.specs.Snapshot.{content, put_into, write_by}
 use Rattle.et_walk.specs.Writes.{after_record}
 
--- numbers are the same either way round
-differs : (a b : ℕ) → (a ≡ b → ⊥) → (a == b) ≡ false
-differs a b ne = false_from_ne_true (a == b) (λ h. ne (eqb-true a b h))
-
 turned : (a b : ℕ) → (a == b) ≡ (b == a)
-turned a b = elim (cases_eq a b) [ inl same ↦ eq-eqb a b same ∙ sym (eq-eqb b a (sym same)) | inr ne ↦ differs a b ne ∙ sym (differs b a (λ e. ne (sym e))) ]
+turned a b = elim (cases_eq a b) [ inl same ↦ eq-eqb a b same ∙ sym (eq-eqb b a (sym same)) | inr ne ↦ ne_eqb a b ne ∙ sym (ne_eqb b a (λ e. ne (sym e))) ]
 
 module _ (e o i : ℕ) where
   -- what stands in the slot after a line that may write to the object

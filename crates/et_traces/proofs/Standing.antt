@@ -2,7 +2,7 @@
 use Rattle.std.proofs.Common.{◌≡◌, ℕ, ◌+◌, ◌-◌, ◌<◌, ◌≤◌, ◌^◌, ◌==◌, ◌⊎◌, Bool, true, false, not, ◌&&◌, List, [], ◌∷◌, ◌++◌, length, Option, None, refl, sym, ◌∙◌, ap, subst, inl, inr, arith, length-append}
 use Rattle.std.specs.Prelude.{nat_le, if◌then◌else◌, slice_index}
 use Rattle.std.specs.List.{list_any, flat_map}
-use Rattle.std.proofs.lemmas.Bool.{cases_lt, le-leb, eq-eqb, and_from}
+use Rattle.std.proofs.lemmas.Bool.{cases_lt, le-leb, eq-eqb, and_from, not_from_false}
 use Rattle.std.proofs.lemmas.List.{get_or_append_left}
 use Rattle.std.proofs.Math.Seq.{get_or-append_seam}
 use Rattle.et_base.specs.declared.line.TraceLine.{TraceLine}
@@ -53,11 +53,8 @@ pub record Stands (names : Names) (version every e next : ℕ) (live : ℕ → T
 
 -- RULES
 
-both : {a b : Bool} → a ≡ true → b ≡ true → (a && b) ≡ true
+pub both : {a b : Bool} → a ≡ true → b ≡ true → (a && b) ≡ true
 both {a} {b} e f = and_from a b e f
-
-negates : (b : Bool) → b ≡ false → not b ≡ true
-negates b e = rw e refl
 
 pub fault_free : (past : List TraceLine) (l : TraceLine) → has_ended past ≡ false → keeps_order past l ≡ true → is_known past l ≡ true → keeps_lives past l ≡ true → is_new past l ≡ true → next_fault past l ≡ None
 fault_free past l unended order known lives new = rw (unended, order, known, lives, new) refl
@@ -65,7 +62,7 @@ fault_free past l unended order known lives new = rw (unended, order, known, liv
 pub open_is : (every e : ℕ) (past : List TraceLine) → Rests past → Flows every e (interval past) (latest past) (newest_flush past) → is_open past ≡ true
 open_is every e past rests flows =
     both (both rests.0 (eq-eqb (awaited past) 0 rests.2))
-    (negates (is_final (interval past) (newest_flush past)) (subst (λ (n : ℕ). is_final n (newest_flush past) ≡ false) (sym flows.interval_is) flows.not_final))
+    (not_from_false (is_final (interval past) (newest_flush past)) (subst (λ (n : ℕ). is_final n (newest_flush past) ≡ false) (sym flows.interval_is) flows.not_final))
 
 pub timely : (every e : ℕ) (past : List TraceLine) → Rests past → Flows every e (interval past) (latest past) (newest_flush past) → is_timely past e ≡ true
 timely every e past rests flows =
@@ -92,8 +89,8 @@ module _ (next : ℕ) (live : ℕ → Type 0) (last : ℕ → ℕ) (bs : List �
   named_known o (inr some) = le-leb o (length bs) (let a = some.0 in let b = h.made in omega arith)
 
   pub named_here : (o : ℕ) → IsNamed next live o → not (reported o) ≡ true
-  named_here o (inl none) = negates (reported o) (ap (λ (x : ℕ). reported x) none ∙ h.none_reported)
-  named_here o (inr some) = negates (reported o) (h.unreported o some.1)
+  named_here o (inl none) = not_from_false (reported o) (ap (λ (x : ℕ). reported x) none ∙ h.none_reported)
+  named_here o (inr some) = not_from_false (reported o) (h.unreported o some.1)
 
   pub named_range : (o : ℕ) → IsNamed next live o → o < 2 ^ 24
   named_range o (inl none) = omega arith
@@ -117,7 +114,7 @@ module _ (names : Names) (fit : AreTellable names) (version every e : ℕ) (with
           let l : TraceLine = line.Class (length m.classes + 1) (names.class_name c) in
           let number : (length m.classes + 1 == classes past + 1) ≡ true = eq-eqb (length m.classes + 1) (classes past + 1) (let same = n.classes_are in omega arith) in
           let none : has_class past (names.class_name c) ≡ false = class_is_new names fit m _ _ _ _ n c inside new in
-          let free : next_fault past l ≡ None = fault_free past l h.rests.1 (both (open_is every e past h.rests h.flows) number) refl refl (negates (has_class past (names.class_name c)) none) in
+          let free : next_fault past l ≡ None = fault_free past l h.rests.1 (both (open_is every e past h.rests h.flows) number) refl refl (not_from_false (has_class past (names.class_name c)) none) in
           record {
             fine = (h.fine, (class_in_range names fit m _ _ _ _ n c inside new, fit.apart.class_texts c inside, λ is. fit.short.class_names c inside), free);
             rests = (refl, refl, refl);
@@ -142,7 +139,7 @@ module _ (names : Names) (fit : AreTellable names) (version every e : ℕ) (with
           let number : (length m.methods + 1 == methods past + 1) ≡ true = eq-eqb (length m.methods + 1) (methods past + 1) (let same = n.methods_are in omega arith) in
           let known : nat_le c (classes past) ≡ true = le-leb c (classes past) (let le = number_within m.classes (names.method_class k) owner in let same = n.classes_are in omega arith) in
           let none : has_method past c (names.method_name k) (names.method_descriptor k) ≡ false = method_is_new names fit m _ _ _ _ n k inside new owner in
-          let free : next_fault past l ≡ None = fault_free past l h.rests.1 (both (open_is every e past h.rests h.flows) number) known refl (negates (has_method past c (names.method_name k) (names.method_descriptor k)) none) in
+          let free : next_fault past l ≡ None = fault_free past l h.rests.1 (both (open_is every e past h.rests h.flows) number) known refl (not_from_false (has_method past c (names.method_name k) (names.method_descriptor k)) none) in
           record {
             fine = (h.fine, (method_in_range names fit m _ _ _ _ n k inside new owner, class_number names fit m _ _ _ _ n (names.method_class k) owner, fit.apart.method_texts k inside, fit.apart.descriptor_texts k inside, λ is. fit.short.method_names k inside, λ is. fit.short.descriptors k inside), free);
             rests = (refl, refl, refl);

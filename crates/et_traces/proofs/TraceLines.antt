@@ -1,12 +1,10 @@
 -- The lines of every history keep the rules.
-use Rattle.std.proofs.Common.{◌≡◌, ℕ, zero, suc, ◌+◌, ◌-◌, ◌/◌, ◌<◌, ◌≤◌, ◌^◌, ◌==◌, ◌↔◌, Bool, true, false, eqb, ◌||◌, List, [], ◌∷◌, ◌++◌, length, Option, Some, None, All, Contains, refl, sym, ◌∙◌, ap, subst, inl, inr, arith, rules}
-use Rattle.std.specs.Prelude.{◌%◌, if◌then◌else◌, slice_index, IsTrue, nat_le, reverse}
+use Rattle.std.proofs.Common.{◌≡◌, ℕ, zero, suc, ◌+◌, ◌-◌, ◌/◌, ◌<◌, ◌≤◌, ◌^◌, ◌==◌, ◌↔◌, Bool, true, false, eqb, ◌||◌, List, [], ◌∷◌, ◌++◌, length, Option, Some, None, All, refl, sym, ◌∙◌, ap, subst, inl, inr, arith}
+use Rattle.std.specs.Prelude.{if◌then◌else◌, nat_le, reverse}
 use Rattle.std.specs.List.{list_any, IsDistinct}
-use Rattle.std.proofs.Math.Nat.{mod-lt}
-use Rattle.std.proofs.lemmas.Bool.{eq-eqb, le-leb, true≢false}
+use Rattle.std.proofs.lemmas.Bool.{le-leb, true≢false}
 use Rattle.std.proofs.lemmas.List.{append-nil, append_assoc, reverse-append}
-use Rattle.std.proofs.lemmas.List.Elements.{Contains-get_or}
-use Rattle.et_base.proofs.Lists.{Contains-none, Contains-cons}
+use Rattle.et_base.proofs.Lists.{contains_has}
 use Rattle.et_base.specs.declared.line.TraceLine.{TraceLine}
 use Rattle.et_base.specs.declared.line.TraceLine.TheVariants.{Header, Finish}
 use Rattle.et_base.specs.declared.value.End.{End}
@@ -46,7 +44,8 @@ use Rattle.et_history.specs.Same.{TellsTheSame}
 use Rattle.et_history.specs.Settings.{IsSoundRun, unended_threads}
 use Rattle.et_walk.specs.Telling.{IsToldOf, names_of_program}
 use Rattle.et_history.specs.Whole.{beside, whole_flushed, whole_start}
-use Rattle.et_history.proofs.Unended.{unended_thread}
+use Rattle.et_history.proofs.Alike.{is_open}
+use Rattle.et_history.proofs.Wholes.{picked_unended, now_is, is_now}
 use Rattle.et_traces.specs.Good.{AreNamesApart, AreNamesShort}
 use Rattle.et_traces.proofs.Numbering.{AreTellable}
 use Rattle.et_traces.proofs.Standing.{behind, behind_both, Stands}
@@ -69,49 +68,14 @@ reversed ls = behind_reversed [] ls ∙ append-nil (reverse ls)
 
 -- WHAT THE HISTORY SAYS
 
-is_now : (b : Bool) → IsTrue b → b ≡ true
-is_now b t = search (rules, t)
-
-now_is : (b : Bool) → b ≡ true → IsTrue b
-now_is b e = search (rules, e)
-
 -- a history that goes on: some thread has not ended, and the next event is done
-record Open (a b : Bool) (z : Option End) : Type 0 where
-  some : a ≡ false
-  done : z ≡ None
-
-is_open : (a b : Bool) (x y : End) (z : Option End) → (if a then Some x else (if b then Some y else z)) ≡ None → Open a b z
-is_open true b x y z e = cc
-is_open false true x y z e = cc
-is_open false false x y z e = record { some = refl; done = e }
-
-picked_unended : (s : Kept) (k : ℕ) → (length (unended_threads s) == 0) ≡ false → IsUnended s.guest (slice_index (unended_threads s) (k % length (unended_threads s)))
-picked_unended s k some = by (length (unended_threads s)) refl
-  where
-    us : List ℕ
-    us = unended_threads s
-
-    by : (n : ℕ) → length us ≡ n → IsUnended s.guest (slice_index us (k % length us))
-    by zero e = absurd (true≢false (sym (eq-eqb (length us) 0 e) ∙ some))
-    by (suc n) e =
-        let positive : 0 < length us = omega arith in
-        unended_thread s.guest (slice_index us (k % length us)) (Contains-get_or us (k % length us) 0 (mod-lt k positive))
-
-listed : (xs : List ℕ) (o : ℕ) → Contains xs o → list_any (λ x. x == o) xs ≡ true
-listed [] o c = absurd (Contains-none o c)
-listed (x ∷ xs) o c = elim (Contains-cons x xs o c) [ inl same ↦ rw (eq-eqb x o same) refl | inr more ↦ or_right (x == o) _ (listed xs o more) ]
-  where
-    or_right : (a b : Bool) → b ≡ true → (a || b) ≡ true
-    or_right true b e = refl
-    or_right false b e = e
-
 -- an object that was made and is not gone is held
 still_held : (heap : Objects) (o : ℕ) → 0 < o → o < length heap → list_any (λ x. x == o) (gone_of heap) ≡ false → IsHeld heap o
 still_held heap o some lt out = by (at heap o) refl
   where
     by : (x : Option ObjectState) → at heap o ≡ x → is_there x
     by (Some x) e = tt
-    by None e = absurd (true≢false (sym (listed (gone_of heap) o (at_gone heap o some lt (λ held. subst (λ (x : Option ObjectState). is_there x) e held))) ∙ out))
+    by None e = absurd (true≢false (sym (contains_has (gone_of heap) o (at_gone heap o some lt (λ held. subst (λ (x : Option ObjectState). is_there x) e held))) ∙ out))
 
 none_twice : IsDistinct eqb []
 unfolding IsDistinct

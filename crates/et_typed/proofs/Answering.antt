@@ -6,6 +6,7 @@ use Rattle.std.specs.Str.{bytes_eq}
 use Rattle.std.proofs.lemmas.Bool.{and_parts, false≢true, not-true}
 use Rattle.std.proofs.lemmas.Slice.Eq.{bytes_eq-Decides}
 use Rattle.std.proofs.lemmas.List.{get_or_append_left, length-set}
+use Rattle.std.proofs.lemmas.Option.{none-some, same_Some}
 use Rattle.et_base.specs.declared.value.Value.{Value}
 use Rattle.et_base.specs.declared.value.Value.TheVariants as value
 use Rattle.et_class.specs.Descriptors.{after_dimensions, after_name, is_void, types_of, width_of}
@@ -47,7 +48,6 @@ use Rattle.et_typed.specs.Typed.{HasTypedSlots, IsTypedThread, Typings}
 use Rattle.et_typed.specs.Values.{AreOperandsOf}
 use Rattle.et_typed.proofs.CallRows.{Calls, DoesBuiltIn, built_in_refuses, left_operands}
 use Rattle.et_typed.proofs.Here.{Here, leaves, unless_refused}
-use Rattle.et_typed.proofs.Moves.{none_some, some_same}
 use Rattle.et_typed.proofs.Own.{LeavesTyped, Own, own_by, slot_threads}
 use Rattle.et_typed.proofs.Ways.{throws_here, unless_thrown, unless_waiting}
 
@@ -71,7 +71,7 @@ unfolding types_of after_dimensions after_name
 all_answer = refl
 
 answers_by : (m : MethodInfo) (b : BuiltIn) (rs : List (List ℕ × List ℕ × BuiltIn)) → list_all row_answers rs ≡ true → option_map (λ (row : List ℕ × List ℕ × BuiltIn). row.2) (find (is_called m.name m.descriptor) rs) ≡ Some b → answers_as (entries_answered b) (returned_of m) ≡ true
-answers_by m b [] all e = absurd (none_some b e)
+answers_by m b [] all e = absurd (none-some b e)
 answers_by m b (row ∷ rs) all e = by (is_called m.name m.descriptor row) refl e (answers_by m b rs parts.1)
   where
     parts : (row_answers row ≡ true) × (list_all row_answers rs ≡ true)
@@ -81,7 +81,7 @@ answers_by m b (row ∷ rs) all e = by (is_called m.name m.descriptor row) refl 
         → (option_map (λ (r : List ℕ × List ℕ × BuiltIn). r.2) (find (is_called m.name m.descriptor) rs) ≡ Some b → answers_as (entries_answered b) (returned_of m) ≡ true) → answers_as (entries_answered b) (returned_of m) ≡ true
     by true is q more =
         let type : row.1 ≡ m.descriptor = (bytes_eq-Decides row.1 m.descriptor).0 (and_parts (bytes_eq row.0 m.name) (bytes_eq row.1 m.descriptor) is).1 in
-        let same : row.2 ≡ b = some_same row.2 b q in
+        let same : row.2 ≡ b = same_Some row.2 b q in
         subst (λ (k : BuiltIn). answers_as (entries_answered k) (returned_of m) ≡ true) same (subst (λ (d : List ℕ). answers_as (entries_answered row.2) (returned_of (described d)) ≡ true) type parts.0)
     by false is q more = more q
 
@@ -89,7 +89,7 @@ answers_typed : (m : MethodInfo) (b : BuiltIn) → built_in_of m ≡ Some b → 
 answers_typed m b e = by (has m.flags ABSTRACT) e
   where
     by : (x : Bool) → (if x then None else option_map (λ (row : List ℕ × List ℕ × BuiltIn). row.2) (find (is_called m.name m.descriptor) built_ins)) ≡ Some b → answers_as (entries_answered b) (returned_of m) ≡ true
-    by true q = absurd (none_some b q)
+    by true q = absurd (none-some b q)
     by false q = answers_by m b built_ins all_answer q
 
 -- .. so what is left is of the types after it

@@ -4,6 +4,7 @@ use Rattle.std.specs.Prelude.{map, reverse}
 use Rattle.std.specs.List.{flat_map}
 use Rattle.std.proofs.lemmas.List.{map-append, reverse-append, reverse-reverse, length-reverse, take-map, drop-map, append_assoc, append-nil}
 use Rattle.std.proofs.lemmas.List.Concat.{flat_map-append}
+use Rattle.std.proofs.lemmas.Option.{same_Some}
 use Rattle.et_base.specs.declared.value.Value.{Value}
 use Rattle.et_base.specs.declared.value.Value.TheVariants as value
 use Rattle.et_class.specs.PoolOperands.Operand.{Operand}
@@ -18,11 +19,8 @@ use Rattle.et_verify.proofs.Taken.{Takes, takes}
 
 -- WHAT IS TAKEN is the first of the types
 
-some_same : (xs ys : List EntryType) → Some xs ≡ Some ys → xs ≡ ys
-some_same xs ys e = cc
-
 pub taken_first : (kinds : List Operand) (types left : List EntryType) → below_taken kinds types ≡ Some left → types ≡ flat_map operand_entries kinds ++ left
-taken_first [] types left e = some_same types left e
+taken_first [] types left e = same_Some types left e
 taken_first (kind ∷ kinds) types left e =
     let t : Takes kind kinds types left = takes kind kinds types left e in
     t.types_are ∙ (ap (λ (xs : List EntryType). operand_entries kind ++ xs) (taken_first kinds t.rest left t.more) ∙ sym (append_assoc (operand_entries kind) (flat_map operand_entries kinds) left))

@@ -6,6 +6,7 @@ use Rattle.std.specs.Str.{bytes_eq}
 use Rattle.std.specs.Result.{result_ok}
 use Rattle.std.proofs.lemmas.Bool.{le-leb, not-true, true≢false}
 use Rattle.std.proofs.lemmas.List.{length-append, length-map, length-set}
+use Rattle.std.proofs.lemmas.Option.{none-some, same_Some}
 use Rattle.et_base.specs.declared.value.Value.{Value}
 use Rattle.et_class.specs.Descriptors.{MethodType, is_void, method_type, width_of}
 use Rattle.et_class.specs.Names.{has}
@@ -57,7 +58,7 @@ use Rattle.et_typed.specs.Values.{AreLocalsOf, AreOperandsOf}
 use Rattle.et_typed.proofs.Arguments.{Passes, arguments_are, passed}
 use Rattle.et_typed.proofs.Here.{Here, never_refused, there_holds, unless_refused}
 use Rattle.et_spoken.proofs.Called.{result_some}
-use Rattle.et_typed.proofs.Moves.{none_some, some_same, width_is}
+use Rattle.et_typed.proofs.Moves.{width_is}
 use Rattle.et_typed.proofs.Own.{AsBefore, LeavesTyped, Own, ends_leave, first_typed, same_thread, started_still, thread_own}
 use Rattle.et_typed.proofs.Plain.{MovesAs, moves_as}
 use Rattle.et_typed.proofs.Starting.{all_some, arguments_local, count_is, entries_are}
@@ -83,19 +84,19 @@ module _ (at : Site) (static : Bool) (before after : List EntryType) where
   calls_kinds : (x : Member) (type : MethodType) (o : Option (List Operand)) → site_member at ≡ Some x → method_type x.descriptor ≡ Some type → all_kinds (map operand_kind type.parameters) ≡ o
       → call_effect at static ≡ option_map (λ kinds. record { taken = reverse (arguments_with static kinds); given = returned_kind type.returned }) o
       → moved_where (option_map (λ kinds. record { taken = reverse (arguments_with static kinds); given = returned_kind type.returned }) o) before ≡ Some after → Calls at static before after
-  calls_kinds x type None named typed all is h = absurd (none_some after h)
+  calls_kinds x type None named typed all is h = absurd (none-some after h)
   calls_kinds x type (Some kinds) named typed all is h =
       let does : Effect = record { taken = reverse (arguments_with static kinds); given = returned_kind type.returned } in
       let m : MovesAs does before after = moves_as does before after h in
       record { member = x; named = named; type = type; typed = typed; kinds = kinds; all = all_some (map operand_kind type.parameters) kinds all; does = does; effect_is = is; does_is = refl; left = m.left; taken = m.taken; given = m.given }
 
   calls_type : (x : Member) (o : Option MethodType) → site_member at ≡ Some x → method_type x.descriptor ≡ o → call_effect at static ≡ option_and_then (type_effect static) o → moved_where (option_and_then (type_effect static) o) before ≡ Some after → Calls at static before after
-  calls_type x None named typed is h = absurd (none_some after h)
+  calls_type x None named typed is h = absurd (none-some after h)
   calls_type x (Some type) named typed is h = calls_kinds x type (all_kinds (map operand_kind type.parameters)) named typed refl is h
 
   calls_member : (o : Option Member) → site_member at ≡ o → call_effect at static ≡ option_and_then (λ (m : Member). option_and_then (type_effect static) (method_type m.descriptor)) o
       → moved_where (option_and_then (λ (m : Member). option_and_then (type_effect static) (method_type m.descriptor)) o) before ≡ Some after → Calls at static before after
-  calls_member None named is h = absurd (none_some after h)
+  calls_member None named is h = absurd (none-some after h)
   calls_member (Some x) named is h = calls_type x (method_type x.descriptor) named refl is h
 
   pub calls : moved_where (call_effect at static) before ≡ Some after → Calls at static before after
@@ -129,7 +130,7 @@ pub begins_typed : (e : Moment) (typings : Typings) (k : ℕ) (body : Body) (typ
     → Holds (typings k) (method_frame e.program k body arguments)
 begins_typed e typings k body type static kinds arguments all lt code typed params flags are =
     let t : IsTyping e.program k body (typings k) = all.typing k body lt code in
-    let same : t.type ≡ type = some_same t.type type (sym t.typed ∙ typed) in
+    let same : t.type ≡ type = same_Some t.type type (sym t.typed ∙ typed) in
     let locals : (first_types e.program k body t.type).locals ≡ with_free body.max_locals (flat_map local_entries (arguments_with static kinds)) =
     ap (λ (x : MethodType). with_free body.max_locals (argument_entries (is_static e.program k || is_initializing e.program k) (map operand_kind x.parameters))) same
     ∙ (ap (λ (b : Bool). with_free body.max_locals (argument_entries b (map operand_kind type.parameters))) flags
@@ -372,7 +373,7 @@ module _ (e : Moment) (typings : Typings) (m : ℕ) (at : Site) (ts us : TypesOf
     where
       by : (kind : CallKind) (here : Here e typings m at (rows.Call (call.Invoke kind)) ts us) (c : Calls at (is_static_call kind) ts.operands us.operands) → Resolved e typings m at kind ts us here c owner n → IsMethod e.program c.member.name c.member.descriptor n
           → is_static e.program n ≡ is_static_call kind → first_reference (args e typings m at kind ts us here c) ≡ Some o → selected e at kind owner n o ≡ Some k → (is_static_call kind ≡ false) × IsCalled e kind c.member c.type k
-      by Static here c so is wants receiver chosen = absurd (none_some k chosen)
+      by Static here c so is wants receiver chosen = absurd (none-some k chosen)
       by Virtual here c so is instance receiver chosen = (
         refl,
         called_on e typings m at Virtual ts us here c k o refl receiver

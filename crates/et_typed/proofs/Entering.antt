@@ -1,8 +1,8 @@
 -- A thread is entered, and an initializer goes on.
-use Rattle.std.proofs.Common.{◌≡◌, ℕ, ◌<◌, ◌==◌, ◌||◌, Bool, true, false, List, [], ◌∷◌, length, Option, Some, None, IsSome, refl, sym, ◌∙◌, ap, subst, arith, inr, zero, suc}
+use Rattle.std.proofs.Common.{◌≡◌, ℕ, ◌<◌, ◌==◌, Bool, true, false, List, [], ◌∷◌, length, Option, Some, None, IsSome, refl, sym, ◌∙◌, ap, subst, arith, inr, zero, suc}
 use Rattle.std.specs.Prelude.{if◌then◌else◌, codes, find, not, take_while, slice_index_or}
 use Rattle.std.specs.Str.{bytes_eq}
-use Rattle.std.proofs.lemmas.Bool.{eqb-true, false≢true, true≢false}
+use Rattle.std.proofs.lemmas.Bool.{eqb-true, false≢true, true≢false, or_right, or_left, or_from}
 use Rattle.std.proofs.lemmas.List.{length-set}
 use Rattle.et_base.specs.declared.value.Value.{Value}
 use Rattle.et_base.specs.declared.value.Value.TheVariants.{Ref}
@@ -61,18 +61,6 @@ pub void_is : method_type (codes "()V") ≡ Some void_typed
 unfolding types_of after_dimensions after_name
 void_is = refl
 
-true_either : (a b : Bool) → a ≡ true → (a || b) ≡ true
-true_either true b e = refl
-true_either false b e = absurd (false≢true e)
-
-neither : (a b : Bool) → a ≡ false → b ≡ false → (a || b) ≡ false
-neither true b p q = absurd (true≢false p)
-neither false b p q = q
-
-pub true_other : (a b : Bool) → b ≡ true → (a || b) ≡ true
-true_other true b e = refl
-true_other false b e = e
-
 module _ (e : Moment) (typings : Typings) (calm : Calm e typings) where
   abbrev P : Outcome Kept → Type 0
   P o = LeavesTyped e typings o
@@ -111,7 +99,7 @@ module _ (e : Moment) (typings : Typings) (calm : Calm e typings) where
       subst (λ (x : Option ℕ). P (enters_first e d (entry_arguments x) e.program.main)) (sym entry)
       (first_typed_event e.program.main (Ref o ∷ []) d bare same (λ body code.
       begins_typed e typings e.program.main body main_typed true (operand.Reference ∷ []) (Ref o ∷ []) calm.kinds calm.may.methods.main code (ap method_type calm.may.methods.main_type ∙ main_is) refl
-      (true_either (is_static e.program e.program.main) (is_initializing e.program e.program.main) calm.may.methods.main_static) refl)))
+      (or_left (is_static e.program e.program.main) (is_initializing e.program e.program.main) calm.may.methods.main_static) refl)))
 
   run_entered : (thread_of e).frames ≡ [] → turn_of (thread_of e) ≡ Entry → (o : ℕ) → (thread_of e).object ≡ Some o → P (enters_run e (Some o))
   run_entered bare turn o object =
@@ -123,7 +111,7 @@ module _ (e : Moment) (typings : Typings) (calm : Calm e typings) where
       let instance : IsInstanceMethod e.program (method_at e.program n).name (method_at e.program n).descriptor k = selected_method e.program (object_class (begins e) o) n false k is.within (calm.may.run n found) chosen in
       first_typed_event k (Ref o ∷ []) (begins e) bare refl (λ body code.
       begins_typed e typings k body void_typed false [] (Ref o ∷ []) calm.kinds instance.method.within code (ap method_type (instance.method.descriptor ∙ is.descriptor) ∙ void_is) refl
-      (neither (is_static e.program k) (is_initializing e.program k) instance.instance (ap (λ (name : List ℕ). bytes_eq name (codes "<clinit>")) (instance.method.named ∙ is.named))) refl))))
+      (or_from (is_static e.program k) (is_initializing e.program k) instance.instance (ap (λ (name : List ℕ). bytes_eq name (codes "<clinit>")) (instance.method.named ∙ is.named))) refl))))
     where
       refused_or : (b : Bool) (go : Outcome Kept) → (b ≡ false → IsRefused e) → P go → P (ill_typed_unless e b go)
       refused_or true go fails h = h
@@ -201,7 +189,7 @@ module _ (e : Moment) (typings : Typings) (calm : Calm e typings) where
         let i : IsInitializer e.program k = calm.may.initializers.clinits c k lt q in
         let named = calm.kinds.initializers c k lt q in
         let h : Holds (typings k) (method_frame e.program k i.body []) =
-        begins_typed e typings k i.body void_typed true [] [] calm.kinds i.method i.code (ap method_type named.1 ∙ void_is) refl (true_other (is_static e.program k) (is_initializing e.program k) named.0) refl in
+        begins_typed e typings k i.body void_typed true [] [] calm.kinds i.method i.code (ap method_type named.1 ∙ void_is) refl (or_right (is_static e.program k) (is_initializing e.program k) named.0) refl in
         let first : Holds (typings k) (in_clinit k i.body.max_stack i.body.max_locals (current_frame e)) = record { types = h.types; at_pc = h.at_pc; locals = h.locals; operands = h.operands } in
         ends_leave e typings (told (Enter d.state.guest.clock e.thread k 0) (with_frame e (in_clinit k (present_body (method_at e.program k).code).max_stack (present_body (method_at e.program k).code).max_locals (current_frame e)) d))
         (clinit_own k d same (subst (λ (b : Body). Holds (typings k) (in_clinit k b.max_stack b.max_locals (current_frame e))) (sym (ap present_body i.code)) first))

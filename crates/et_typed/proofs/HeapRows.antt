@@ -29,11 +29,12 @@ use Rattle.et_program.specs.Resolution.{resolve_class, resolve_field}
 use Rattle.et_program.specs.Types.{passes}
 use Rattle.et_sound.proofs.Fields.{IsField, field_found, field_value}
 use Rattle.et_typed.proofs.Held.{arrays_threads, element_read}
-use Rattle.et_typed.proofs.Moves.{some_same, Gives, NamesClass, Reads, Writes, gives, names_class, reads, read_entries, takes_all, width_is, writes}
+use Rattle.et_typed.proofs.Moves.{Gives, NamesClass, Reads, Writes, gives, names_class, reads, read_entries, takes_all, width_is, writes}
 use Rattle.et_event.specs.Checks.{not_null, throws_unless}
 use Rattle.et_event.specs.declared.errors.GuestError.{GuestError}
 use Rattle.std.specs.Prelude.{slice_index_or}
 use Rattle.std.proofs.lemmas.List.{append_assoc}
+use Rattle.std.proofs.lemmas.Option.{same_Some}
 use Rattle.et_state.specs.Outcome.{Outcome}
 use Rattle.et_state.specs.State.{Kept}
 use Rattle.et_state.specs.Threads.{operand_of}
@@ -130,7 +131,7 @@ module _ (e : Moment) (typings : Typings) (m : ℕ) (at : Site) (r : HeapRow) (t
   get_static_typed is h =
       let x : Member = h.member in
       let g : Gives [] (result_kind x.descriptor) ts.operands us.operands = h.gives in
-      let given : us.operands ≡ operand_entries (result_kind x.descriptor) ++ ts.operands = g.given ∙ ap (λ (xs : List EntryType). operand_entries (result_kind x.descriptor) ++ xs) (sym (some_same ts.operands g.left g.taken)) in
+      let given : us.operands ≡ operand_entries (result_kind x.descriptor) ++ ts.operands = g.given ∙ ap (λ (xs : List EntryType). operand_entries (result_kind x.descriptor) ++ xs) (sym (same_Some ts.operands g.left g.taken)) in
       where_field (site_member at) x _ h.named h.field
       (never_refused e typings m at (rows.Heap r) ts us here (field_fits e ops x) _ (fits (width_of x.descriptor) ops (result_kind x.descriptor) ts.operands given here.operands (sym (width_is x.descriptor)))
       (field_resolved x _ (λ f found.
@@ -162,7 +163,7 @@ module _ (e : Moment) (typings : Typings) (m : ℕ) (at : Site) (r : HeapRow) (t
       let y : Doing = leaving_values e at below d in
       let z : Doing = static_written e (field_at e.program f).slot (narrowed x.descriptor v) y in
       ends_leave e typings z (own_by e typings y z (static_threads e (field_at e.program f).slot (narrowed x.descriptor v) y)
-      (leaves e typings m at (rows.Heap r) ts us here below d same refl refl (are ∙ some_same rest us.operands last))))))))))
+      (leaves e typings m at (rows.Heap r) ts us here below d same refl refl (are ∙ same_Some rest us.operands last))))))))))
 
   -- the object of a field, so far below the top
   holder : (x : Member) (f : ℕ) (z : Reference) (place : Member → ℕ) (go : ℕ → Outcome Kept) → site_member at ≡ Some x → Found x f → operand_of (current_frame e) (place x) ≡ referent_value z → (FailsHolder e at place → FailsRow e at (rows.Heap r))
@@ -178,7 +179,7 @@ module _ (e : Moment) (typings : Typings) (m : ℕ) (at : Site) (r : HeapRow) (t
       let g : Gives (operand.Reference ∷ []) (result_kind x.descriptor) ts.operands us.operands = h.gives in
       where_field (site_member at) x _ h.named h.field
       (reference_taken P (ill_typed e) [] ops ts.operands g.left _ here.operands g.taken (λ z below rest stands are last.
-      let left : us.operands ≡ operand_entries (result_kind x.descriptor) ++ rest = g.given ∙ ap (λ (xs : List EntryType). operand_entries (result_kind x.descriptor) ++ xs) (sym (some_same rest g.left last)) in
+      let left : us.operands ≡ operand_entries (result_kind x.descriptor) ++ rest = g.given ∙ ap (λ (xs : List EntryType). operand_entries (result_kind x.descriptor) ++ xs) (sym (same_Some rest g.left last)) in
       never_refused e typings m at (rows.Heap r) ts us here (field_fits e below x) _ (fits (width_of x.descriptor) below (result_kind x.descriptor) rest left are (sym (width_is x.descriptor)))
       (field_resolved x _ (λ f found.
       thrown errors.IncompatibleClassChangeError (not (is_static_at e.program f)) _ (λ instance.
@@ -202,7 +203,7 @@ module _ (e : Moment) (typings : Typings) (m : ℕ) (at : Site) (r : HeapRow) (t
       let held : operand_of (current_frame e) (width_of x.descriptor) ≡ referent_value z =
       ap (λ (n : ℕ). slice_index_or ops n value.Unset) wide ∙ (ap (λ (vs : List Value). slice_index_or vs (length (entries_of v)) value.Unset) (there ∙ ap (λ (vs : List Value). entries_of v ++ vs) stands) ∙ behind (entries_of v) (referent_value z) below) in
       holder x f z (λ (y : Member). width_of y.descriptor) _ h.named found held (λ fails. subst (λ (q : HeapRow). FailsRow e at (rows.Heap q)) (sym is) fails) (λ o z_is below_it.
-      wrote o (field_at e.program f).slot (narrowed x.descriptor v) below (are2 ∙ some_same rest2 us.operands last))))))))
+      wrote o (field_at e.program f).slot (narrowed x.descriptor v) below (are2 ∙ same_Some rest2 us.operands last))))))))
 
   -- ELEMENTS
 
@@ -217,7 +218,7 @@ module _ (e : Moment) (typings : Typings) (m : ℕ) (at : Site) (r : HeapRow) (t
   load_element_typed kind is g =
       int_at P (ill_typed e) (operand.Reference ∷ []) ops ts.operands g.left _ here.operands g.taken (λ i more rest there are next.
       reference_taken P (ill_typed e) [] more rest g.left _ are next (λ z below rest2 stands are2 last.
-      let left : us.operands ≡ operand_entries (kind_of_elements kind) ++ rest2 = g.given ∙ ap (λ (xs : List EntryType). operand_entries (kind_of_elements kind) ++ xs) (sym (some_same rest2 g.left last)) in
+      let left : us.operands ≡ operand_entries (kind_of_elements kind) ++ rest2 = g.given ∙ ap (λ (xs : List EntryType). operand_entries (kind_of_elements kind) ++ xs) (sym (same_Some rest2 g.left last)) in
       let top : operand_of (current_frame e) 1 ≡ referent_value z = ap (λ (vs : List Value). slice_index_or vs 1 value.Unset) (there ∙ ap (λ (vs : List Value). value.Int i ∷ vs) stands) in
       element kind z i 1 _ top (λ o held other. subst (λ (q : HeapRow). FailsRow e at (rows.Heap q)) (sym is) (o, held, other)) (λ o z_is elements within.
       let v : Value = slot_of (object_at e.before.heap o) (natural_of i) in
@@ -238,7 +239,7 @@ module _ (e : Moment) (typings : Typings) (m : ℕ) (at : Site) (r : HeapRow) (t
       ap (λ (k : ℕ). slice_index_or ops k value.Unset) long ∙ (ap (λ (vs : List Value). slice_index_or vs (length (entries_of v ++ value.Int i ∷ [])) value.Unset) same ∙ behind (entries_of v ++ value.Int i ∷ []) (referent_value z) below) in
       element kind z i (n + 1) _ top (λ o held other. subst (λ (q : HeapRow). FailsRow e at (rows.Heap q)) (sym is) (o, held, other)) (λ o z_is elements within.
       thrown errors.ArrayStoreException (passes_element e v (element_of_array e o)) _ (λ passed.
-      wrote o (natural_of i) (kept_element kind v) below (are3 ∙ some_same rest3 us.operands last))))))
+      wrote o (natural_of i) (kept_element kind v) below (are3 ∙ same_Some rest3 us.operands last))))))
 
   array_length_typed : r ≡ heap.ArrayLength → Gives (operand.Reference ∷ []) operand.Int ts.operands us.operands → P (array_length e at)
   array_length_typed is g =
@@ -246,19 +247,19 @@ module _ (e : Moment) (typings : Typings) (m : ℕ) (at : Site) (r : HeapRow) (t
       not_none z _ (λ o z_is.
       unless_refused e typings m at (rows.Heap r) ts us here (is_array_element (element_of_array e o)) _
       (λ other. subst (λ (q : HeapRow). FailsRow e at (rows.Heap q)) (sym is) (o, ap (λ (vs : List Value). slice_index_or vs 0 value.Unset) stands ∙ ap referent_value z_is, other))
-      (λ array. done (value.Int (pos (length_of e o)) ∷ below) (on_left (value.Int (pos (length_of e o)) ∷ []) below operand.Int rest (g.given ∙ ap (λ (xs : List EntryType). entry.Int ∷ xs) (sym (some_same rest g.left last))) refl are))))
+      (λ array. done (value.Int (pos (length_of e o)) ∷ below) (on_left (value.Int (pos (length_of e o)) ∷ []) below operand.Int rest (g.given ∙ ap (λ (xs : List EntryType). entry.Int ∷ xs) (sym (same_Some rest g.left last))) refl are))))
 
   -- MAKING
 
   one_reference : (o : ℕ) (below : List Value) (rest left : List EntryType) → us.operands ≡ operand_entries operand.Reference ++ left → Some rest ≡ Some left → AreOperandsOf below rest → AreOperandsOf (value.Ref o ∷ below) us.operands
-  one_reference o below rest left given last are = on_left (value.Ref o ∷ []) below operand.Reference rest (given ∙ ap (λ (xs : List EntryType). entry.Reference ∷ xs) (sym (some_same rest left last))) refl are
+  one_reference o below rest left given last are = on_left (value.Ref o ∷ []) below operand.Reference rest (given ∙ ap (λ (xs : List EntryType). entry.Reference ∷ xs) (sym (same_Some rest left last))) refl are
 
   new_typed : NamesClass (class_operand at) (giving [] operand.Reference) ts.operands us.operands → P (new_instance e at)
   new_typed h =
       let g : Gives [] operand.Reference ts.operands us.operands = gives [] operand.Reference ts.operands us.operands h.moves in
       where_class (class_operand at) h.name _ h.named
       (never_refused e typings m at (rows.Heap r) ts us here (leb (1 + length ops) (current_frame e).room) _
-      (fits 1 ops operand.Reference ts.operands (g.given ∙ ap (λ (xs : List EntryType). entry.Reference ∷ xs) (sym (some_same ts.operands g.left g.taken))) here.operands refl)
+      (fits 1 ops operand.Reference ts.operands (g.given ∙ ap (λ (xs : List EntryType). entry.Reference ∷ xs) (sym (same_Some ts.operands g.left g.taken))) here.operands refl)
       (class_resolved h.name _ (λ class found.
       thrown errors.InstantiationError (may_be_made e.program class) _ (λ may.
       where_initialized e typings here.calm class (begins e) _ refl (begun_well e typings here.calm) (λ d same well.
@@ -285,7 +286,7 @@ module _ (e : Moment) (typings : Typings) (m : ℕ) (at : Site) (r : HeapRow) (t
 
   lengths_typed : (n : ℕ) (given : List ℤ) (vs : List Value) (types left : List EntryType) (go : List ℤ → List Value → Outcome Kept) → AreOperandsOf vs types → below_taken (replicate n operand.Int) types ≡ Some left
       → ((ls : List ℤ) (below : List Value) → AreOperandsOf below left → P (go ls below)) → P (with_lengths n given (ill_typed e) vs go)
-  lengths_typed zero given vs types left go are taken h = h given vs (are ∙ some_same types left taken)
+  lengths_typed zero given vs types left go are taken h = h given vs (are ∙ same_Some types left taken)
   lengths_typed (suc n) given vs types left go are taken h =
       int_taken P (ill_typed e) (replicate n operand.Int) vs types left _ are taken (λ i below rest are2 more.
       lengths_typed n (i ∷ given) below rest left go are2 more h)
@@ -307,7 +308,7 @@ module _ (e : Moment) (typings : Typings) (m : ℕ) (at : Site) (r : HeapRow) (t
       let g : Gives (operand.Reference ∷ []) operand.Reference ts.operands us.operands = gives (operand.Reference ∷ []) operand.Reference ts.operands us.operands h.moves in
       where_class (class_operand at) h.name _ h.named
       (reference_taken P (ill_typed e) [] ops ts.operands g.left _ here.operands g.taken (λ z below rest stands are last.
-      by z below (λ v top. on_left (v ∷ []) below operand.Reference rest (g.given ∙ ap (λ (xs : List EntryType). entry.Reference ∷ xs) (sym (some_same rest g.left last))) top are)))
+      by z below (λ v top. on_left (v ∷ []) below operand.Reference rest (g.given ∙ ap (λ (xs : List EntryType). entry.Reference ∷ xs) (sym (same_Some rest g.left last))) top are)))
     where
       by : (z : Reference) (below : List Value) → ((v : Value) → map type_of (v ∷ []) ≡ entry.Reference ∷ [] → AreOperandsOf (v ∷ below) us.operands) → P (cast e at h.name below z)
       by None below k = done (value.Null ∷ below) (k value.Null refl)
@@ -324,7 +325,7 @@ module _ (e : Moment) (typings : Typings) (m : ℕ) (at : Site) (r : HeapRow) (t
       let g : Gives (operand.Reference ∷ []) operand.Int ts.operands us.operands = gives (operand.Reference ∷ []) operand.Int ts.operands us.operands h.moves in
       where_class (class_operand at) h.name _ h.named
       (reference_taken P (ill_typed e) [] ops ts.operands g.left _ here.operands g.taken (λ z below rest stands are last.
-      by z below (λ b. on_left (truth b ∷ []) below operand.Int rest (g.given ∙ ap (λ (xs : List EntryType). entry.Int ∷ xs) (sym (some_same rest g.left last))) (ap (λ (t : EntryType). t ∷ []) (truth_int b)) are)))
+      by z below (λ b. on_left (truth b ∷ []) below operand.Int rest (g.given ∙ ap (λ (xs : List EntryType). entry.Int ∷ xs) (sym (same_Some rest g.left last))) (ap (λ (t : EntryType). t ∷ []) (truth_int b)) are)))
     where
       by : (z : Reference) (below : List Value) → ((b : Bool) → AreOperandsOf (truth b ∷ below) us.operands) → P (type_tested e at h.name below z)
       by None below k = done (truth false ∷ below) (k false)

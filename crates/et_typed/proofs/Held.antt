@@ -1,6 +1,6 @@
 -- What is read of an array is of its kind, and arrays that are made change no thread.
 use Rattle.std.proofs.Common.{◌≡◌, ℕ, true, List, [], ◌∷◌, length, Option, Some, None, refl, sym, ◌∙◌, subst, inl, inr, suc, zero}
-use Rattle.std.proofs.lemmas.Bool.{cases_lt, false≢true}
+use Rattle.std.proofs.lemmas.Bool.{cases_lt}
 use Rattle.std.proofs.lemmas.List.{get_or_past}
 use Rattle.et_base.specs.declared.value.Value.{Value}
 use Rattle.et_base.specs.declared.value.Value.TheVariants.{Ref, Unset}
@@ -10,27 +10,18 @@ use Rattle.et_event.specs.Kinds.{are_elements, kind_of_elements}
 use Rattle.et_event.specs.Moments.{Doing, Moment, array_made, next_object}
 use Rattle.et_event.specs.Sound.{IsSoundFor, IsSoundObject, is_of_kind}
 use Rattle.et_event.specs.declared.rows.Elements.{Elements}
-use Rattle.et_event.specs.declared.rows.Elements.TheVariants as elements
 use Rattle.et_heap.specs.Objects.{ObjectState, at, found, object_at, slot_of}
 use Rattle.et_program.specs.Entries.{Linked, class_at}
 use Rattle.et_program.specs.declared.info.Element.{Element}
-use Rattle.et_program.specs.declared.info.Element.TheVariants.{NoArray}
 use Rattle.et_sound.proofs.Values.{element_kind}
 use Rattle.et_state.specs.State.{Kept}
 use Rattle.et_typed.proofs.Own.{slot_threads}
+use Rattle.et_walk.proofs.Rows.{no_elements}
 
 -- nothing was written to it
 unset_kind : (k : Option Operand) → is_of_kind k Unset ≡ true
 unset_kind None = refl
 unset_kind (Some kind) = refl
-
-no_elements : (kind : Elements) → are_elements kind NoArray ≡ true → ⊥
-no_elements elements.Int h = false≢true h
-no_elements elements.Long h = false≢true h
-no_elements elements.Reference h = false≢true h
-no_elements elements.Byte h = false≢true h
-no_elements elements.Char h = false≢true h
-no_elements elements.Short h = false≢true h
 
 element_in : (p : Linked) (kind : Elements) (i : ℕ) (x : Option ObjectState) → ((y : ObjectState) → x ≡ Some y → IsSoundObject p y) → are_elements kind (class_at p (found x).class).info.element ≡ true → is_of_kind (Some (kind_of_elements kind)) (slot_of (found x) i) ≡ true
 element_in p kind i None sound are = refl

@@ -3,7 +3,7 @@ use Rattle.std.proofs.Common.{◌-◌, ◌≡◌, ℕ, ◌+◌, ◌<◌, ◌==�
 use Rattle.std.specs.Prelude.{All, IfSome, codes, if◌then◌else◌, is_some}
 use Rattle.std.specs.List.{list_all, slice_index_or}
 use Rattle.std.specs.Str.{bytes_eq}
-use Rattle.std.proofs.lemmas.Bool.{and_parts, cases_eq, eqb-true, false≢true, true≢false, not-true}
+use Rattle.std.proofs.lemmas.Bool.{and_parts, cases_eq, false≢true, true≢false, not-true, ne_eqb}
 use Rattle.std.proofs.lemmas.List.Elements.{All-cons, All-map, All-nil}
 use Rattle.et_base.proofs.Positions.{Passes, position_passes}
 use Rattle.et_class.specs.Descriptors.{after_class, after_dimensions, after_element, is_base, is_field_descriptor, is_floating, is_text_end}
@@ -43,13 +43,6 @@ use Rattle.et_program.specs.declared.info.MethodInfo.{MethodInfo}
 
 -- A TYPE that is neither D nor F, nor an array over them, has operands
 
-not_eqb : (a b : ℕ) → (a ≡ b → ⊥) → (a == b) ≡ false
-not_eqb a b ne = by (a == b) refl
-  where
-    by : (c : Bool) → (a == b) ≡ c → (a == b) ≡ false
-    by true e = absurd (ne (eqb-true a b e))
-    by false e = e
-
 none_of : (a b c d e f g h : Bool) → a ≡ false → b ≡ false → c ≡ false → d ≡ false → e ≡ false → f ≡ false → g ≡ false → h ≡ false → (a || b || c || d || e || f || g || h) ≡ false
 none_of true b c d e f g h p1 p2 p3 p4 p5 p6 p7 p8 = absurd (true≢false p1)
 none_of false true c d e f g h p1 p2 p3 p4 p5 p6 p7 p8 = absurd (true≢false p2)
@@ -76,8 +69,8 @@ operand_there [] h f = absurd (nothing_typed h)
 operand_there (a ∷ rest) h f =
     letter 91 refl (λ n91. letter 76 refl (λ n76. letter 66 refl (λ n66. letter 67 refl (λ n67. letter 73 refl (λ n73. letter 74 refl (λ n74. letter 83 refl (λ n83. letter 90 refl (λ n90.
     floating 68 (λ q. true≢false q) (λ n68. floating 70 (λ q. true≢false q) (λ n70.
-    absurd (true≢false (sym h ∙ no_type a rest (not_eqb a 91 n91) (not_eqb a 76 n76)
-    (none_of (a == 66) (a == 67) (a == 68) (a == 70) (a == 73) (a == 74) (a == 83) (a == 90) (not_eqb a 66 n66) (not_eqb a 67 n67) (not_eqb a 68 n68) (not_eqb a 70 n70) (not_eqb a 73 n73) (not_eqb a 74 n74) (not_eqb a 83 n83) (not_eqb a 90 n90))))))))))))))
+    absurd (true≢false (sym h ∙ no_type a rest (ne_eqb a 91 n91) (ne_eqb a 76 n76)
+    (none_of (a == 66) (a == 67) (a == 68) (a == 70) (a == 73) (a == 74) (a == 83) (a == 90) (ne_eqb a 66 n66) (ne_eqb a 67 n67) (ne_eqb a 68 n68) (ne_eqb a 70 n70) (ne_eqb a 73 n73) (ne_eqb a 74 n74) (ne_eqb a 83 n83) (ne_eqb a 90 n90))))))))))))))
   where
     letter : (n : ℕ) → IsSome (operand_kind (n ∷ rest)) → ((a ≡ n → ⊥) → IsSome (operand_kind (a ∷ rest))) → IsSome (operand_kind (a ∷ rest))
     letter n some more = elim (cases_eq a n) [

@@ -2,6 +2,7 @@
 use Rattle.std.proofs.Common.{◌⊎◌, ◌≡◌, ℕ, ◌++◌, ◌==◌, ◌||◌, Bool, true, false, List, [], ◌∷◌, length, Option, Some, None, IsSome, refl, sym, ◌∙◌, ap, subst, inl, inr}
 use Rattle.std.specs.Prelude.{if◌then◌else◌, map, unwrap_or, option_map, option_and_then}
 use Rattle.std.proofs.lemmas.Bool.{eqb-true}
+use Rattle.std.proofs.lemmas.Option.{none-some}
 use Rattle.et_base.specs.declared.value.Value.{Value}
 use Rattle.et_base.specs.declared.value.Value.TheVariants as value
 use Rattle.et_class.specs.PoolOperands.Operand.{Operand}
@@ -17,12 +18,6 @@ use Rattle.et_verify.specs.Effects.{Effect, described_by, giving, result_kind, t
 use Rattle.et_verify.specs.Steps.{below_taken, moved_where}
 use Rattle.et_flow.specs.Types.{operand_entries, type_of}
 use Rattle.et_typed.proofs.Plain.{MovesAs, moves_as}
-
-pub none_some : {A : Type 0} (x : A) → None ≡ Some x → ⊥
-none_some x q = cc
-
-pub some_same : {A : Type 0} (x y : A) → Some x ≡ Some y → x ≡ y
-some_same x y q = cc
 
 pub false_true : false ≡ true → ⊥
 false_true q = cc
@@ -53,12 +48,12 @@ pub record Reads (o : Option Member) (kinds : List Operand) (before after : List
   pub gives : Gives kinds (result_kind member.descriptor) before after
 
 pub reads : (o : Option Member) (kinds : List Operand) (before after : List EntryType) → moved_where (option_map (λ type. giving kinds (result_kind type)) (described_by o)) before ≡ Some after → Reads o kinds before after
-reads None kinds before after h = absurd (none_some after h)
+reads None kinds before after h = absurd (none-some after h)
 reads (Some m) kinds before after h = by (is_field_descriptor m.descriptor) refl h
   where
     by : (b : Bool) → is_field_descriptor m.descriptor ≡ b → moved_where (option_map (λ type. giving kinds (result_kind type)) (if b then Some m.descriptor else None)) before ≡ Some after → Reads (Some m) kinds before after
     by true q k = record { member = m; named = refl; field = q; gives = gives kinds (result_kind m.descriptor) before after k }
-    by false q k = absurd (none_some after k)
+    by false q k = absurd (none-some after k)
 
 -- .. or written
 pub record Writes (o : Option Member) (below : List Operand) (before after : List EntryType) : Type 0 where
@@ -70,16 +65,16 @@ pub record Writes (o : Option Member) (below : List Operand) (before after : Lis
   pub taken : below_taken (kind ∷ below) before ≡ Some after
 
 pub writes : (o : Option Member) (below : List Operand) (before after : List EntryType) → moved_where (option_map (λ kind. taking (kind ∷ below)) (option_and_then operand_kind (described_by o))) before ≡ Some after → Writes o below before after
-writes None below before after h = absurd (none_some after h)
+writes None below before after h = absurd (none-some after h)
 writes (Some m) below before after h = by (is_field_descriptor m.descriptor) refl h
   where
     of_kind : (k : Option Operand) → operand_kind m.descriptor ≡ k → is_field_descriptor m.descriptor ≡ true → moved_where (option_map (λ kind. taking (kind ∷ below)) k) before ≡ Some after → Writes (Some m) below before after
-    of_kind None q f j = absurd (none_some after j)
+    of_kind None q f j = absurd (none-some after j)
     of_kind (Some kind) q f j = record { member = m; named = refl; field = f; kind = kind; kind_is = q; taken = takes_all (kind ∷ below) before after j }
 
     by : (b : Bool) → is_field_descriptor m.descriptor ≡ b → moved_where (option_map (λ kind. taking (kind ∷ below)) (option_and_then operand_kind (if b then Some m.descriptor else None))) before ≡ Some after → Writes (Some m) below before after
     by true q k = of_kind (operand_kind m.descriptor) refl q k
-    by false q k = absurd (none_some after k)
+    by false q k = absurd (none-some after k)
 
 -- a class is named
 pub record NamesClass (o : Option (List ℕ)) (x : Effect) (before after : List EntryType) : Type 0 where
@@ -88,7 +83,7 @@ pub record NamesClass (o : Option (List ℕ)) (x : Effect) (before after : List 
   pub moves : moved_where (Some x) before ≡ Some after
 
 pub names_class : (o : Option (List ℕ)) (x : Effect) (before after : List EntryType) → moved_where (option_map (λ name. x) o) before ≡ Some after → NamesClass o x before after
-names_class None x before after h = absurd (none_some after h)
+names_class None x before after h = absurd (none-some after h)
 names_class (Some name) x before after h = record { name = name; named = refl; moves = h }
 
 -- VALUES OF KINDS

@@ -3,6 +3,7 @@ use Rattle.std.proofs.Common.{◌-◌, ◌≡◌, ◌⊎◌, ℕ, ◌<◌, ◌�
 use Rattle.std.specs.Prelude.{codes, is_some, slice_index_or}
 use Rattle.std.proofs.lemmas.Bool.{cases_eq, cases_lt}
 use Rattle.std.proofs.lemmas.List.{get_or_append_left, get_or-append_right, get_or_past, length-append, length-set}
+use Rattle.std.proofs.lemmas.Option.{none-some, same_Some}
 use Rattle.et_base.specs.declared.value.Value.{Value}
 use Rattle.et_base.specs.declared.value.Value.TheVariants.{Int, Long, LongHigh, Null, Ref, Unset}
 use Rattle.et_class.specs.PoolOperands.Operand.TheVariants.{Reference}
@@ -30,7 +31,6 @@ use Rattle.et_state.specs.Words.{static_at, thread_at, with_static, with_string}
 use Rattle.et_state.specs.declared.stage.Stage.{Stage}
 use Rattle.et_state.specs.declared.stage.Stage.TheVariants.{Before, Clinit, Plain}
 use Rattle.et_walk.specs.Steps.{AllObjects, Begins, BeginsClass, Catches, ClassBecomes, Comes, CountsEntered, Drops, Ends, EntersClinit, EntersCode, EntersMonitor, GoesOn, Interns, IsReference, LeavesMonitor, MakesArray, MakesInstance, MayTell, Pends, Phase, Polls, Returns, SetsQueue, SetsReferent, Starts, Unwinds, UnwindsClinit, WritesSlot, WritesStatic}
-use Rattle.et_typed.proofs.Moves.{none_some, some_same}
 use Rattle.et_typed.specs.Typed.{HasTypedSlots, IsTypedThread, Typings}
 
 -- OBJECTS
@@ -57,8 +57,8 @@ found_typed p heap o all = by (at heap o) refl
 set_typed : (p : Linked) (heap : Objects) (o : ℕ) (y : ObjectState) → AllTyped p heap → HasTypedSlots p y → AllTyped p (with_object_at heap o y)
 set_typed p heap o y all new q x is = elim (cases_eq q o) [
   | inl same ↦ elim (cases_lt o (length heap)) [
-    | inl lt ↦ subst (λ (z : ObjectState). HasTypedSlots p z) (some_same y x (sym (ap (λ (k : ℕ). at (with_object_at heap o y) k) same ∙ get_or-set_same heap o (Some y) None lt) ∙ is)) new
-    | inr past ↦ absurd (none_some x (sym (ap (λ (k : ℕ). at (with_object_at heap o y) k) same ∙ get_or_past (set heap o (Some y)) o None (omega (arith, past, length-set heap o (Some y)))) ∙ is))
+    | inl lt ↦ subst (λ (z : ObjectState). HasTypedSlots p z) (same_Some y x (sym (ap (λ (k : ℕ). at (with_object_at heap o y) k) same ∙ get_or-set_same heap o (Some y) None lt) ∙ is)) new
+    | inr past ↦ absurd (none-some x (sym (ap (λ (k : ℕ). at (with_object_at heap o y) k) same ∙ get_or_past (set heap o (Some y)) o None (omega (arith, past, length-set heap o (Some y)))) ∙ is))
   ]
   | inr other ↦ all q x (sym (get_or-set_other heap o q (Some y) None other) ∙ is)
 ]
@@ -71,8 +71,8 @@ pushed_typed p heap y all new q x is = elim (cases_lt q (length heap)) [
         let le : length heap ≤ length heap = omega arith in
         let zero_is : length heap - length heap ≡ 0 = omega arith in
         let there : at (heap ++ Some y ∷ []) (length heap) ≡ Some y = get_or-append_right heap (Some y ∷ []) (length heap) (length heap) None refl le ∙ ap (λ (k : ℕ). at (Some y ∷ []) k) zero_is in
-        subst (λ (z : ObjectState). HasTypedSlots p z) (some_same y x (sym (ap (λ (k : ℕ). at (heap ++ Some y ∷ []) k) same ∙ there) ∙ is)) new)
-    | inr more ↦ absurd (none_some x (sym (get_or_past (heap ++ Some y ∷ []) q None (omega (arith, past, more, length-append heap (Some y ∷ [])))) ∙ is))
+        subst (λ (z : ObjectState). HasTypedSlots p z) (same_Some y x (sym (ap (λ (k : ℕ). at (heap ++ Some y ∷ []) k) same ∙ there) ∙ is)) new)
+    | inr more ↦ absurd (none-some x (sym (get_or_past (heap ++ Some y ∷ []) q None (omega (arith, past, more, length-append heap (Some y ∷ [])))) ∙ is))
   ]
 ]
 

@@ -1,8 +1,9 @@
 -- The reading of System.out: a reference is left.
-use Rattle.std.proofs.Common.{◌≡◌, ℕ, ◌&&◌, ◌++◌, Bool, true, List, [], ◌∷◌, Option, Some, None, Ok, Result, refl, sym, ◌∙◌, ap, subst}
-use Rattle.std.specs.Prelude.{codes, option_and_then, option_map}
+use Rattle.std.proofs.Common.{◌≡◌, ℕ, ◌&&◌, ◌++◌, true, List, [], ◌∷◌, Option, Some, Ok, Result, refl, sym, ◌∙◌, ap, subst}
+use Rattle.std.specs.Prelude.{codes, option_and_then}
 use Rattle.std.specs.Result.{result_ok}
 use Rattle.std.proofs.lemmas.Bool.{and_parts}
+use Rattle.std.proofs.lemmas.Option.{none-some, same_Some}
 use Rattle.et_base.specs.declared.value.Value.{Value}
 use Rattle.et_base.specs.declared.value.Value.TheVariants as value
 use Rattle.et_class.specs.Descriptors.{is_field_descriptor}
@@ -23,6 +24,7 @@ use Rattle.et_program.specs.Entries.{field_at}
 use Rattle.et_program.specs.Resolution.{resolve_class, resolve_field}
 use Rattle.et_sound.proofs.Fields.{IsField, field_found}
 use Rattle.et_spoken.proofs.Called.{and_then_some, if_some, result_some}
+use Rattle.et_spoken.proofs.Read.{map_some}
 use Rattle.et_state.specs.Outcome.{Outcome}
 use Rattle.et_state.specs.State.{Kept}
 use Rattle.et_state.specs.Words.{class_state_at, static_at, with_static}
@@ -31,16 +33,12 @@ use Rattle.et_state.specs.declared.stage.Turn.TheVariants.{Instruction}
 use Rattle.et_flow.specs.declared.types.EntryType.{EntryType}
 use Rattle.et_flow.specs.declared.types.EntryType.TheVariants as entry
 use Rattle.et_verify.specs.Effects.{result_kind}
-use Rattle.et_flow.specs.Types.{TypesOf, operand_entries, type_of}
+use Rattle.et_flow.specs.Types.{TypesOf, operand_entries}
 use Rattle.et_typed.specs.Typed.{Typings}
 use Rattle.et_typed.specs.Values.{AreOperandsOf}
 use Rattle.et_typed.proofs.Here.{Here, leaves}
-use Rattle.et_typed.proofs.Moves.{Gives, Reads, none_some, reads, some_same}
-use Rattle.et_typed.proofs.Own.{LeavesTyped, Own, ends_leave, own_by}
-
-map_some : {A B : Type 0} (f : A → B) (o : Option A) (b : B) → option_map f o ≡ Some b → (a : A) × (o ≡ Some a) × (f a ≡ b)
-map_some f None b e = absurd (none_some b e)
-map_some f (Some a) b e = (a, refl, some_same (f a) b e)
+use Rattle.et_typed.proofs.Moves.{Gives, Reads, reads}
+use Rattle.et_typed.proofs.Own.{LeavesTyped, Own, ends_leave}
 
 -- WHERE IT IS READ
 
@@ -65,7 +63,7 @@ reads_out e at x h =
     let member = and_then_some (field_read e) (site_member at) field.0 field.1 in
     let fits = if_some (is_field_descriptor member.0.descriptor && field_fits e (current_frame e).operands member.0) (option_and_then (λ (owner : ℕ). result_ok (resolve_field e.program owner member.0.name member.0.descriptor)) (result_ok (resolve_class e.program member.0.owner))) field.0 member.2 in
     let owner = and_then_some (λ (owner : ℕ). result_ok (resolve_field e.program owner member.0.name member.0.descriptor)) (result_ok (resolve_class e.program member.0.owner)) field.0 fits.1 in
-    let same : field.0 ≡ x.field = some_same field.0 made.0 out.1 ∙ ap (λ (y : OutRead). y.field) made.2 in
+    let same : field.0 ≡ x.field = same_Some field.0 made.0 out.1 ∙ ap (λ (y : OutRead). y.field) made.2 in
     let is : is_out e.program field.0 ≡ true =
     (and_parts (is_out e.program field.0) (is_done (class_state_at e.before.guest (field_at e.program field.0).class)) (and_parts (is_static_at e.program field.0) (is_out e.program field.0 && is_done (class_state_at e.before.guest (field_at e.program field.0).class)) out.0).1).0 in
     record {
@@ -79,12 +77,12 @@ reads_out e at x h =
 
 pub is_read_out : (e : Moment) (at : Site) (r : Row) (x : OutRead) → out_at e at r ≡ Some x → IsReadOut e at r x
 is_read_out e at (rows.Heap heap.GetStatic) x h = record { row = refl; reads = reads_out e at x h }
-is_read_out e at other x h = absurd (none_some x h)
+is_read_out e at other x h = absurd (none-some x h)
 
 -- the turn is an instruction
 pub out_turn_is : (e : Moment) (turn : Turn) (x : OutRead) → out_in e turn ≡ Some x → turn ≡ Instruction
 out_turn_is e Instruction x h = refl
-out_turn_is e other x h = absurd (none_some x h)
+out_turn_is e other x h = absurd (none-some x h)
 
 -- .. the one that is decoded
 pub out_decoded : (e : Moment) (at : Site) (r : Row) (d : Instr × ℕ) (x : OutRead) → decoded_at e.program (current_frame e) ≡ Ok d → row_of d.0.opcode ≡ Some r → at ≡ site_of e.program (current_frame e) d → out_by e (decoded_at e.program (current_frame e)) ≡ Some x → out_at e at r ≡ Some x
@@ -111,11 +109,11 @@ module _ (e : Moment) (typings : Typings) (m : ℕ) (at : Site) (ts us : TypesOf
     given =
         let h : Reads (site_member at) [] ts.operands us.operands = reads (site_member at) [] ts.operands us.operands here.after.operands in
         let g : Gives [] (result_kind h.member.descriptor) ts.operands us.operands = h.gives in
-        let same : h.member ≡ out.member = some_same h.member out.member (sym h.named ∙ out.named) in
+        let same : h.member ≡ out.member = same_Some h.member out.member (sym h.named ∙ out.named) in
         let f : IsField e.program out.member.descriptor x.field = field_found e.program out.owner out.member.name out.member.descriptor x.field out.found in
         let kind : result_kind h.member.descriptor ≡ operand.Reference =
         ap (λ (y : Member). result_kind y.descriptor) same ∙ (ap result_kind (sym f.descriptor ∙ here.calm.may.texts.out x.field f.within out.is) ∙ stream_result) in
-        g.given ∙ (ap (λ (xs : List EntryType). operand_entries (result_kind h.member.descriptor) ++ xs) (sym (some_same ts.operands g.left g.taken)) ∙ ap (λ (k : Operand). operand_entries k ++ ts.operands) kind)
+        g.given ∙ (ap (λ (xs : List EntryType). operand_entries (result_kind h.member.descriptor) ++ xs) (sym (same_Some ts.operands g.left g.taken)) ∙ ap (λ (k : Operand). operand_entries k ++ ts.operands) kind)
 
     left : (o : ℕ) → AreOperandsOf (value.Ref o ∷ ops) us.operands
     left o = ap (λ (xs : List EntryType). entry.Reference ∷ xs) here.operands ∙ sym given

@@ -2,7 +2,7 @@
 -- neighbours. Where longs are whole, both free the same entries.
 use Rattle.std.proofs.Common.{ℤ, ◌⊎◌, ◌≡◌, ℕ, zero, suc, ◌+◌, ◌-◌, ◌<◌, ◌==◌, ◌&&◌, Bool, true, false, List, length, get_or, set, refl, sym, ◌∙◌, ap, subst, inl, inr, arith, get_or-set_same, get_or-set_other}
 use Rattle.std.specs.Prelude.{if◌then◌else◌}
-use Rattle.std.proofs.lemmas.Bool.{cases_eq, cases_lt, eq-eqb, eqb-true, and_parts, false≢true}
+use Rattle.std.proofs.lemmas.Bool.{cases_eq, cases_lt, eq-eqb, eqb-true, and_parts, false≢true, and_from}
 use Rattle.std.proofs.lemmas.List.{length-set, get_or_past}
 use Rattle.et_base.specs.declared.value.Value.{Value}
 use Rattle.et_base.specs.declared.value.Value.TheVariants as value
@@ -13,6 +13,7 @@ use Rattle.et_flow.specs.Types.{IsBelow, type_of}
 use Rattle.et_flow.specs.Stores.{is_long, is_high, without_lower, without_upper, one_set, long_set}
 use Rattle.et_typed.specs.Values.{ArePaired, type_at, AreLocalsOf}
 use Rattle.et_flow.proofs.Stores.{gone_if, kept_at, kept_below, not_eqb, kept_there, length-kept}
+use Rattle.et_verify.proofs.Monotone.{long_is, high_is}
 
 -- ONE ENTRY
 
@@ -44,24 +45,10 @@ gone_now : (test : EntryType → Bool) (b : Bool) (v : Value) → b ≡ true →
 gone_now test true v e h = ap (λ (c : Bool). if c then value.Unset else v) h
 gone_now test false v e h = cc
 
-long_type : (t : EntryType) → is_long t ≡ true → t ≡ entry.Long
-long_type entry.Free e = cc
-long_type entry.Int e = cc
-long_type entry.Long e = refl
-long_type entry.LongHigh e = cc
-long_type entry.Reference e = cc
-
-high_type : (t : EntryType) → is_high t ≡ true → t ≡ entry.LongHigh
-high_type entry.Free e = cc
-high_type entry.Int e = cc
-high_type entry.Long e = cc
-high_type entry.LongHigh e = refl
-high_type entry.Reference e = cc
-
 kept_same : (first last j : ℕ) (v : Value) → (j + 1 ≡ first → type_of v ≡ entry.Long → ⊥) → (j ≡ last + 1 → type_of v ≡ entry.LongHigh → ⊥) → value_kept first last j v ≡ v
 kept_same first last j v lower upper =
-    let inner : value_gone is_long (j + 1 == first) v ≡ v = gone_same is_long (j + 1 == first) v (λ b t. lower (eqb-true (j + 1) first b) (long_type (type_of v) t)) in
-    ap (value_gone is_high (j == last + 1)) inner ∙ gone_same is_high (j == last + 1) v (λ b t. upper (eqb-true j (last + 1) b) (high_type (type_of v) t))
+    let inner : value_gone is_long (j + 1 == first) v ≡ v = gone_same is_long (j + 1 == first) v (λ b t. lower (eqb-true (j + 1) first b) (long_is (type_of v) t)) in
+    ap (value_gone is_high (j == last + 1)) inner ∙ gone_same is_high (j == last + 1) v (λ b t. upper (eqb-true j (last + 1) b) (high_is (type_of v) t))
 
 kept_lower : (first last j : ℕ) (v : Value) → j + 1 ≡ first → type_of v ≡ entry.Long → value_kept first last j v ≡ value.Unset
 kept_lower first last j v e t =
@@ -121,10 +108,6 @@ module _ (vs : List Value) (paired : ArePaired (type_at vs)) where
 
 -- WHAT STAYS
 
-and_on : (a b : Bool) → a ≡ true → b ≡ true → (a && b) ≡ true
-and_on true b e f = f
-and_on false b e f = e
-
 record Stays (test : EntryType → Bool) (b : Bool) (x u : EntryType) : Type 0 where
   same : x ≡ u
   off : b ≡ true → test x ≡ true → ⊥
@@ -134,7 +117,7 @@ stays test b x u e used = by (b && test x) refl e
   where
     by : (c : Bool) → (b && test x) ≡ c → (if c then entry.Free else x) ≡ u → Stays test b x u
     by true q h = absurd (used (sym h))
-    by false q h = record { same = h; off = λ on t. false≢true (sym q ∙ and_on b (test x) on t) }
+    by false q h = record { same = h; off = λ on t. false≢true (sym q ∙ and_from b (test x) on t) }
 
 stays_so : (test : EntryType → Bool) (b : Bool) (x : EntryType) → (b ≡ true → test x ≡ true → ⊥) → gone_if test b x ≡ x
 stays_so test b x off = by (b && test x) refl

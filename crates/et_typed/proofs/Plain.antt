@@ -3,6 +3,7 @@ use Rattle.std.proofs.Common.{◌≡◌, ℕ, ◌+◌, ◌≤◌, Bool, true, fa
 use Rattle.std.specs.Prelude.{ℤ, map, if◌then◌else◌, option_map}
 use Rattle.std.proofs.lemmas.Bool.{le-leb, and_parts, cases_lt}
 use Rattle.std.proofs.lemmas.List.{length-map, get_or_past}
+use Rattle.std.proofs.lemmas.Option.{same_Some}
 use Rattle.et_base.specs.declared.value.Value.{Value}
 use Rattle.et_base.specs.declared.value.Value.TheVariants as value
 use Rattle.et_class.specs.PoolOperands.Operand.{Operand}
@@ -84,9 +85,6 @@ put_steps f us places pc ops are locals le goes = record {
   goes = goes;
 }
 
-same_left : (rest left : List EntryType) → Some rest ≡ Some left → rest ≡ left
-same_left rest left e = cc
-
 -- SHAPES
 
 module _ (at : Site) (f : FrameState) (ts us : TypesOf) (places : List ℕ) (are : AreOperandsOf f.operands ts.operands) (locals : AreLocalsOf f.locals us.locals) (le : length us.operands ≤ f.room) where
@@ -106,52 +104,52 @@ module _ (at : Site) (f : FrameState) (ts us : TypesOf) (places : List ℕ) (are
   two_numbers number.Int o m goes =
       int_taken Q None (operand.Int ∷ []) f.operands ts.operands m.left _ are m.taken (λ b more rest ar later.
       int_taken Q None [] more rest m.left _ ar later (λ a below rest2 ar2 last.
-      given_one (value.Int _) below rest2 entry.Int (m.given ∙ ap (λ (xs : List EntryType). entry.Int ∷ xs) (sym (same_left rest2 m.left last))) refl ar2 goes))
+      given_one (value.Int _) below rest2 entry.Int (m.given ∙ ap (λ (xs : List EntryType). entry.Int ∷ xs) (sym (same_Some rest2 m.left last))) refl ar2 goes))
   two_numbers number.Long o m goes =
       long_taken Q None (operand.Long ∷ []) f.operands ts.operands m.left _ are m.taken (λ b more rest ar later.
       long_taken Q None [] more rest m.left _ ar later (λ a below rest2 ar2 last.
-      given_long _ below rest2 (m.given ∙ ap (λ (xs : List EntryType). entry.LongHigh ∷ entry.Long ∷ xs) (sym (same_left rest2 m.left last))) ar2 goes))
+      given_long _ below rest2 (m.given ∙ ap (λ (xs : List EntryType). entry.LongHigh ∷ entry.Long ∷ xs) (sym (same_Some rest2 m.left last))) ar2 goes))
 
   one_number : (n : Number) (m : MovesAs (frame_effect (row.Negate n)) ts.operands us.operands) → Contains places at.next → Q (negated n f.operands)
   one_number number.Int m goes =
       int_taken Q None [] f.operands ts.operands m.left _ are m.taken (λ a below rest ar last.
-      given_one (value.Int _) below rest entry.Int (m.given ∙ ap (λ (xs : List EntryType). entry.Int ∷ xs) (sym (same_left rest m.left last))) refl ar goes)
+      given_one (value.Int _) below rest entry.Int (m.given ∙ ap (λ (xs : List EntryType). entry.Int ∷ xs) (sym (same_Some rest m.left last))) refl ar goes)
   one_number number.Long m goes =
       long_taken Q None [] f.operands ts.operands m.left _ are m.taken (λ a below rest ar last.
-      given_long _ below rest (m.given ∙ ap (λ (xs : List EntryType). entry.LongHigh ∷ entry.Long ∷ xs) (sym (same_left rest m.left last))) ar goes)
+      given_long _ below rest (m.given ∙ ap (λ (xs : List EntryType). entry.LongHigh ∷ entry.Long ∷ xs) (sym (same_Some rest m.left last))) ar goes)
 
   one_shifted : (n : Number) (s : Shift) (m : MovesAs (frame_effect (row.Shift n s)) ts.operands us.operands) → Contains places at.next → Q (values_moved n s f.operands)
   one_shifted number.Int s m goes =
       int_taken Q None (operand.Int ∷ []) f.operands ts.operands m.left _ are m.taken (λ b more rest ar later.
       int_taken Q None [] more rest m.left _ ar later (λ a below rest2 ar2 last.
-      given_one (value.Int _) below rest2 entry.Int (m.given ∙ ap (λ (xs : List EntryType). entry.Int ∷ xs) (sym (same_left rest2 m.left last))) refl ar2 goes))
+      given_one (value.Int _) below rest2 entry.Int (m.given ∙ ap (λ (xs : List EntryType). entry.Int ∷ xs) (sym (same_Some rest2 m.left last))) refl ar2 goes))
   one_shifted number.Long s m goes =
       int_taken Q None (operand.Long ∷ []) f.operands ts.operands m.left _ are m.taken (λ b more rest ar later.
       long_taken Q None [] more rest m.left _ ar later (λ a below rest2 ar2 last.
-      given_long _ below rest2 (m.given ∙ ap (λ (xs : List EntryType). entry.LongHigh ∷ entry.Long ∷ xs) (sym (same_left rest2 m.left last))) ar2 goes))
+      given_long _ below rest2 (m.given ∙ ap (λ (xs : List EntryType). entry.LongHigh ∷ entry.Long ∷ xs) (sym (same_Some rest2 m.left last))) ar2 goes))
 
   one_converted : (c : Conversion) (m : MovesAs (frame_effect (row.Convert c)) ts.operands us.operands) → Contains places at.next → Q (converted c f.operands)
   one_converted IntToLong m goes =
       int_taken Q None [] f.operands ts.operands m.left _ are m.taken (λ a below rest ar last.
-      given_long _ below rest (m.given ∙ ap (λ (xs : List EntryType). entry.LongHigh ∷ entry.Long ∷ xs) (sym (same_left rest m.left last))) ar goes)
+      given_long _ below rest (m.given ∙ ap (λ (xs : List EntryType). entry.LongHigh ∷ entry.Long ∷ xs) (sym (same_Some rest m.left last))) ar goes)
   one_converted LongToInt m goes =
       long_taken Q None [] f.operands ts.operands m.left _ are m.taken (λ a below rest ar last.
-      given_one (value.Int _) below rest entry.Int (m.given ∙ ap (λ (xs : List EntryType). entry.Int ∷ xs) (sym (same_left rest m.left last))) refl ar goes)
+      given_one (value.Int _) below rest entry.Int (m.given ∙ ap (λ (xs : List EntryType). entry.Int ∷ xs) (sym (same_Some rest m.left last))) refl ar goes)
   one_converted IntToByte m goes =
       int_taken Q None [] f.operands ts.operands m.left _ are m.taken (λ a below rest ar last.
-      given_one (value.Int _) below rest entry.Int (m.given ∙ ap (λ (xs : List EntryType). entry.Int ∷ xs) (sym (same_left rest m.left last))) refl ar goes)
+      given_one (value.Int _) below rest entry.Int (m.given ∙ ap (λ (xs : List EntryType). entry.Int ∷ xs) (sym (same_Some rest m.left last))) refl ar goes)
   one_converted IntToChar m goes =
       int_taken Q None [] f.operands ts.operands m.left _ are m.taken (λ a below rest ar last.
-      given_one (value.Int _) below rest entry.Int (m.given ∙ ap (λ (xs : List EntryType). entry.Int ∷ xs) (sym (same_left rest m.left last))) refl ar goes)
+      given_one (value.Int _) below rest entry.Int (m.given ∙ ap (λ (xs : List EntryType). entry.Int ∷ xs) (sym (same_Some rest m.left last))) refl ar goes)
   one_converted IntToShort m goes =
       int_taken Q None [] f.operands ts.operands m.left _ are m.taken (λ a below rest ar last.
-      given_one (value.Int _) below rest entry.Int (m.given ∙ ap (λ (xs : List EntryType). entry.Int ∷ xs) (sym (same_left rest m.left last))) refl ar goes)
+      given_one (value.Int _) below rest entry.Int (m.given ∙ ap (λ (xs : List EntryType). entry.Int ∷ xs) (sym (same_Some rest m.left last))) refl ar goes)
 
   two_compared : (m : MovesAs (frame_effect row.CompareLongs) ts.operands us.operands) → Contains places at.next → Q (compared f.operands)
   two_compared m goes =
       long_taken Q None (operand.Long ∷ []) f.operands ts.operands m.left _ are m.taken (λ b more rest ar later.
       long_taken Q None [] more rest m.left _ ar later (λ a below rest2 ar2 last.
-      given_one (value.Int _) below rest2 entry.Int (m.given ∙ ap (λ (xs : List EntryType). entry.Int ∷ xs) (sym (same_left rest2 m.left last))) refl ar2 goes))
+      given_one (value.Int _) below rest2 entry.Int (m.given ∙ ap (λ (xs : List EntryType). entry.Int ∷ xs) (sym (same_Some rest2 m.left last))) refl ar2 goes))
 
   -- BRANCHES
 
@@ -173,28 +171,28 @@ module _ (at : Site) (f : FrameState) (ts us : TypesOf) (places : List ℕ) (are
   }
 
   one_branched : (c : Condition) (m : MovesAs (frame_effect (row.Branch c)) ts.operands us.operands) → Reaches places at (row.Branch c) f.pc → B (condition_tested c f.operands)
-  one_branched when.Always m r = goes_on true f.operands ts.operands m.left m.given (same_left ts.operands m.left m.taken) are (λ e. r.branch when.Always refl) (λ e. cc)
+  one_branched when.Always m r = goes_on true f.operands ts.operands m.left m.given (same_Some ts.operands m.left m.taken) are (λ e. r.branch when.Always refl) (λ e. cc)
   one_branched (when.WithZero c) m r =
       int_taken B None [] f.operands ts.operands m.left _ are m.taken (λ a below rest ar last.
-      goes_on _ below rest m.left m.given (same_left rest m.left last) ar (λ e. r.branch (when.WithZero c) refl) (λ e. r.next refl))
+      goes_on _ below rest m.left m.given (same_Some rest m.left last) ar (λ e. r.branch (when.WithZero c) refl) (λ e. r.next refl))
   one_branched (when.OfInts c) m r =
       int_taken B None (operand.Int ∷ []) f.operands ts.operands m.left _ are m.taken (λ b more rest ar later.
       int_taken B None [] more rest m.left _ ar later (λ a below rest2 ar2 last.
-      goes_on _ below rest2 m.left m.given (same_left rest2 m.left last) ar2 (λ e. r.branch (when.OfInts c) refl) (λ e. r.next refl)))
+      goes_on _ below rest2 m.left m.given (same_Some rest2 m.left last) ar2 (λ e. r.branch (when.OfInts c) refl) (λ e. r.next refl)))
   one_branched when.SameReference m r =
       reference_taken B None (operand.Reference ∷ []) f.operands ts.operands m.left _ are m.taken (λ b more rest is ar later.
       reference_taken B None [] more rest m.left _ ar later (λ a below rest2 is2 ar2 last.
-      goes_on _ below rest2 m.left m.given (same_left rest2 m.left last) ar2 (λ e. r.branch when.SameReference refl) (λ e. r.next refl)))
+      goes_on _ below rest2 m.left m.given (same_Some rest2 m.left last) ar2 (λ e. r.branch when.SameReference refl) (λ e. r.next refl)))
   one_branched when.OtherReference m r =
       reference_taken B None (operand.Reference ∷ []) f.operands ts.operands m.left _ are m.taken (λ b more rest is ar later.
       reference_taken B None [] more rest m.left _ ar later (λ a below rest2 is2 ar2 last.
-      goes_on _ below rest2 m.left m.given (same_left rest2 m.left last) ar2 (λ e. r.branch when.OtherReference refl) (λ e. r.next refl)))
+      goes_on _ below rest2 m.left m.given (same_Some rest2 m.left last) ar2 (λ e. r.branch when.OtherReference refl) (λ e. r.next refl)))
   one_branched when.Null m r =
       reference_taken B None [] f.operands ts.operands m.left _ are m.taken (λ a below rest is ar last.
-      goes_on _ below rest m.left m.given (same_left rest m.left last) ar (λ e. r.branch when.Null refl) (λ e. r.next refl))
+      goes_on _ below rest m.left m.given (same_Some rest m.left last) ar (λ e. r.branch when.Null refl) (λ e. r.next refl))
   one_branched when.NotNull m r =
       reference_taken B None [] f.operands ts.operands m.left _ are m.taken (λ a below rest is ar last.
-      goes_on _ below rest m.left m.given (same_left rest m.left last) ar (λ e. r.branch when.NotNull refl) (λ e. r.next refl))
+      goes_on _ below rest m.left m.given (same_Some rest m.left last) ar (λ e. r.branch when.NotNull refl) (λ e. r.next refl))
 
   one_switched : (m : MovesAs (frame_effect row.Switch) ts.operands us.operands) → Reaches places at row.Switch f.pc → Steps f us places (switched at f)
   one_switched m r =
@@ -203,7 +201,7 @@ module _ (at : Site) (f : FrameState) (ts us : TypesOf) (places : List ℕ) (are
         frame = record f { pc = target f.pc (target_of at.code at.instr key); operands = below };
         is = refl;
         same = refl;
-        operands = ar ∙ (same_left rest m.left last ∙ sym m.given);
+        operands = ar ∙ (same_Some rest m.left last ∙ sym m.given);
         locals = locals;
         goes = r.switch refl key;
       })

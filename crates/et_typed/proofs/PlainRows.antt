@@ -4,6 +4,7 @@ use Rattle.std.specs.Prelude.{ℤ, option_map, slice_index_or}
 use Rattle.std.specs.Int.{w32, w64}
 use Rattle.std.proofs.lemmas.Bool.{lt-ltb}
 use Rattle.std.proofs.lemmas.List.{length-map}
+use Rattle.std.proofs.lemmas.Option.{none-some, same_Some}
 use Rattle.et_base.specs.declared.value.Value.{Value}
 use Rattle.et_base.specs.declared.value.Value.TheVariants as value
 use Rattle.et_class.specs.PoolOperands.Operand.{Operand}
@@ -41,7 +42,7 @@ use Rattle.et_verify.proofs.Monotone.{int_is}
 use Rattle.et_typed.specs.Typed.{Typings, Whole}
 use Rattle.et_typed.specs.Values.{AreLocalsOf, AreOperandsOf}
 use Rattle.et_typed.proofs.Here.{Here, behind_there, goes_on, leaves, never_refused, unless_refused}
-use Rattle.et_typed.proofs.Moves.{Gives, gives, none_some, some_same, takes_all}
+use Rattle.et_typed.proofs.Moves.{Gives, gives, takes_all}
 use Rattle.et_typed.proofs.Own.{LeavesTyped, ends_leave, pending_own, weak_frames}
 use Rattle.et_typed.proofs.Plain.{Reaches, Steps, frame_steps, put_steps}
 use Rattle.et_typed.proofs.Switching.{branch_there, switch_there}
@@ -70,7 +71,7 @@ module _ (e : Moment) (typings : Typings) (m : ℕ) (at : Site) (r : FrameRow) (
   past q = behind_there (current_frame e).pc at (rows.Frame r) q
 
 holds_so : (b : Bool) (xs ys : List EntryType) → where_holds b xs ≡ Some ys → (b ≡ true) × (xs ≡ ys)
-holds_so true xs ys q = (refl, some_same xs ys q)
+holds_so true xs ys q = (refl, same_Some xs ys q)
 holds_so false xs ys q = cc
 
 module _ (e : Moment) (typings : Typings) (m : ℕ) (at : Site) (ts us : TypesOf) where
@@ -95,12 +96,12 @@ module _ (e : Moment) (typings : Typings) (m : ℕ) (at : Site) (ts us : TypesOf
       (here.operands ∙ takes_same here.after.operands) here.locals (int_is (slice_index_or ts.locals (local_index Named at) entry.Free) h.0) h.1 (behind_there (current_frame e).pc at (rows.Frame row.Increment) refl)
     where
       takes_same : moved_where (Some (taking [])) ts.operands ≡ Some us.operands → ts.operands ≡ us.operands
-      takes_same q = some_same ts.operands us.operands (takes_all [] ts.operands us.operands q)
+      takes_same q = same_Some ts.operands us.operands (takes_all [] ts.operands us.operands q)
 
   turned : (x : Rearrangement) (here : Here e typings m at (rows.Frame (row.Rearrange x)) ts us) → Steps (current_frame e) us (next_places (current_frame e).pc at (rows.Frame (row.Rearrange x))) (frame_after at (row.Rearrange x) (current_frame e))
   turned x here =
       rearranged_steps (current_frame e) ts us (next_places (current_frame e).pc at (rows.Frame (row.Rearrange x))) here.operands at.next x
-      (subst (λ (xs : List EntryType). AreLocalsOf (current_frame e).locals xs) (some_same ts.locals us.locals here.after.locals) here.locals) here.after.few here.after.operands
+      (subst (λ (xs : List EntryType). AreLocalsOf (current_frame e).locals xs) (same_Some ts.locals us.locals here.after.locals) here.locals) here.after.few here.after.operands
       (behind_there (current_frame e).pc at (rows.Frame (row.Rearrange x)) refl)
 
   -- ALL PLAIN ROWS
@@ -123,7 +124,7 @@ module _ (e : Moment) (typings : Typings) (m : ℕ) (at : Site) (ts us : TypesOf
   constant_typed here = by (constant_at at.pool (pool_index at)) here.after.operands
     where
       locals : AreLocalsOf (current_frame e).locals us.locals
-      locals = subst (λ (xs : List EntryType). AreLocalsOf (current_frame e).locals xs) (some_same ts.locals us.locals here.after.locals) here.locals
+      locals = subst (λ (xs : List EntryType). AreLocalsOf (current_frame e).locals xs) (same_Some ts.locals us.locals here.after.locals) here.locals
 
       places : List ℕ
       places = next_places (current_frame e).pc at rows.PoolConstant
@@ -137,10 +138,10 @@ module _ (e : Moment) (typings : Typings) (m : ℕ) (at : Site) (ts us : TypesOf
       given : (kind : Operand) → moved_where (Some (giving [] kind)) ts.operands ≡ Some us.operands → us.operands ≡ operand_entries kind ++ ts.operands
       given kind q =
           let g : Gives [] kind ts.operands us.operands = gives [] kind ts.operands us.operands q in
-          g.given ∙ ap (λ (xs : List EntryType). operand_entries kind ++ xs) (sym (some_same ts.operands g.left g.taken))
+          g.given ∙ ap (λ (xs : List EntryType). operand_entries kind ++ xs) (sym (same_Some ts.operands g.left g.taken))
 
       by : (o : Option LoadedConstant) → moved_where (option_map (λ kind. giving [] kind) (option_map kind_of_constant o)) ts.operands ≡ Some us.operands → LeavesTyped e typings (constant e at o)
-      by None q = absurd (none_some us.operands q)
+      by None q = absurd (none-some us.operands q)
       by (Some (AnInt n)) q = goes_so (value.Int n ∷ (current_frame e).operands) (ap (λ (xs : List EntryType). entry.Int ∷ xs) here.operands ∙ sym (given operand.Int q))
       by (Some (ALong n)) q = goes_so (value.LongHigh ∷ value.Long n ∷ (current_frame e).operands) (ap (λ (xs : List EntryType). entry.LongHigh ∷ entry.Long ∷ xs) here.operands ∙ sym (given operand.Long q))
       by (Some (AString bytes)) q =
@@ -161,7 +162,7 @@ module _ (e : Moment) (typings : Typings) (m : ℕ) (at : Site) (ts us : TypesOf
       quotient_typed n here None ops are = throws_here e typings here.calm errors.ArithmeticException (begins e) refl
       quotient_typed n here (Some k) ops are =
           let s : Steps (current_frame e) us (next_places (current_frame e).pc at (rows.Divide n o)) (put at.next (ops k) (current_frame e)) =
-          put_here (subst (λ (xs : List EntryType). AreLocalsOf (current_frame e).locals xs) (some_same ts.locals us.locals here.after.locals) here.locals) (ops k) (next_places (current_frame e).pc at (rows.Divide n o)) (are k) here.after.few
+          put_here (subst (λ (xs : List EntryType). AreLocalsOf (current_frame e).locals xs) (same_Some ts.locals us.locals here.after.locals) here.locals) (ops k) (next_places (current_frame e).pc at (rows.Divide n o)) (are k) here.after.few
           (behind_there (current_frame e).pc at (rows.Divide n o) refl) in
           subst (λ (x : Option FrameState). LeavesTyped e typings (on_frame e x)) (sym s.is) (goes_on e typings m at (rows.Divide n o) ts us here s.frame (begins e) refl s.same s.goes s.operands s.locals)
 
@@ -170,12 +171,12 @@ module _ (e : Moment) (typings : Typings) (m : ℕ) (at : Site) (ts us : TypesOf
           let g : Gives (operand.Int ∷ operand.Int ∷ []) operand.Int ts.operands us.operands = gives (operand.Int ∷ operand.Int ∷ []) operand.Int ts.operands us.operands h.after.operands in
           int_taken (LeavesTyped e typings) (ill_typed e) (operand.Int ∷ []) (current_frame e).operands ts.operands g.left _ h.operands g.taken (λ b more rest are next.
           int_taken (LeavesTyped e typings) (ill_typed e) [] more rest g.left _ are next (λ a below rest2 are2 last.
-          quotient_typed number.Int h (divided w32 o a b) (λ k. value.Int k ∷ below) (λ k. ap (λ (xs : List EntryType). entry.Int ∷ xs) (are2 ∙ some_same rest2 g.left last) ∙ sym g.given)))
+          quotient_typed number.Int h (divided w32 o a b) (λ k. value.Int k ∷ below) (λ k. ap (λ (xs : List EntryType). entry.Int ∷ xs) (are2 ∙ same_Some rest2 g.left last) ∙ sym g.given)))
       by number.Long h =
           let g : Gives (operand.Long ∷ operand.Long ∷ []) operand.Long ts.operands us.operands = gives (operand.Long ∷ operand.Long ∷ []) operand.Long ts.operands us.operands h.after.operands in
           long_taken (LeavesTyped e typings) (ill_typed e) (operand.Long ∷ []) (current_frame e).operands ts.operands g.left _ h.operands g.taken (λ b more rest are next.
           long_taken (LeavesTyped e typings) (ill_typed e) [] more rest g.left _ are next (λ a below rest2 are2 last.
-          quotient_typed number.Long h (divided w64 o a b) (λ k. value.LongHigh ∷ value.Long k ∷ below) (λ k. ap (λ (xs : List EntryType). entry.LongHigh ∷ entry.Long ∷ xs) (are2 ∙ some_same rest2 g.left last) ∙ sym g.given)))
+          quotient_typed number.Long h (divided w64 o a b) (λ k. value.LongHigh ∷ value.Long k ∷ below) (λ k. ap (λ (xs : List EntryType). entry.LongHigh ∷ entry.Long ∷ xs) (are2 ∙ same_Some rest2 g.left last) ∙ sym g.given)))
 
   -- THROWS AND MONITORS
 
@@ -191,9 +192,9 @@ module _ (e : Moment) (typings : Typings) (m : ℕ) (at : Site) (ts us : TypesOf
       reference_taken (LeavesTyped e typings) (ill_typed e) [] (current_frame e).operands ts.operands us.operands _ here.operands (takes_all (operand.Reference ∷ []) ts.operands us.operands here.after.operands) (λ z below rest stands are last.
       where_not_null e typings here.calm (begins e) z _ refl (λ o is.
       unless_waiting e typings here.calm (may_enter e (begins e) (OfObject o)) _
-      (leaves e typings m at (rows.Monitor monitor.Enter) ts us here below (begins e) refl refl refl (are ∙ some_same rest us.operands last))))
+      (leaves e typings m at (rows.Monitor monitor.Enter) ts us here below (begins e) refl refl refl (are ∙ same_Some rest us.operands last))))
   monitor_typed monitor.Exit here =
       reference_taken (LeavesTyped e typings) (ill_typed e) [] (current_frame e).operands ts.operands us.operands _ here.operands (takes_all (operand.Reference ∷ []) ts.operands us.operands here.after.operands) (λ z below rest stands are last.
       where_not_null e typings here.calm (begins e) z _ refl (λ o is.
       unless_thrown e typings here.calm (begins e) errors.IllegalMonitorStateException (owns e (begins e) (OfObject o)) _ refl
-      (λ owned. leaves e typings m at (rows.Monitor monitor.Exit) ts us here below (begins e) refl refl refl (are ∙ some_same rest us.operands last))))
+      (λ owned. leaves e typings m at (rows.Monitor monitor.Exit) ts us here below (begins e) refl refl refl (are ∙ same_Some rest us.operands last))))

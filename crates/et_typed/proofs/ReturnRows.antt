@@ -4,6 +4,7 @@ use Rattle.std.specs.Prelude.{if◌then◌else◌, map, unwrap_or}
 use Rattle.std.specs.Option.{option_map_or}
 use Rattle.std.proofs.lemmas.Bool.{and_parts, eqb-true, false≢true}
 use Rattle.std.proofs.lemmas.List.{map-append}
+use Rattle.std.proofs.lemmas.Option.{none-some, same_Some}
 use Rattle.et_base.specs.declared.value.Value.{Value}
 use Rattle.et_class.specs.Descriptors.{MethodType, is_void, method_type, width_of}
 use Rattle.et_class.specs.Operands.{is_kind, may_return, operand_kind}
@@ -46,7 +47,7 @@ use Rattle.et_typed.specs.Typed.{AreTypedFrames, AreTypings, Holds, HoldsBelow, 
 use Rattle.et_typed.specs.Values.{AreLocalsOf, AreOperandsOf}
 use Rattle.et_typed.proofs.CallRows.{Calls, calls}
 use Rattle.et_typed.proofs.Here.{Here, behind_there, never_refused, there_holds}
-use Rattle.et_typed.proofs.Moves.{none_some, some_same, takes_all}
+use Rattle.et_typed.proofs.Moves.{takes_all}
 use Rattle.et_typed.proofs.Own.{LeavesTyped, Own, first_typed, thread_own}
 use Rattle.et_typed.proofs.Taking.{value_taken}
 use Rattle.et_typed.proofs.Ways.{unless_thrown}
@@ -62,7 +63,7 @@ returning kind returned before after h = by (may_return kind returned) refl h
   where
     by : (b : Bool) → may_return kind returned ≡ b → moved_where (if b then Some (taking (kinds_returned kind)) else None) before ≡ Some after → Returning kind returned before after
     by true q k = record { may = q; taken = takes_all (kinds_returned kind) before after k }
-    by false q k = absurd (none_some after k)
+    by false q k = absurd (none-some after k)
 
 -- values of the type that is returned
 abbrev AreReturned : List ℕ → List Value → Type 0
@@ -91,7 +92,7 @@ void_none [] void kind e = absurd (false≢true void)
 void_none (a ∷ rest) void kind e = no_kind (subst (λ (n : ℕ). operand_kind (n ∷ rest) ≡ Some kind) (letter a rest void) e)
   where
     no_kind : operand_kind (86 ∷ rest) ≡ Some kind → ⊥
-    no_kind q = none_some kind q
+    no_kind q = none-some kind q
 
     letter : (n : ℕ) (more : List ℕ) → is_void (n ∷ more) ≡ true → n ≡ 86
     letter n more q = eqb-true n 86 (and_parts (n == 86) (length more == 0) q).0
@@ -132,7 +133,7 @@ module _ (p : Linked) (typings : Typings) (kinds : AreTypings p typings) (f g : 
       goes m named h caller same runs a =
           let code_is : (code_of_frame p g).code ≡ runs.body.code = ap (λ (o : Option ℕ). (present_body (method_at p (unwrap_or o 0)).code).code) named ∙ ap (λ (c : Option Body). (present_body c).code) runs.code in
           let decoded_same : a.decoded ≡ h.decoded = same_decoded (instruction_at runs.body.code g.pc) (decoded_at p g) a.decoded h.decoded a.at h.here (sym (ap (λ (c : List ℕ). instruction_at c g.pc) code_is)) in
-          let row_same : a.row ≡ rows.Call (call.Invoke h.kind) = some_same a.row (rows.Call (call.Invoke h.kind)) (sym a.does ∙ (ap (λ (x : Instr × ℕ). row_of x.0.opcode) decoded_same ∙ h.calls)) in
+          let row_same : a.row ≡ rows.Call (call.Invoke h.kind) = same_Some a.row (rows.Call (call.Invoke h.kind)) (sym a.does ∙ (ap (λ (x : Instr × ℕ). row_of x.0.opcode) decoded_same ∙ h.calls)) in
           let site : site_in p m runs.body a.decoded ≡ site_of p g h.decoded = ap (λ (x : Instr × ℕ). site_in p m runs.body x) decoded_same ∙ sym (site_same p g m runs.body h.decoded named runs.code) in
           let at : Site = site_of p g h.decoded in
           let accepted : types_after runs.body.max_stack (returned_of (method_at p m)) at (rows.Call (call.Invoke h.kind)) h.types ≡ Some a.after =
@@ -144,18 +145,18 @@ module _ (p : Linked) (typings : Typings) (kinds : AreTypings p typings) (f g : 
           let fits : FitsAs runs.body.max_stack (operands_after (returned_of (method_at p m)) at (rows.Call (call.Invoke h.kind)) h.types.operands) (locals_after at (rows.Call (call.Invoke h.kind)) h.types.locals) a.after =
           fits_as runs.body.max_stack (operands_after (returned_of (method_at p m)) at (rows.Call (call.Invoke h.kind)) h.types.operands) (locals_after at (rows.Call (call.Invoke h.kind)) h.types.locals) a.after accepted in
           let c : Calls at (is_static_call h.kind) h.types.operands a.after.operands = calls at (is_static_call h.kind) h.types.operands a.after.operands fits.operands in
-          let does_same : c.does ≡ h.does = some_same c.does h.does (sym c.effect_is ∙ h.effect_is) in
+          let does_same : c.does ≡ h.does = same_Some c.does h.does (sym c.effect_is ∙ h.effect_is) in
           let left_same : c.left ≡ h.left =
-          some_same c.left h.left (sym c.taken ∙ (ap (λ (x : Effect). below_taken x.taken h.types.operands) (sym c.does_is ∙ does_same) ∙ h.taken)) in
+          same_Some c.left h.left (sym c.taken ∙ (ap (λ (x : Effect). below_taken x.taken h.types.operands) (sym c.does_is ∙ does_same) ∙ h.taken)) in
           let kind_same : h.kind ≡ caller.kind = kind_is h.kind caller.kind (sym (sym (ap (λ (x : Instr × ℕ). row_of x.0.opcode) (same_decoded (decoded_at p g) (decoded_at p g) h.decoded caller.decoded h.here caller.at refl)) ∙ h.calls) ∙ caller.call) in
           let member_same : c.member ≡ caller.member =
-          some_same c.member caller.member (sym c.named ∙ (ap (λ (x : Instr × ℕ). site_member (site_of p g x)) (same_decoded (decoded_at p g) (decoded_at p g) h.decoded caller.decoded h.here caller.at refl) ∙ caller.names)) in
+          same_Some c.member caller.member (sym c.named ∙ (ap (λ (x : Instr × ℕ). site_member (site_of p g x)) (same_decoded (decoded_at p g) (decoded_at p g) h.decoded caller.decoded h.here caller.at refl) ∙ caller.names)) in
           let type_same : returned ≡ c.type.returned =
           sym same ∙ (ap (λ (d : List ℕ). option_map_or (λ (t : MethodType). t.returned) (method_type d) []) (sym caller.descriptor ∙ sym (ap (λ (x : Member). x.descriptor) member_same))
           ∙ ap (λ (o : Option MethodType). option_map_or (λ (t : MethodType). t.returned) o []) c.typed) in
           let operands : AreOperandsOf (values ++ g.operands) a.after.operands =
           of_type h.left g.operands h.operands ∙ (ap (λ (xs : List EntryType). with_given (returned_kind returned) xs) (sym left_same) ∙ (ap (λ (r : List ℕ). with_given (returned_kind r) c.left) type_same ∙ sym c.given)) in
-          let locals : AreLocalsOf g.locals a.after.locals = subst (λ (xs : List EntryType). AreLocalsOf g.locals xs) (some_same h.types.locals a.after.locals fits.locals) h.locals in
+          let locals : AreLocalsOf g.locals a.after.locals = subst (λ (xs : List EntryType). AreLocalsOf g.locals xs) (same_Some h.types.locals a.after.locals fits.locals) h.locals in
           let pc_is : next_place_of p g ≡ h.decoded.1 = ap (λ (x : Result (Instr × ℕ) CodeFault). behind_or g.pc x) h.here in
           there_holds (typings m) (record g { pc = next_place_of p g; operands = values ++ g.operands }) a.after
           (subst (λ (n : ℕ). IsThere (typings m) n a.after) (sym pc_is) (next h.decoded.1 (behind_there g.pc at (rows.Call (call.Invoke h.kind)) refl))) operands locals
@@ -169,7 +170,7 @@ module _ (p : Linked) (typings : Typings) (kinds : AreTypings p typings) (f : Fr
   waiting g below of_type caller sound None named h = tt
   waiting g below of_type caller sound (Some m) named h =
       let r : RunsSome p g = runs_some p g below caller.runs sound in
-      let same : r.method ≡ m = some_same r.method m (sym r.named ∙ named) in
+      let same : r.method ≡ m = same_Some r.method m (sym r.named ∙ named) in
       resumed_holds p typings kinds f g (returned_of (running_method p f)) values of_type m named h caller refl (subst (λ (k : ℕ). RunsMethod p g k) same r.runs)
 
   pub after_return : (stage : Stage) (below : List FrameState) → AreReturned (returned_of (running_method p f)) values → IsAbove p f stage below → AreSoundFrames p below → AreTypedFrames p typings (part_below stage) below → AreTypedFrames p typings Whole (frames_after_return p stage values below)

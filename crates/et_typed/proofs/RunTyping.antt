@@ -4,6 +4,7 @@ use Rattle.std.specs.Prelude.{codes, pos, if◌then◌else◌}
 use Rattle.std.specs.Option.{option_map_or}
 use Rattle.std.proofs.lemmas.Bool.{eqb-true}
 use Rattle.std.proofs.lemmas.List.Elements.{All-cons, All-nil}
+use Rattle.std.proofs.lemmas.Option.{none-some, same_Some}
 use Rattle.et_base.proofs.Lists.{Contains-cons, Contains-none}
 use Rattle.et_boot.specs.Classes.{thread_pool, thread_run}
 use Rattle.et_class.specs.Descriptors.{MethodType, after_dimensions, after_name, method_type, types_of}
@@ -37,7 +38,6 @@ use Rattle.et_flow.specs.Types.{AreTypesBelow, TypesOf}
 use Rattle.et_flow.specs.Stores.{with_free}
 use Rattle.et_verify.specs.Typings.{AreThere, FitFrame, IsAccepted, IsTyping, argument_entries, first_types}
 use Rattle.et_typed.proofs.Entering.{void_is, void_typed}
-use Rattle.et_typed.proofs.Moves.{none_some, some_same}
 
 -- THE TYPING: the receiver is in the local variable, and may be the one operand
 
@@ -56,7 +56,7 @@ if_typed : (X : ℕ → TypesOf → Type 0) (n pc : ℕ) (ts us : TypesOf) (othe
 if_typed X n pc ts us others here more e = by (pc == n) refl e
   where
     by : (b : Bool) → (pc == n) ≡ b → (if b then Some ts else others) ≡ Some us → X pc us
-    by true q h = subst (λ (k : ℕ). X k us) (sym (eqb-true pc n q)) (subst (λ (t : TypesOf). X n t) (some_same ts us h) here)
+    by true q h = subst (λ (k : ℕ). X k us) (sym (eqb-true pc n q)) (subst (λ (t : TypesOf). X n t) (same_Some ts us h) here)
     by false q h = more h
 
 record Places (X : ℕ → TypesOf → Type 0) : Type 0 where
@@ -71,7 +71,7 @@ record Places (X : ℕ → TypesOf → Type 0) : Type 0 where
 each_place : (X : ℕ → TypesOf → Type 0) → Places X → (pc : ℕ) (ts : TypesOf) → run_typing pc ≡ Some ts → X pc ts
 each_place X h pc ts e =
     if_typed X 0 pc bare ts _ h.at0 (if_typed X 1 pc loaded ts _ h.at1 (if_typed X 4 pc loaded ts _ h.at4 (if_typed X 7 pc bare ts _ h.at7
-    (if_typed X 8 pc loaded ts _ h.at8 (if_typed X 11 pc loaded ts _ h.at11 (if_typed X 16 pc bare ts None h.at16 (λ q. absurd (none_some ts q)))))))) e
+    (if_typed X 8 pc loaded ts _ h.at8 (if_typed X 11 pc loaded ts _ h.at11 (if_typed X 16 pc bare ts None h.at16 (λ q. absurd (none-some ts q)))))))) e
 
 -- STARTS, and what fits
 

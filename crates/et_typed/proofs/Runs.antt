@@ -1,7 +1,8 @@
 -- Over every history each state is typed, so what ends ill typed is refused by check 7.
 use Rattle.std.proofs.Common.{◌≡◌, ℕ, zero, suc, ◌<◌, ◌≤◌, ◌==◌, Bool, true, false, List, [], length, get_or, Option, Some, None, refl, sym, ◌∙◌, ap, subst, arith}
 use Rattle.std.specs.Prelude.{codes, if◌then◌else◌, ◌^◌}
-use Rattle.std.proofs.lemmas.Bool.{eq-eqb, true≢false}
+use Rattle.std.proofs.lemmas.Bool.{eqb-false}
+use Rattle.std.proofs.lemmas.Option.{none-some, same_Some}
 use Rattle.et_graph.specs.Graph.{Graph, Decides}
 use Rattle.et_event.specs.Errors.{class_called}
 use Rattle.et_program.specs.Members.{is_subclass}
@@ -33,7 +34,6 @@ use Rattle.et_history.specs.Whole.{whole_start}
 use Rattle.et_sound.proofs.Outcomes.{if_case}
 use Rattle.et_typed.specs.Refused.{IsRefused}
 use Rattle.et_typed.specs.Typed.{AreTypings, HasTypedSlots, IsTyped, IsTypedThread, KeepsTyped, Typings}
-use Rattle.et_typed.proofs.Moves.{none_some, some_same}
 use Rattle.et_typed.proofs.Told.{told_typed}
 use Rattle.et_typed.proofs.Verified.{HasTypings, linked_typings}
 use Rattle.et_history.proofs.Runs.{sound_run}
@@ -45,7 +45,7 @@ use Rattle.et_verify.specs.Typings.{IsVerified}
 
 empty_typed : (p : Linked) (y x : ObjectState) → y.slots ≡ [] → Some y ≡ Some x → HasTypedSlots p x
 empty_typed p y x none is below i lt =
-    ap (λ (vs : List Value). is_of_kind (Some Reference) (get_or vs i Unset)) (sym (ap (λ (z : ObjectState). z.slots) (some_same y x is)) ∙ none)
+    ap (λ (vs : List Value). is_of_kind (Some Reference) (get_or vs i Unset)) (sym (ap (λ (z : ObjectState). z.slots) (same_Some y x is)) ∙ none)
 
 start_typed : (p : Linked) (typings : Typings) → IsTyped p typings (start p)
 start_typed p typings = record { threads = threads; objects = objects }
@@ -55,9 +55,9 @@ start_typed p typings = record { threads = threads; objects = objects }
     threads (suc t) lt = absurd (omega (arith, lt))
 
     objects : (o : ℕ) (x : ObjectState) → at (start p).heap o ≡ Some x → HasTypedSlots p x
-    objects zero x is = absurd (none_some x is)
+    objects zero x is = absurd (none-some x is)
     objects (suc zero) x is = empty_typed p _ x refl is
-    objects (suc (suc o)) x is = absurd (none_some x is)
+    objects (suc (suc o)) x is = absurd (none-some x is)
 
 -- A FLUSH changes no frame, and no slot of what stays
 
@@ -123,9 +123,6 @@ refused_so e typings (outcome.Waits next) thread t m pc h q = absurd (none_ill (
 refused_so e typings (outcome.IllTyped method place) thread t m pc h q = h
 refused_so e typings outcome.ObjectLimit thread t m pc h q = absurd (objects_ill t m pc q)
 
-not_same : (a b : ℕ) → (a == b) ≡ false → a ≡ b → ⊥
-not_same a b e same = true≢false (sym (eq-eqb a b same) ∙ e)
-
 module _ (reached : Graph → ℕ → Bool) (p : Linked) (options : Options) (pick : ℕ → ℕ) (typings : Typings) (decides : Decides reached) (run : IsSoundRun p (start p)) (are : AreOptions options) (all : AreTypings p typings) where
   settled_typed : (e : ℕ) → IsTyped p typings (state_at reached p options pick e) → IsTyped p typings (settled_at reached p options pick e)
   settled_typed e h =
@@ -141,7 +138,7 @@ module _ (reached : Graph → ℕ → Bool) (p : Linked) (options : Options) (pi
       let m = settled_match reached p options pick decides run are e goes in
       let sound : IsSoundFor p s = subst (λ (x : Kept). IsSoundFor p x) m.0 m.1.state in
       let clock : s.guest.clock ≡ e = sym (ap (λ (x : Kept). x.guest.clock) m.0) ∙ m.1.clock in
-      let below : e < options.limit = below_limit e options.limit m.1.within (not_same e options.limit within) in
+      let below : e < options.limit = below_limit e options.limit m.1.within (eqb-false e options.limit within) in
       let few : s.guest.clock < 2 ^ 40 = omega (arith, clock, below, are.limit) in
       told_typed p typings s thread sound few (picked_unended s (pick (suc e)) some) run.runnable all (settled_typed e typed)
     where

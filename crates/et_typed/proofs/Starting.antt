@@ -4,6 +4,7 @@ use Rattle.std.specs.Prelude.{if◌then◌else◌, map, slice_index_or, replicat
 use Rattle.std.specs.List.{flat_map}
 use Rattle.std.proofs.lemmas.List.Sums.{sum_by-cons}
 use Rattle.std.proofs.lemmas.List.{length-append, length-map, map-append}
+use Rattle.std.proofs.lemmas.Option.{none-some, same_Some}
 use Rattle.et_base.specs.declared.value.Value.{Value}
 use Rattle.et_base.specs.declared.value.Value.TheVariants.{Unset}
 use Rattle.et_class.specs.PoolOperands.Operand.{Operand}
@@ -19,7 +20,7 @@ use Rattle.et_flow.specs.Types.{local_entries, operand_entries, type_of}
 use Rattle.et_flow.specs.Stores.{with_free}
 use Rattle.et_verify.specs.Typings.{argument_entries, parameter_entries}
 use Rattle.et_typed.specs.Values.{AreLocalsOf, ArePaired, type_at}
-use Rattle.et_typed.proofs.Moves.{none_some, some_same, width_is}
+use Rattle.et_typed.proofs.Moves.{width_is}
 
 -- PAIRS
 
@@ -127,12 +128,12 @@ arguments_local kinds count arguments are =
 -- PARAMETERS
 
 more_kinds : (kind : Operand) (x : Option (List Operand)) (kinds : List Operand) → option_map (λ more. kind ∷ more) x ≡ Some kinds → (more : List Operand) × (x ≡ Some more) × (kinds ≡ kind ∷ more)
-more_kinds kind None kinds e = absurd (none_some kinds e)
-more_kinds kind (Some more) kinds e = (more, refl, sym (some_same (kind ∷ more) kinds e))
+more_kinds kind None kinds e = absurd (none-some kinds e)
+more_kinds kind (Some more) kinds e = (more, refl, sym (same_Some (kind ∷ more) kinds e))
 
 pub all_some : (os : List (Option Operand)) (kinds : List Operand) → all_kinds os ≡ Some kinds → os ≡ map Some kinds
-all_some [] kinds e = subst (λ (ks : List Operand). [] ≡ map Some ks) (some_same [] kinds e) refl
-all_some (None ∷ os) kinds e = absurd (none_some kinds e)
+all_some [] kinds e = subst (λ (ks : List Operand). [] ≡ map Some ks) (same_Some [] kinds e) refl
+all_some (None ∷ os) kinds e = absurd (none-some kinds e)
 all_some (Some kind ∷ os) kinds e =
     let x = more_kinds kind (all_kinds os) kinds e in
     subst (λ (ks : List Operand). Some kind ∷ os ≡ map Some ks) (sym x.2) (ap (λ (more : List (Option Operand)). Some kind ∷ more) (all_some os x.0 x.1))

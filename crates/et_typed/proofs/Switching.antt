@@ -1,8 +1,8 @@
 -- The targets of branches and switches are places to which they lead.
-use Rattle.std.proofs.Common.{inl, inr, ◌≡◌, ◌⊎◌, ℕ, ◌==◌, ◌||◌, ◌&&◌, Bool, true, false, List, [], ◌∷◌, Some, refl, ◌∙◌, ap, subst, Contains}
+use Rattle.std.proofs.Common.{inl, inr, ◌≡◌, ℕ, ◌==◌, ◌||◌, Bool, true, false, List, [], ◌∷◌, Some, refl, ◌∙◌, ap, subst, Contains}
 use Rattle.std.specs.Prelude.{ℤ, pos, negsuc, if◌then◌else◌, map}
 use Rattle.std.specs.List.{list_all}
-use Rattle.std.proofs.lemmas.Bool.{eqb-true, eq-eqb, false≢true}
+use Rattle.std.proofs.lemmas.Bool.{eqb-true, eq-eqb, false≢true, or_right, or_left, or_cases, and_from}
 use Rattle.std.proofs.lemmas.List.Elements.{Contains-append_right}
 use Rattle.et_base.proofs.Lists.{Contains-here, Contains-there}
 use Rattle.et_code.specs.Rules.{is_branch, offsets}
@@ -41,26 +41,10 @@ abbrev is_among : ℤ → List ℤ → Bool
 is_among z [] = false
 is_among z (o ∷ os) = same_int o z || is_among z os
 
-or_left : (a b : Bool) → a ≡ true → (a || b) ≡ true
-or_left true b e = refl
-or_left false b e = absurd (false≢true e)
-
-or_right : (a b : Bool) → b ≡ true → (a || b) ≡ true
-or_right true b e = refl
-or_right false b e = e
-
-or_cases : (a b : Bool) → (a || b) ≡ true → (a ≡ true) ⊎ (b ≡ true)
-or_cases true b e = inl refl
-or_cases false b e = inr e
-
-and_both : (a b : Bool) → a ≡ true → b ≡ true → (a && b) ≡ true
-and_both true b p q = q
-and_both false b p q = p
-
 all_among : (f : ℤ → Bool) (xs : List ℤ) → ((z : ℤ) → is_among z xs ≡ true → f z ≡ true) → list_all f xs ≡ true
 all_among f [] h = refl
 all_among f (x ∷ xs) h =
-    and_both (f x) (list_all f xs) (h x (or_left (same_int x x) (is_among x xs) (same_itself x))) (all_among f xs (λ z in_it. h z (or_right (same_int x z) (is_among z xs) in_it)))
+    and_from (f x) (list_all f xs) (h x (or_left (same_int x x) (is_among x xs) (same_itself x))) (all_among f xs (λ z in_it. h z (or_right (same_int x z) (is_among z xs) in_it)))
 
 target_among : (pc : ℕ) (z : ℤ) (os : List ℤ) → is_among z os ≡ true → Contains (map (target pc) os) (target pc z)
 target_among pc z [] e = absurd (false≢true e)

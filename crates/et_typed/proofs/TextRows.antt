@@ -3,6 +3,7 @@ use Rattle.std.proofs.Common.{◌≡◌, ℕ, ◌++◌, ◌&&◌, Bool, true, fa
 use Rattle.std.specs.Prelude.{codes, if◌then◌else◌, map, nat_le, pos, slice_index_or}
 use Rattle.std.specs.List.{flat_map}
 use Rattle.std.proofs.lemmas.List.{map-append}
+use Rattle.std.proofs.lemmas.Option.{same_Some}
 use Rattle.et_base.specs.declared.value.Value.{Value}
 use Rattle.et_base.specs.declared.value.Value.TheVariants as value
 use Rattle.et_class.specs.Descriptors.{MethodType, method_type}
@@ -15,7 +16,7 @@ use Rattle.et_event.specs.Errors.{class_called}
 use Rattle.et_event.specs.Frames.{first_reference}
 use Rattle.et_event.specs.Heap.{truth}
 use Rattle.et_event.specs.Kinds.{in_bounds}
-use Rattle.et_event.specs.Moments.{Doing, Moment, begins, current_frame, fits_heap, goes, ill_typed, instance_made, next_object}
+use Rattle.et_event.specs.Moments.{Doing, Moment, begins, current_frame, fits_heap, ill_typed, instance_made, next_object}
 use Rattle.et_event.specs.Selected.{TextCall, selected_from, with_resolved}
 use Rattle.et_event.specs.Sites.{Member, Site, names_interface, natural_of, site_member, site_of}
 use Rattle.et_event.specs.TextRows.{ends_with_texts, is_fit_text, is_text_like, rewrites, shown, text_done, text_given, text_row}
@@ -40,11 +41,9 @@ use Rattle.et_verify.specs.Effects.{arguments_with}
 use Rattle.et_verify.specs.Steps.{with_given}
 use Rattle.et_flow.specs.Types.{TypesOf, local_entries, type_of}
 use Rattle.et_typed.specs.Typed.{Typings}
-use Rattle.et_typed.specs.Values.{AreOperandsOf}
 use Rattle.et_typed.proofs.CallRows.{Calls, Resolved, left_operands, passes, selected_called, text_refuses}
 use Rattle.et_typed.proofs.Here.{Here, leaves, unless_refused}
 use Rattle.et_typed.proofs.Own.{AsBefore, LeavesTyped, Own, own_by}
-use Rattle.et_typed.proofs.Moves.{some_same}
 use Rattle.et_typed.proofs.Taking.{typed_int}
 use Rattle.et_typed.proofs.TextCalls.{Chosen, chosen}
 use Rattle.et_typed.proofs.TextTable.{FitsType, answered_as, fits_type, given_as, index_taken, takes_index, text_answer}
@@ -147,10 +146,10 @@ module _ (e : Moment) (typings : Typings) (m : ℕ) (at : Site) (kind : CallKind
 
   module _ (x : TextCall) (called : IsTextCall e x) (way : called.kind ≡ kind) (site : site_of e.program (current_frame e) called.decoded ≡ at) where
     member : called.member ≡ c.member
-    member = some_same called.member c.member (sym called.names ∙ (ap site_member site ∙ c.named))
+    member = same_Some called.member c.member (sym called.names ∙ (ap site_member site ∙ c.named))
 
     type : called.type ≡ c.type
-    type = some_same called.type c.type (sym called.typed ∙ (ap (λ (n : Member). method_type n.descriptor) member ∙ c.typed))
+    type = same_Some called.type c.type (sym called.typed ∙ (ap (λ (n : Member). method_type n.descriptor) member ∙ c.typed))
 
     found : IsFoundAt kind at c.member c.type called.selected
     found =

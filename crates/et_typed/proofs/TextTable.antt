@@ -5,6 +5,7 @@ use Rattle.std.specs.List.{list_all, slice_index_or}
 use Rattle.std.specs.Str.{bytes_eq}
 use Rattle.std.proofs.lemmas.Bool.{and_parts, false≢true, not-true}
 use Rattle.std.proofs.lemmas.Slice.Eq.{bytes_eq-Decides}
+use Rattle.std.proofs.lemmas.Option.{none-some, same_Some}
 use Rattle.et_boot.specs.TextMethods.{is_text_method, text_methods}
 use Rattle.et_class.specs.Descriptors.{MethodType, after_dimensions, after_name, is_void, method_type, types_of, width_of}
 use Rattle.et_class.specs.Operands.{operand_kind}
@@ -22,7 +23,6 @@ use Rattle.et_verify.specs.Effects.{result_kind, returned_kind}
 use Rattle.et_verify.specs.Steps.{with_given}
 use Rattle.et_flow.specs.Types.{operand_entries}
 use Rattle.et_typed.proofs.Answering.{answers_as, described, nothing_given, reference_given}
-use Rattle.et_typed.proofs.Moves.{none_some, some_same}
 
 -- WHAT IT ANSWERS
 
@@ -108,7 +108,7 @@ pub record FitsType (m : MethodInfo) (x : TextMethod) : Type 0 where
   pub index : takes_index x m.descriptor ≡ true
 
 fits_by : (m : MethodInfo) (class : List ℕ) (x : TextMethod) (rs : List Row) → list_all row_fits rs ≡ true → option_map (λ (row : Row). row.3) (find (is_text_method class m.name m.descriptor) rs) ≡ Some x → FitsType m x
-fits_by m class x [] all e = absurd (none_some x e)
+fits_by m class x [] all e = absurd (none-some x e)
 fits_by m class x (row ∷ rs) all e = by (is_text_method class m.name m.descriptor row) refl e (fits_by m class x rs parts.1)
   where
     parts : (row_fits row ≡ true) × (list_all row_fits rs ≡ true)
@@ -117,7 +117,7 @@ fits_by m class x (row ∷ rs) all e = by (is_text_method class m.name m.descrip
     by : (b : Bool) → is_text_method class m.name m.descriptor row ≡ b → option_map (λ (r : Row). r.3) (if b then Some row else find (is_text_method class m.name m.descriptor) rs) ≡ Some x → (option_map (λ (r : Row). r.3) (find (is_text_method class m.name m.descriptor) rs) ≡ Some x → FitsType m x) → FitsType m x
     by true is q more =
         let type : row.2 ≡ m.descriptor = (bytes_eq-Decides row.2 m.descriptor).0 (and_parts (bytes_eq row.0 class && bytes_eq row.1 m.name) (bytes_eq row.2 m.descriptor) is).1 in
-        let same : row.3 ≡ x = some_same row.3 x q in
+        let same : row.3 ≡ x = same_Some row.3 x q in
         let fits = and_parts (answered_as (text_answer row.3) (returned_of (described row.2))) (takes_index row.3 row.2) parts.0 in
         record {
           answers = subst (λ (y : TextMethod). answered_as (text_answer y) (returned_of m) ≡ true) same (subst (λ (d : List ℕ). answered_as (text_answer row.3) (returned_of (described d)) ≡ true) type fits.0);

@@ -3,12 +3,13 @@ use Rattle.std.proofs.Common.{◌≡◌, ℕ, ◌<◌, Bool, true, false, List, 
 use Rattle.std.specs.Prelude.{◌^◌, if◌then◌else◌, is_some}
 use Rattle.std.specs.Result.{result_ok}
 use Rattle.std.proofs.lemmas.Bool.{cases_eq}
+use Rattle.std.proofs.lemmas.Option.{same_Some}
 use Rattle.et_code.specs.declared.instr.Instr.{Instr}
 use Rattle.et_event.proofs.Beside.{sound-spoken}
 use Rattle.et_event.specs.Calls.{is_static_call}
 use Rattle.et_event.specs.Event.{event}
 use Rattle.et_event.specs.Frames.{first_reference}
-use Rattle.et_event.specs.Moments.{Moment, begins, current_frame, thread_of}
+use Rattle.et_event.specs.Moments.{Moment, current_frame, thread_of}
 use Rattle.et_event.specs.Out.{OutRead, out_by, out_in, out_row, out_turn}
 use Rattle.et_event.specs.Runnable.{IsRunnable}
 use Rattle.et_event.specs.Selected.{TextCall}
@@ -39,7 +40,6 @@ use Rattle.et_typed.specs.Typed.{AreTypings, IsTyped, IsTypedThread, KeepsTyped,
 use Rattle.et_typed.proofs.Beside.{keeps_beside, typed-spoken}
 use Rattle.et_typed.proofs.CallRows.{Calls, calls}
 use Rattle.et_typed.proofs.Here.{Here}
-use Rattle.et_typed.proofs.Moves.{some_same}
 use Rattle.et_typed.proofs.Others.{KeepsOthers}
 use Rattle.et_typed.proofs.OutRead.{IsReadOut, is_read_out, out_decoded, out_turn_is, out_typed}
 use Rattle.et_typed.proofs.Own.{LeavesTyped}
@@ -119,14 +119,14 @@ module _ (p : Linked) (typings : Typings) (s : Kept) (t : ℕ) (k : Known (recor
   quiet turn = calm e typings k (nothing_pends (thread_of e) turn)
 
   same_instruction : (x y : Instr × ℕ) → decoded_at p (current_frame e) ≡ Ok x → decoded_at p (current_frame e) ≡ Ok y → x ≡ y
-  same_instruction x y a b = some_same x y (ap result_ok (sym a ∙ b))
+  same_instruction x y a b = same_Some x y (ap result_ok (sym a ∙ b))
 
   -- A CALL OF A METHOD OF TEXTS
   called_typed : (x : TextCall) → IsTextCall e x → LeavesTyped e typings (text_row e x (first_reference x.arguments))
   called_typed x c =
       let a : Accepted e typings = accepted e typings (quiet c.turn) c.turn in
       let same : a.here.row.decoded ≡ c.decoded = same_instruction a.here.row.decoded c.decoded a.here.row.is c.is in
-      let row : a.row ≡ rows.Call (call.Invoke c.kind) = some_same a.row (rows.Call (call.Invoke c.kind)) (sym a.here.row.row ∙ (ap (λ (d : Instr × ℕ). row_of d.0.opcode) same ∙ c.row)) in
+      let row : a.row ≡ rows.Call (call.Invoke c.kind) = same_Some a.row (rows.Call (call.Invoke c.kind)) (sym a.here.row.row ∙ (ap (λ (d : Instr × ℕ). row_of d.0.opcode) same ∙ c.row)) in
       let site : site_of p (current_frame e) c.decoded ≡ a.at = ap (λ (d : Instr × ℕ). site_of p (current_frame e) d) (sym same) ∙ sym a.here.row.site in
       let here : Here e typings a.method a.at (rows.Call (call.Invoke c.kind)) a.before a.after = subst (λ (r : Row). Here e typings a.method a.at r a.before a.after) row a.here in
       let calling : Calls a.at (is_static_call c.kind) a.before.operands a.after.operands = calls a.at (is_static_call c.kind) a.before.operands a.after.operands here.after.operands in

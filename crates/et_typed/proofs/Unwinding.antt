@@ -3,6 +3,7 @@ use Rattle.std.proofs.Common.{◌≡◌, ℕ, ◌<◌, ◌≤◌, ◌==◌, ◌&
 use Rattle.std.specs.Prelude.{if◌then◌else◌, filter, find, is_some, map, nat_le, nat_lt, unwrap_or}
 use Rattle.std.proofs.lemmas.Bool.{false≢true, lt-ltb}
 use Rattle.std.proofs.lemmas.List.{length-set}
+use Rattle.std.proofs.lemmas.Option.{none-some, same_Some}
 use Rattle.et_base.proofs.Lists.{Contains-here, Contains-there}
 use Rattle.et_base.specs.declared.value.Value.TheVariants.{Ref}
 use Rattle.et_code.specs.Bodies.{Body}
@@ -37,7 +38,6 @@ use Rattle.et_flow.specs.Types.{TypesOf}
 use Rattle.et_verify.specs.Typings.{IsAccepted, IsTyping}
 use Rattle.et_typed.specs.Typed.{AreTypedFrames, AreTypings, Holds, HoldsLocals, IsTypedFrame, IsTypedThread, LocalsAlone, Typings, Whole, part_below, part_of}
 use Rattle.et_typed.proofs.Here.{there_holds}
-use Rattle.et_typed.proofs.Moves.{none_some, some_same}
 use Rattle.et_typed.proofs.Own.{AsBefore, LeavesTyped, Own, ends_leave, first_typed, own_by, pending_own, same_thread, slot_threads, started_still, thread_own, weak_frames}
 
 -- HANDLERS
@@ -65,7 +65,7 @@ may_so p pool pc class row h =
     (or_more (row.catch == 0) (catches_name p class (class_name_at pool row.catch)) (is_of_program p (class_name_at pool row.catch)) (named_there p class (class_name_at pool row.catch))) h
 
 found_handles : (test may : TableRow → Bool) (rows : List TableRow) (row : TableRow) → ((r : TableRow) → test r ≡ true → may r ≡ true) → find test rows ≡ Some row → Contains (map (λ (r : TableRow). r.handler) (filter may rows)) row.handler
-found_handles test may [] row so h = absurd (none_some row h)
+found_handles test may [] row so h = absurd (none-some row h)
 found_handles test may (r ∷ rows) row so h = by (test r) refl h (found_handles test may rows row so)
   where
     kept : (b : Bool) → may r ≡ b → b ≡ true → r ≡ row → Contains (map (λ (x : TableRow). x.handler) (if b then r ∷ filter may rows else filter may rows)) row.handler
@@ -77,7 +77,7 @@ found_handles test may (r ∷ rows) row so h = by (test r) refl h (found_handles
     past false c = c
 
     by : (b : Bool) → test r ≡ b → (if b then Some r else find test rows) ≡ Some row → (find test rows ≡ Some row → Contains (map (λ (x : TableRow). x.handler) (filter may rows)) row.handler) → Contains (map (λ (x : TableRow). x.handler) (filter may (r ∷ rows))) row.handler
-    by true q e more = kept (may r) refl (so r q) (some_same r row e)
+    by true q e more = kept (may r) refl (so r q) (same_Some r row e)
     by false q e more = past (may r) (more e)
 
 -- WHAT IS KNOWN

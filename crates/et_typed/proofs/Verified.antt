@@ -1,9 +1,9 @@
 -- A linked program of which each method of the files has a typing has one for each method with code.
-use Rattle.std.proofs.Common.{◌≡◌, ◌||◌, ℕ, ◌+◌, ◌<◌, ◌==◌, ◌&&◌, Bool, true, false, ltb, List, [], ◌∷◌, length, map, Option, Some, None, refl, sym, ◌∙◌, ap, subst, arith, Contains}
+use Rattle.std.proofs.Common.{◌≡◌, ℕ, ◌+◌, ◌<◌, ◌==◌, ◌&&◌, Bool, true, false, ltb, List, [], ◌∷◌, length, map, Option, Some, None, refl, sym, ◌∙◌, ap, subst, arith, Contains}
 use Rattle.std.specs.Prelude.{All, codes, not, nat_lt}
 use Rattle.std.specs.List.{list_all}
 use Rattle.std.specs.Str.{bytes_eq}
-use Rattle.std.proofs.lemmas.Bool.{and_parts, eqb-true, true≢false, not-true, lt-ltb, ltb-true}
+use Rattle.std.proofs.lemmas.Bool.{and_parts, eqb-true, true≢false, not-true, lt-ltb, ltb-true, or_from}
 use Rattle.std.proofs.lemmas.List.{get_or_default}
 use Rattle.std.proofs.lemmas.List.Elements.{All-map}
 use Rattle.et_boot.specs.Classes.{thread_run}
@@ -96,10 +96,6 @@ all_built_in files =
     (each_of (λ (x : MethodInfo). is_run x x.code) RunsBuiltIn (λ x h body other code. run_method x body (subst (λ (o : Option Body). is_run x o ≡ true) code h)) (numbered boot_methods 0 boots) all_run)
     (λ i c lt e. All-map RunsBuiltIn (file_method c.pool.slots (length boots + i)) c.methods (λ j d l body other code. absurd (of_file (length boots) i other)))
 
-either_false : (a b : Bool) → a ≡ false → b ≡ false → (a || b) ≡ false
-either_false true b p q = absurd (true≢false p)
-either_false false b p q = q
-
 -- THE TYPINGS
 module _ (files : List LoadedClass) (rows : List Ancestry) (pools : List Constants) (has_pools : HasPools files pools) (verified : IsVerified (program_with files rows pools)) where
   abbrev p : Linked
@@ -126,7 +122,7 @@ module _ (files : List LoadedClass) (rows : List Ancestry) (pools : List Constan
   typed_by m body lt code true false q r =
       let x : IsRunMethod (method_at p m) body = all_built_in files m no_method lt body r code in
       subst (λ (b : Body). IsTyping (program_with files rows pools) m b run_typing) (sym x.body_is)
-      (run_typed (program_with files rows pools) m x.class (thread_slots files pools has_pools) x.descriptor (either_false (is_static (program_with files rows pools) m) (is_initializing (program_with files rows pools) m) x.instance x.named))
+      (run_typed (program_with files rows pools) m x.class (thread_slots files pools has_pools) x.descriptor (or_from (is_static (program_with files rows pools) m) (is_initializing (program_with files rows pools) m) x.instance x.named))
   typed_by m body lt code false file q r = absurd (true≢false (sym (lt-ltb m (length (program_with files rows pools).methods) lt) ∙ q))
 
   all_typed : (m : ℕ) (body : Body) → m < length (program_with files rows pools).methods → (method_at (program_with files rows pools) m).code ≡ Some body → IsTyping (program_with files rows pools) m body (typings m)

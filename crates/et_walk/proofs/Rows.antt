@@ -72,7 +72,7 @@ pub record MakesArrays (p : Linked) (at : Site) (r : HeapRow) : Type 0 where
   pub multi : r ≡ row.NewMultiArray → (name : List ℕ) (class : ℕ) → class_operand at ≡ Some name → resolve_class p name ≡ Ok class → (0 < natural_of at.instr.second) × HasDimensions p (natural_of at.instr.second) class
 
 -- an array has a slot for each element
-no_elements : (kind : Elements) → are_elements kind NoArray ≡ true → ⊥
+pub no_elements : (kind : Elements) → are_elements kind NoArray ≡ true → ⊥
 no_elements elements.Int q = false≢true q
 no_elements elements.Long q = false≢true q
 no_elements elements.Reference q = false≢true q
