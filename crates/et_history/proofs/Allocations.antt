@@ -5,19 +5,18 @@ use Rattle.std.specs.List.{flat_map, list_any}
 use Rattle.std.proofs.lemmas.Bool.{cases_lt}
 use Rattle.et_base.specs.declared.line.TraceLine.{TraceLine}
 use Rattle.et_base.specs.declared.line.TraceLine.TheVariants as line
-use Rattle.et_graph.specs.Graph.{Graph, Decides}
+use Rattle.et_graph.specs.Graph.{Graph}
 use Rattle.et_heap.specs.Objects.{ObjectState, Objects, IsHeld, is_there, at, found, object_at, new_object}
 use Rattle.et_heap.specs.Remaining.{left_place, remaining}
 use Rattle.et_heap.proofs.HeapLists.{held_within}
-use Rattle.et_state.specs.History.{ending, is_flush_point, flush_lines, left_by, lines_to, mentions_to, deaths}
+use Rattle.et_state.specs.History.{ending, is_flush_point, flush_lines, left_by, lines_to, deaths}
 use Rattle.et_state.specs.History as history
 use Rattle.et_state.specs.Naming.{Names, Mentions, nothing_mentioned, with_mentions, class_line, method_line, classes_named_by, methods_named_by, number_in, line_of, record_lines, lines_of}
-use Rattle.et_state.specs.Options.{AreOptions}
 use Rattle.et_state.specs.Outcome.{Outcome, state_after, records_of}
 use Rattle.et_state.specs.Outcome as outcome
 use Rattle.et_state.specs.Past.{IsPast, first_of, reporting}
 use Rattle.et_state.specs.Roots.{graph}
-use Rattle.et_state.specs.Start.{argument_class, start}
+use Rattle.et_state.specs.Start.{argument_class}
 use Rattle.et_state.specs.State.{State, Kept}
 use Rattle.et_state.specs.declared.options.Options.{Options}
 use Rattle.et_state.specs.declared.records.Record.{Record}
@@ -32,10 +31,10 @@ use Rattle.et_event.specs.Kinds.{is_array_element}
 use Rattle.et_event.specs.Moments.{array_size, element_width}
 use Rattle.et_event.specs.Start.{start_records}
 use Rattle.et_history.specs.Allocations.{object_in, next_number, IsMadeAt, TellsOf, next_behind, AreAllocations, HasArguments}
-use Rattle.et_history.specs.Histories.{picked, HistoryGoesOn, WholeGoesOn, whole_picked, whole_at, whole_settled_at}
+use Rattle.et_history.specs.Histories.{picked, whole_picked, whole_at, whole_settled_at, IsHistory, HistoryComesTo, WholeComesTo}
 use Rattle.et_walk.specs.Records.{size_by, size_of, IsAlike, next_after, IsAllocationOf, AreRecordsOf, HasPlainStrings, TellsObjects}
 use Rattle.et_history.specs.Same.{IsHere}
-use Rattle.et_history.specs.Settings.{IsSoundRun, unended_threads}
+use Rattle.et_history.specs.Settings.{unended_threads}
 use Rattle.et_walk.specs.Telling.{names_of_program}
 use Rattle.et_history.specs.Whole.{beside, cleared, whole_flushed, whole_start}
 use Rattle.et_history.proofs.Alike.{is_open}
@@ -227,9 +226,9 @@ argument_size (Base kind) is = ap (λ (n : ℕ). (24 + n + 7) / 8 * 8) (none_tim
 argument_size (Class class) is = refl
 
 -- THE HISTORY
-module _ (reached : Graph → ℕ → Bool) (p : Linked) (options : Options) (pick : ℕ → ℕ) (decides : Decides reached) (run : IsSoundRun p (start p)) (plain : HasPlainStrings p) (arguments : HasArguments p) (are : AreOptions options) where
+module _ (reached : Graph → ℕ → Bool) (p : Linked) (options : Options) (pick : ℕ → ℕ) (runs : IsHistory reached p options) (plain : HasPlainStrings p) (arguments : HasArguments p) where
   abbrev Before : ℕ → Type 0
-  Before e = (k : ℕ) → k < e → HistoryGoesOn reached p options pick k
+  Before e = HistoryComesTo reached p options pick e
 
   abbrev now : ℕ → State
   now e = whole_at reached p options pick e
@@ -247,7 +246,7 @@ module _ (reached : Graph → ℕ → Bool) (p : Linked) (options : Options) (pi
   fewer e goes k lt = goes k (omega (arith, lt))
 
   past_at : (e : ℕ) → Before e → IsPast (now e).kept.heap (now e).reported
-  past_at e goes = (all_match reached p options pick decides run are e goes).1.past
+  past_at e goes = (all_match reached p options pick runs e goes).1.past
 
   settled_here : (e o : ℕ) → Before e → IsHere (now e) o → IsHere (settled e) o
   settled_here e o goes h =
@@ -267,10 +266,10 @@ module _ (reached : Graph → ℕ → Bool) (p : Linked) (options : Options) (pi
 
   tells_at : (e : ℕ) → Before (suc e) → TellsObjects p (settled e).kept (turn e) (step e)
   tells_at e goes =
-      let m = settled_match reached p options pick decides run are e (fewer e goes) in
+      let m = settled_match reached p options pick runs e (fewer e goes) in
       let t : State = settled e in
       let on = is_open (length (unended_threads t.kept) == 0) (e == options.limit) _ _ _ (subst (λ (x : Kept). ending (picked p options pick) e x ≡ None) (sym m.0) (goes e (omega arith))) in
-      event_tells p t.kept (turn e) m.1.state (picked_unended t.kept (pick (suc e)) on.some) run.runnable plain
+      event_tells p t.kept (turn e) m.1.state (picked_unended t.kept (pick (suc e)) on.some) runs.run.runnable plain
 
   next_is : (e : ℕ) → now (suc e) ≡ after (settled e) (step e)
   unfolding left_by
@@ -294,7 +293,7 @@ module _ (reached : Graph → ℕ → Bool) (p : Linked) (options : Options) (pi
   next_alike : (e o : ℕ) → Before (suc e) → IsHere (now e) o → IsAlike (object_in (now e) o) (object_in (now (suc e)) o)
   next_alike e o goes h =
       let t : State = settled e in
-      let m = settled_match reached p options pick decides run are e (fewer e goes) in
+      let m = settled_match reached p options pick runs e (fewer e goes) in
       let past_next : IsPast (after t (step e)).kept.heap (after t (step e)).reported = subst (λ (s : State). IsPast s.kept.heap s.reported) (next_is e) (past_at (suc e) goes) in
       subst (λ (s : State). IsAlike (object_in (now e) o) (object_in s o)) (sym (next_is e))
       (alike_then (object_in (now e) o) (object_in t o) (object_in (after t (step e)) o) (settled_alike e o (fewer e goes) h)
@@ -350,7 +349,7 @@ module _ (reached : Graph → ℕ → Bool) (p : Linked) (options : Options) (pi
   next_told : (e : ℕ) → Before (suc e) → AreAllocations (Made (suc e)) (next_number (settled e)) (lines_of (names_of_program p) (history.mentions_to reached (whole_picked p options pick) (whole_start p) (start_records p) e) (records_of (beside (settled e).reported (step e)))) (next_number (now (suc e)))
   next_told e goes =
       let t : State = settled e in
-      let m = settled_match reached p options pick decides run are e (fewer e goes) in
+      let m = settled_match reached p options pick runs e (fewer e goes) in
       let clock : t.kept.guest.clock + 1 ≡ suc e = (let c = m.1.clock in omega arith) in
       subst (λ (n : ℕ). AreAllocations (Made (suc e)) (next_number t) (lines_of (names_of_program p) (history.mentions_to reached (whole_picked p options pick) (whole_start p) (start_records p) e) (records_of (beside t.reported (step e)))) n) (ap (λ (s : State). next_number s) (sym (next_is e)))
       (event_lines (Made (suc e)) p t (turn e) (step e) (names_of_program p) (history.mentions_to reached (whole_picked p options pick) (whole_start p) (start_records p) e) (tells_at e goes)
@@ -382,5 +381,5 @@ module _ (reached : Graph → ℕ → Bool) (p : Linked) (options : Options) (pi
       (both_tell (Made (suc e)) 1 n n old (if is_flush_point options.interval e then flush else []) told none) new
 
   -- THE LAW
-  pub allocations_told : (e : ℕ) → ((k : ℕ) → k < e → WholeGoesOn reached p options pick k) → AreAllocations (Made e) 1 (history.lines_to reached (whole_picked p options pick) (whole_start p) (start_records p) e) (next_number (now e))
-  allocations_told e goes = all_told e (go_on reached p options pick decides run are e goes)
+  pub allocations_told : (e : ℕ) → WholeComesTo reached p options pick e → AreAllocations (Made e) 1 (history.lines_to reached (whole_picked p options pick) (whole_start p) (start_records p) e) (next_number (now e))
+  allocations_told e goes = all_told e (go_on reached p options pick runs e goes)

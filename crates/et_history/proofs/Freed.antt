@@ -1,26 +1,24 @@
 -- Nothing is freed.
 use Rattle.std.proofs.Common.{◌≡◌, ℕ, zero, suc, ◌+◌, ◌<◌, ◌≤◌, ◌==◌, ◌↔◌, ◌⊎◌, Bool, true, false, [], ◌∷◌, length, Option, Some, None, Contains, refl, sym, ◌∙◌, ap, subst, inl, inr, arith}
 use Rattle.std.specs.Prelude.{if◌then◌else◌, map}
-use Rattle.et_graph.specs.Graph.{Graph, Decides}
+use Rattle.et_graph.specs.Graph.{Graph}
 use Rattle.et_heap.specs.Objects.{ObjectState, Objects, IsHeld, at, with_referent}
 use Rattle.et_heap.specs.Remaining.{is_cleared, kept_referent}
 use Rattle.et_heap.proofs.HeapLists.{gone_at}
 use Rattle.et_state.specs.History.{ending, is_flush_point, left_by}
 use Rattle.et_state.specs.History as history
-use Rattle.et_state.specs.Options.{AreOptions}
 use Rattle.et_state.specs.Outcome.{Outcome, state_after}
 use Rattle.et_state.specs.Outcome as outcome
 use Rattle.et_state.specs.Past.{IsPast, first_of, reporting}
 use Rattle.et_state.specs.Roots.{graph}
-use Rattle.et_state.specs.Start.{start}
 use Rattle.et_state.specs.State.{State, Kept}
 use Rattle.et_state.specs.declared.options.Options.{Options}
 use Rattle.et_program.specs.Entries.{Linked}
 use Rattle.et_event.specs.Told.{event_with_texts}
 use Rattle.et_walk.specs.Changing.{KeepsMonitors}
-use Rattle.et_history.specs.Histories.{picked, HistoryGoesOn, WholeGoesOn, whole_at, whole_settled_at}
+use Rattle.et_history.specs.Histories.{picked, whole_at, whole_settled_at, IsHistory, HistoryComesTo, WholeComesTo}
 use Rattle.et_history.specs.Same.{IsHere, IsReportedAs}
-use Rattle.et_history.specs.Settings.{IsSoundRun, unended_threads}
+use Rattle.et_history.specs.Settings.{unended_threads}
 use Rattle.et_history.specs.Whole.{beside, cleared, whole_flushed}
 use Rattle.et_history.proofs.Alike.{is_open}
 use Rattle.et_history.proofs.Wholes.{all_match, settled_match, go_on, keeps_at, flushed_here, reported_gone}
@@ -99,9 +97,9 @@ not_held : (s : State) (o : ℕ) → ((k : ℕ) → 0 < k → k < length s.kept.
 not_held s o full is = elim (full o is.0 is.1) [ inl held ↦ absurd (is.2 held) | inr there ↦ there ]
 
 -- THE HISTORY
-module _ (reached : Graph → ℕ → Bool) (p : Linked) (options : Options) (pick : ℕ → ℕ) (decides : Decides reached) (run : IsSoundRun p (start p)) (are : AreOptions options) where
+module _ (reached : Graph → ℕ → Bool) (p : Linked) (options : Options) (pick : ℕ → ℕ) (runs : IsHistory reached p options) where
   abbrev Before : ℕ → Type 0
-  Before e = (k : ℕ) → k < e → HistoryGoesOn reached p options pick k
+  Before e = HistoryComesTo reached p options pick e
 
   abbrev now : ℕ → State
   now e = whole_at reached p options pick e
@@ -110,7 +108,7 @@ module _ (reached : Graph → ℕ → Bool) (p : Linked) (options : Options) (pi
   settled e = whole_settled_at reached p options pick e
 
   past_at : (e : ℕ) → Before e → IsPast (now e).kept.heap (now e).reported
-  past_at e goes = (all_match reached p options pick decides run are e goes).1.past
+  past_at e goes = (all_match reached p options pick runs e goes).1.past
 
   settled_here : (e o : ℕ) → Before e → IsHere (now e) o → IsHere (settled e) o
   settled_here e o goes h =
@@ -126,11 +124,11 @@ module _ (reached : Graph → ℕ → Bool) (p : Linked) (options : Options) (pi
   unfolding left_by
   next_here e o goes h =
       let before : Before e = λ k lt. goes k (omega (arith, lt)) in
-      let m = settled_match reached p options pick decides run are e before in
+      let m = settled_match reached p options pick runs e before in
       let t : State = settled e in
       let on = is_open (length (unended_threads t.kept) == 0) (e == options.limit) _ _ _ (subst (λ (x : Kept). ending (picked p options pick) e x ≡ None) (sym m.0) (goes e (omega arith))) in
       let k : ℕ = history.picked_turn (picked p options pick) (suc e) t.kept in
-      after_here p t k (event_with_texts p t.kept k) (keeps_at reached p options pick decides run are e t k m.1 (record { some = on.some; within = on.within; thread_is = refl })) o (settled_here e o before h)
+      after_here p t k (event_with_texts p t.kept k) (keeps_at reached p options pick runs e t k m.1 (record { some = on.some; within = on.within; thread_is = refl })) o (settled_here e o before h)
 
   next_as : (e o : ℕ) (x : ObjectState) → Before (suc e) → IsReportedAs (now e) o x → IsReportedAs (now (suc e)) o x
   unfolding left_by
@@ -153,18 +151,18 @@ module _ (reached : Graph → ℕ → Bool) (p : Linked) (options : Options) (pi
   -- THE LAW
 
   abbrev WholeBefore : ℕ → Type 0
-  WholeBefore e = (k : ℕ) → k < e → WholeGoesOn reached p options pick k
+  WholeBefore e = WholeComesTo reached p options pick e
 
   pub here_on : (e n o : ℕ) → WholeBefore (e + n) → IsHere (now e) o → IsHere (now (e + n)) o
-  here_on e n o goes h = stays_here e n o (go_on reached p options pick decides run are (e + n) goes) h
+  here_on e n o goes h = stays_here e n o (go_on reached p options pick runs (e + n) goes) h
 
   pub reported_on : (e n o : ℕ) (x : ObjectState) → WholeBefore (e + n) → at (now e).reported o ≡ Some x → IsReportedAs (now (e + n)) o x
-  reported_on e n o x goes h = stays_as e n o x (go_on reached p options pick decides run are (e + n) goes) (inl h)
+  reported_on e n o x goes h = stays_as e n o x (go_on reached p options pick runs (e + n) goes) (inl h)
 
   pub all_here : (e o : ℕ) → WholeBefore e → 0 < o → o ≤ (graph (now e)).made → IsHere (now e) o
-  all_here e o goes some le = (all_match reached p options pick decides run are e (go_on reached p options pick decides run are e goes)).1.full o some (omega (arith, some, le))
+  all_here e o goes some le = (all_match reached p options pick runs e (go_on reached p options pick runs e goes)).1.full o some (omega (arith, some, le))
 
   pub gone_is : (e o : ℕ) → WholeBefore e → Contains (graph (now e)).gone o ↔ IsHeld (now e).reported o
   gone_is e o goes =
-      let m = all_match reached p options pick decides run are e (go_on reached p options pick decides run are e goes) in
+      let m = all_match reached p options pick runs e (go_on reached p options pick runs e goes) in
       (λ c. not_held (now e) o m.1.full (gone_at (now e).kept.heap o c), λ there. reported_gone (now e) m.1.past m.1.none o there)

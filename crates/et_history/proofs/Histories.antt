@@ -1,7 +1,7 @@
 -- Over every history, what the monitors of its states say agrees with who holds them.
 use Rattle.std.proofs.Common.{◌≡◌, ℕ, zero, suc, ◌<◌, ◌≤◌, ◌↔◌, Bool, List, [], ◌∷◌, length, get_or, Option, Some, None, refl, sym, ◌∙◌, ap, subst, arith}
 use Rattle.std.specs.Prelude.{replicate, IsSome}
-use Rattle.et_graph.specs.Graph.{Graph, Decides}
+use Rattle.et_graph.specs.Graph.{Graph}
 use Rattle.et_program.specs.Entries.{Linked}
 use Rattle.et_heap.specs.declared.monitor.Monitor.{Monitor}
 use Rattle.et_heap.specs.Objects.{ObjectState, is_there, at, found, free_monitor}
@@ -10,7 +10,6 @@ use Rattle.et_state.specs.State.{Kept}
 use Rattle.et_state.specs.Words.{class_monitor_at}
 use Rattle.et_state.proofs.Enqueued.{length-flushed, flushed_held, flushed_same}
 use Rattle.et_state.specs.declared.options.Options.{Options}
-use Rattle.et_state.specs.Options.{AreOptions}
 use Rattle.et_state.specs.History.{left_by, is_flush_point}
 use Rattle.et_event.specs.Told.{event_with_texts}
 use Rattle.et_event.specs.Moments.{Moment}
@@ -20,9 +19,9 @@ use Rattle.et_state.specs.Start.{start}
 use Rattle.et_sound.specs.WellFormed.{IsThere}
 use Rattle.et_sound.proofs.Growing.{free_is_sound}
 use Rattle.et_sound.proofs.Outcomes.{if_case}
-use Rattle.et_history.specs.Settings.{IsSoundRun, flushed_of}
+use Rattle.et_history.specs.Settings.{flushed_of}
 use Rattle.et_walk.specs.Holding.{monitor_in}
-use Rattle.et_history.specs.Histories.{state_at, settled_at, HistoryGoesOn, moment_at, times_held}
+use Rattle.et_history.specs.Histories.{state_at, settled_at, moment_at, times_held, IsHistory, HistoryComesTo}
 use Rattle.et_history.proofs.Agreeing.{Agrees, IsNew, Excludes, holder, excludes_same, excludes_event}
 use Rattle.et_history.proofs.Wholes.{Next, next, state_sound}
 
@@ -84,7 +83,7 @@ start_excludes p lock = record { there = λ h. unfree (monitor_in (start p) lock
 
 -- THE HISTORY
 
-module _ (reached : Graph → ℕ → Bool) (p : Linked) (options : Options) (pick : ℕ → ℕ) (decides : Decides reached) (run : IsSoundRun p (start p)) (are : AreOptions options) where
+module _ (reached : Graph → ℕ → Bool) (p : Linked) (options : Options) (pick : ℕ → ℕ) (runs : IsHistory reached p options) where
   abbrev times : Lock → ℕ → ℕ → ℕ
   times lock e t = times_held reached p options pick t lock e
 
@@ -97,39 +96,39 @@ module _ (reached : Graph → ℕ → Bool) (p : Linked) (options : Options) (pi
       let s : Kept = state_at reached p options pick e in
       if_case (λ (x : Kept). Excludes x lock (times lock e)) (is_flush_point options.interval e) (flushed_of (reached (graph_of s)) s) s (flushed_excludes (reached (graph_of s)) s lock (times lock e) h) h
 
-  next_excludes : (e : ℕ) (lock : Lock) → Next reached p options pick decides run are e → Excludes (state_at reached p options pick e) lock (times lock e) → Excludes (state_at reached p options pick (suc e)) lock (times lock (suc e))
+  next_excludes : (e : ℕ) (lock : Lock) → Next reached p options pick runs e → Excludes (state_at reached p options pick e) lock (times lock e) → Excludes (state_at reached p options pick (suc e)) lock (times lock (suc e))
   unfolding left_by times_held
   next_excludes e lock n h =
       let m : Moment = moment_at reached p options pick e in
       excludes_event m (event_with_texts p (settled_at reached p options pick e) m.thread) lock (times lock e) m.thread n.keeps (λ there. (monitor_sound (settled_at reached p options pick e) p lock n.sound there).owned.1) n.done (settled_excludes e lock h)
 
-  pub all_exclude : (e : ℕ) (lock : Lock) → ((k : ℕ) → k < e → HistoryGoesOn reached p options pick k) → Excludes (state_at reached p options pick e) lock (times lock e)
+  pub all_exclude : (e : ℕ) (lock : Lock) → HistoryComesTo reached p options pick e → Excludes (state_at reached p options pick e) lock (times lock e)
   all_exclude zero lock goes = first_excludes lock
   all_exclude (suc e) lock goes =
-      let before : (k : ℕ) → k < e → HistoryGoesOn reached p options pick k = λ k lt. goes k (omega arith) in
-      next_excludes e lock (next reached p options pick decides run are e goes) (all_exclude e lock before)
+      let before : HistoryComesTo reached p options pick e = λ k lt. goes k (omega arith) in
+      next_excludes e lock (next reached p options pick runs e goes) (all_exclude e lock before)
 
   -- THE LAWS
 
-  owned : (e : ℕ) (lock : Lock) (t : ℕ) → ((k : ℕ) → k < e → HistoryGoesOn reached p options pick k) → IsThere (state_at reached p options pick e) lock → (monitor_in (state_at reached p options pick e) lock).owner ≡ Some t → 0 < times lock e t
+  owned : (e : ℕ) (lock : Lock) (t : ℕ) → HistoryComesTo reached p options pick e → IsThere (state_at reached p options pick e) lock → (monitor_in (state_at reached p options pick e) lock).owner ≡ Some t → 0 < times lock e t
   owned e lock t goes there own =
       let s : Kept = state_at reached p options pick e in
-      let sound = monitor_sound s p lock (state_sound reached p options pick decides run are e goes) there in
+      let sound = monitor_sound s p lock (state_sound reached p options pick runs e goes) there in
       let some : 0 < (monitor_in s lock).count = sound.owned.0 (subst (λ (o : Option ℕ). IsSome o) (sym own) refl) in
       let same : times lock e t ≡ (monitor_in s lock).count = ((all_exclude e lock goes).there there).owner t own in
       omega arith
 
-pub one : (reached : Graph → ℕ → Bool) (p : Linked) (options : Options) (pick : ℕ → ℕ) (e : ℕ) (lock : Lock) (t u : ℕ) → Decides reached → IsSoundRun p (start p) → AreOptions options → ((k : ℕ) → k < e → HistoryGoesOn reached p options pick k)
+pub one : (reached : Graph → ℕ → Bool) (p : Linked) (options : Options) (pick : ℕ → ℕ) (e : ℕ) (lock : Lock) (t u : ℕ) → IsHistory reached p options → HistoryComesTo reached p options pick e
     → 0 < times_held reached p options pick t lock e → 0 < times_held reached p options pick u lock e → t ≡ u
-one reached p options pick e lock t u decides run are goes a b = (all_exclude reached p options pick decides run are e lock goes).one t u a b
+one reached p options pick e lock t u runs goes a b = (all_exclude reached p options pick runs e lock goes).one t u a b
 
-pub owner : (reached : Graph → ℕ → Bool) (p : Linked) (options : Options) (pick : ℕ → ℕ) (e : ℕ) (lock : Lock) (t : ℕ) → Decides reached → IsSoundRun p (start p) → AreOptions options → ((k : ℕ) → k < e → HistoryGoesOn reached p options pick k)
+pub owner : (reached : Graph → ℕ → Bool) (p : Linked) (options : Options) (pick : ℕ → ℕ) (e : ℕ) (lock : Lock) (t : ℕ) → IsHistory reached p options → HistoryComesTo reached p options pick e
     → IsThere (state_at reached p options pick e) lock → ((monitor_in (state_at reached p options pick e) lock).owner ≡ Some t) ↔ (0 < times_held reached p options pick t lock e)
-owner reached p options pick e lock t decides run are goes there = (
-  λ own. owned reached p options pick decides run are e lock t goes there own,
-  λ holds. holder (monitor_in (state_at reached p options pick e) lock) (λ u. times_held reached p options pick u lock e) t ((all_exclude reached p options pick decides run are e lock goes).there there) holds,
+owner reached p options pick e lock t runs goes there = (
+  λ own. owned reached p options pick runs e lock t goes there own,
+  λ holds. holder (monitor_in (state_at reached p options pick e) lock) (λ u. times_held reached p options pick u lock e) t ((all_exclude reached p options pick runs e lock goes).there there) holds,
 )
 
-pub count : (reached : Graph → ℕ → Bool) (p : Linked) (options : Options) (pick : ℕ → ℕ) (e : ℕ) (lock : Lock) (t : ℕ) → Decides reached → IsSoundRun p (start p) → AreOptions options → ((k : ℕ) → k < e → HistoryGoesOn reached p options pick k)
+pub count : (reached : Graph → ℕ → Bool) (p : Linked) (options : Options) (pick : ℕ → ℕ) (e : ℕ) (lock : Lock) (t : ℕ) → IsHistory reached p options → HistoryComesTo reached p options pick e
     → IsThere (state_at reached p options pick e) lock → (monitor_in (state_at reached p options pick e) lock).owner ≡ Some t → (monitor_in (state_at reached p options pick e) lock).count ≡ times_held reached p options pick t lock e
-count reached p options pick e lock t decides run are goes there own = sym (((all_exclude reached p options pick decides run are e lock goes).there there).owner t own)
+count reached p options pick e lock t runs goes there own = sym (((all_exclude reached p options pick runs e lock goes).there there).owner t own)

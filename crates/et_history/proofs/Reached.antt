@@ -21,7 +21,7 @@ use Rattle.et_program.specs.Entries.{Linked}
 use Rattle.et_event.specs.Told.{event_with_texts}
 use Rattle.et_event.specs.Start.{start_records}
 use Rattle.et_loop.proofs.Dates.{deaths_in}
-use Rattle.et_history.specs.Histories.{whole_picked, whole_at, whole_settled_at, WholeGoesOn}
+use Rattle.et_history.specs.Histories.{whole_picked, whole_at, whole_settled_at, WholeGoesOn, WholeComesTo}
 use Rattle.et_history.specs.Reaching.{ReachesNew}
 use Rattle.et_history.specs.Settings.{unended_threads}
 use Rattle.et_history.specs.Whole.{beside, whole_flushed, whole_start}
@@ -89,7 +89,7 @@ module _ (reached : Graph → ℕ → Bool) (p : Linked) (options : Options) (pi
     | inr le ↦ was le
   ]
 
-  pub last_is : Decides reached → (e o : ℕ) → ((k : ℕ) → k < e → WholeGoesOn reached p options pick k) → 0 < o → o ≤ (graph (now e)).made → IsNow (last o e) o true
+  pub last_is : Decides reached → (e o : ℕ) → WholeComesTo reached p options pick e → 0 < o → o ≤ (graph (now e)).made → IsNow (last o e) o true
   unfolding last_reached
   last_is decides zero o goes some within = first_reached decides o some within
   last_is decides (suc e) o goes some within =
@@ -121,7 +121,7 @@ module _ (reached : Graph → ℕ → Bool) (p : Linked) (options : Options) (pi
   abbrev Told : ℕ → ℕ → ℕ → Type 0
   Told e o time = Contains (deaths reached (whole_picked p options pick) (whole_start p) (start_records p) e) (o, time)
 
-  pub told_reached : Decides reached → (e o time : ℕ) → ((k : ℕ) → k < e → WholeGoesOn reached p options pick k) → Told e o time → IsNow time o true
+  pub told_reached : Decides reached → (e o time : ℕ) → WholeComesTo reached p options pick e → Told e o time → IsNow time o true
   told_reached decides e o time goes c =
       let g : Graph = graph (now e) in
       let i = deaths_in (reached g) (is_gone g) (λ k. last k e) g.made o time c in
@@ -133,7 +133,7 @@ module _ (reached : Graph → ℕ → Bool) (p : Linked) (options : Options) (pi
       let i = deaths_in (reached g) (is_gone g) (λ n. last n e) g.made o time c in
       later_is e k o (subst (λ (n : ℕ). n < k) i.at lt) le
 
-  pub told_earlier : Decides reached → (e o time : ℕ) → ((k : ℕ) → k < e → WholeGoesOn reached p options pick k) → Told e o time → time < e
+  pub told_earlier : Decides reached → (e o time : ℕ) → WholeComesTo reached p options pick e → Told e o time → time < e
   told_earlier decides e o time goes c =
       let g : Graph = graph (now e) in
       let i = deaths_in (reached g) (is_gone g) (λ n. last n e) g.made o time c in

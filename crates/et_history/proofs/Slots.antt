@@ -5,7 +5,7 @@ use Rattle.std.proofs.lemmas.Bool.{and_parts, eqb-true, false≢true}
 use Rattle.std.proofs.lemmas.List.Elements.{All-cons, All-head, All-nil, All-tail}
 use Rattle.et_base.specs.declared.value.Value.{Value}
 use Rattle.et_base.specs.declared.value.Value.TheVariants.{Unset}
-use Rattle.et_graph.specs.Graph.{Graph, IsReached, Decides}
+use Rattle.et_graph.specs.Graph.{Graph, IsReached}
 use Rattle.et_graph.proofs.Sound.{reached_held}
 use Rattle.et_heap.specs.Objects.{ObjectState, Objects, IsHeld, at, found, is_there, object_at, slot_of}
 use Rattle.et_heap.proofs.HeapLists.{at_gone}
@@ -13,7 +13,6 @@ use Rattle.et_program.specs.Entries.{Linked}
 use Rattle.et_state.specs.Enqueuing.{flushed_heap}
 use Rattle.et_state.specs.History.{is_flush_point, left_by, records_at}
 use Rattle.et_state.specs.History as history
-use Rattle.et_state.specs.Options.{AreOptions}
 use Rattle.et_state.specs.Outcome.{Outcome, records_of, state_after}
 use Rattle.et_state.specs.Outcome as outcome
 use Rattle.et_state.specs.Roots.{graph, graph_of}
@@ -35,8 +34,8 @@ use Rattle.et_walk.specs.Writes.{HasCause, IsAtHand, IsOfReached, TellWrites, Wr
 use Rattle.et_spoken.specs.Writing.{TellsOtherWrites, reference_told}
 use Rattle.et_spoken.proofs.Events.{event_tells_objects as event_tells, event_writes_to_what_is_reached as event_writes_to_reached}
 use Rattle.et_spoken.proofs.Writing.{event_tells_other_writes, told_is, told_there}
-use Rattle.et_history.specs.Histories.{picked, WholeGoesOn, whole_at, whole_picked, whole_settled_at}
-use Rattle.et_history.specs.Settings.{IsSoundRun, unended_threads}
+use Rattle.et_history.specs.Histories.{picked, whole_at, whole_picked, whole_settled_at, IsHistory, WholeComesTo}
+use Rattle.et_history.specs.Settings.{unended_threads}
 use Rattle.et_history.specs.Slots.{IsOfEvent, after_records, told_by}
 use Rattle.et_history.specs.Whole.{beside, whole_flushed, whole_start}
 use Rattle.et_history.proofs.Alike.{is_open}
@@ -192,9 +191,9 @@ reached_is_held s p o sound some lt r = by (at s.heap o) refl
     by None e = absurd (reached_held (graph_of s) (sound_graph s sound.held) o r (at_gone s.heap o some lt (λ held. subst (λ (x : Option ObjectState). is_there x) e held)))
 
 -- THE HISTORY
-module _ (reached : Graph → ℕ → Bool) (p : Linked) (options : Options) (pick : ℕ → ℕ) (decides : Decides reached) (run : IsSoundRun p (start p)) (are : AreOptions options) where
+module _ (reached : Graph → ℕ → Bool) (p : Linked) (options : Options) (pick : ℕ → ℕ) (runs : IsHistory reached p options) where
   abbrev Before : ℕ → Type 0
-  Before e = (k : ℕ) → k < e → WholeGoesOn reached p options pick k
+  Before e = WholeComesTo reached p options pick e
 
   abbrev now : ℕ → State
   now e = whole_at reached p options pick e
@@ -215,7 +214,7 @@ module _ (reached : Graph → ℕ → Bool) (p : Linked) (options : Options) (pi
   fewer e goes k lt = goes k (omega (arith, lt))
 
   stands_at : (e : ℕ) → Before e → Stands p options e (settled e)
-  stands_at e goes = (settled_match reached p options pick decides run are e (go_on reached p options pick decides run are e goes)).1
+  stands_at e goes = (settled_match reached p options pick runs e (go_on reached p options pick runs e goes)).1
 
   unended_at : (e : ℕ) → Before (suc e) → IsUnended (settled e).kept.guest (turn e)
   unended_at e goes =
@@ -227,7 +226,7 @@ module _ (reached : Graph → ℕ → Bool) (p : Linked) (options : Options) (pi
   keeps e goes =
       let t : State = settled e in
       let on = is_open (length (unended_threads t.kept) == 0) (e == options.limit) _ _ _ (goes e (omega arith)) in
-      keeps_at reached p options pick decides run are e t (turn e) (stands_at e (fewer e goes)) (record { some = on.some; within = on.within; thread_is = refl })
+      keeps_at reached p options pick runs e t (turn e) (stands_at e (fewer e goes)) (record { some = on.some; within = on.within; thread_is = refl })
 
   settled_reference : (e o i : ℕ) → IsPlace (settled e).kept o → reference_told p (settled e).kept o i ≡ reference_told p (now e).kept o i
   settled_reference e o i =
@@ -267,7 +266,7 @@ module _ (reached : Graph → ℕ → Bool) (p : Linked) (options : Options) (pi
         let t : State = settled e in
         let was : IsPlace t.kept o = was_place p t (turn e) (step e) o (keeps e goes) place in
         let before : told e o i ≡ reference_told p t.kept o i = all_told e (fewer e goes) o i (settled_place e o was) ∙ sym (settled_reference e o i was) in
-        event_tells_there p t (step e) (told e) o i (event_tells_other_writes p t.kept (turn e) (stands_at e (fewer e goes)).state (unended_at e goes) run.runnable plain cause) before
+        event_tells_there p t (step e) (told e) o i (event_tells_other_writes p t.kept (turn e) (stands_at e (fewer e goes)).state (unended_at e goes) runs.run.runnable plain cause) before
 
     pub slots_told : (e o i : ℕ) → Before e → (o ≡ 0) ⊎ IsHeld (now e).kept.heap o → (o ≡ 0 → is_out_slot p i ≡ false) → told e o i ≡ reference_at (now e).kept o i
     slots_told e o i goes (inl none) other = all_told e goes o i (inl none) ∙ told_is p (reference_at (now e).kept) o i (told_there p o i other)
@@ -283,7 +282,7 @@ module _ (reached : Graph → ℕ → Bool) (p : Linked) (options : Options) (pi
       let t : State = settled e in
       let stands = stands_at e (fewer e goes) in
       let clock : t.kept.guest.clock + 1 ≡ suc e = (let c = stands.clock in omega (arith, c)) in
-      subst (λ (n : ℕ). All (IsOfEvent n) (records t (step e))) clock (event_is_of p t (turn e) (step e) (event_tells p t.kept (turn e) stands.state (unended_at e goes) run.runnable plain))
+      subst (λ (n : ℕ). All (IsOfEvent n) (records t (step e))) clock (event_is_of p t (turn e) (step e) (event_tells p t.kept (turn e) stands.state (unended_at e goes) runs.run.runnable plain))
 
   -- what is not reached is not at hand after a flush either
   not_at_hand : (e o : ℕ) → Before e → 0 < o → o < length (now e).kept.heap → reached (graph (now e)) o ≡ false → IsAtHand (settled e).kept o → ⊥
@@ -294,13 +293,13 @@ module _ (reached : Graph → ℕ → Bool) (p : Linked) (options : Options) (pi
       let held : IsHeld (settled e).kept.heap o = reached_is_held (settled e).kept p o (stands_at e goes).state some (omega (arith, len, lt)) r in
       if_known (λ (s : State). IsHeld s.kept.heap o → IsReached (graph_of s.kept) o → ⊥) (is_flush_point options.interval e) (whole_flushed here (now e)) (now e)
       (λ due h q. false≢true (sym out ∙ (flushed_held here (now e).kept.heap o h).1))
-      (λ none h q. false≢true (sym out ∙ ((decides (graph (now e)) o).1 (reached_all (now e) o q)))) held r
+      (λ none h q. false≢true (sym out ∙ ((runs.decides (graph (now e)) o).1 (reached_all (now e) o q)))) held r
 
   pub unreached_stay : (e o i : ℕ) → Before (suc e) → 0 < o → o ≤ (graph (now e)).made → reached (graph (now e)) o ≡ false → told (suc e) o i ≡ told e o i
   unreached_stay e o i goes some within out =
       let t : State = settled e in
       told_next e o i
-      ∙ event_elsewhere t (step e) (told e) o i (event_writes_to_reached p t.kept (turn e) (stands_at e (fewer e goes)).state (unended_at e goes) run.runnable) some
+      ∙ event_elsewhere t (step e) (told e) o i (event_writes_to_reached p t.kept (turn e) (stands_at e (fewer e goes)).state (unended_at e goes) runs.run.runnable) some
       (not_at_hand e o (fewer e goes) some (omega (arith, some, within)) out)
 
   -- one event on

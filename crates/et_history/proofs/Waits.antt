@@ -10,19 +10,17 @@ use Rattle.et_heap.specs.Objects.{Objects, object_at}
 use Rattle.et_heap.specs.Refs.{refs_of}
 use Rattle.et_state.specs.History.{is_flush_point, left_by}
 use Rattle.et_state.specs.History as history
-use Rattle.et_state.specs.Options.{AreOptions}
 use Rattle.et_state.specs.Outcome.{Outcome, state_after}
 use Rattle.et_state.specs.Outcome as outcome
 use Rattle.et_state.specs.Roots.{graph, graph_of}
-use Rattle.et_state.specs.Start.{start}
 use Rattle.et_state.specs.State.{State, Kept}
 use Rattle.et_state.specs.declared.options.Options.{Options}
 use Rattle.et_state.proofs.UnderWay.{lead_pair, reached_by_pair}
 use Rattle.et_program.specs.Entries.{Linked}
 use Rattle.et_event.specs.Told.{event_with_texts}
 use Rattle.et_history.specs.Allocations.{object_in}
-use Rattle.et_history.specs.Histories.{picked, WholeGoesOn, whole_at, whole_settled_at}
-use Rattle.et_history.specs.Settings.{IsSoundRun, unended_threads}
+use Rattle.et_history.specs.Histories.{picked, whole_at, whole_settled_at, IsHistory, WholeComesTo}
+use Rattle.et_history.specs.Settings.{unended_threads}
 use Rattle.et_history.specs.Waiting.{WaitsIn, WaitsSomewhere}
 use Rattle.et_history.specs.Whole.{beside, whole_flushed, whole_start}
 use Rattle.et_history.proofs.Alike.{is_open}
@@ -82,27 +80,27 @@ module _ (reached : Graph → ℕ → Bool) (p : Linked) (options : Options) (de
       (stands.state.held.slots r q pair, (means q).1 (reached_by_pair k r q ((means r).0 stays) pair))) lined)
 
 -- THE HISTORY
-module _ (reached : Graph → ℕ → Bool) (p : Linked) (options : Options) (pick : ℕ → ℕ) (decides : Decides reached) (run : IsSoundRun p (start p)) (are : AreOptions options) where
+module _ (reached : Graph → ℕ → Bool) (p : Linked) (options : Options) (pick : ℕ → ℕ) (runs : IsHistory reached p options) where
   abbrev Before : ℕ → Type 0
-  Before e = (k : ℕ) → k < e → WholeGoesOn reached p options pick k
+  Before e = WholeComesTo reached p options pick e
 
   abbrev state : ℕ → State
   state e = whole_at reached p options pick e
 
   settled_lined : (e : ℕ) → Before e → Now (state e) → Now (whole_settled_at reached p options pick e)
   settled_lined e goes lined =
-      let m = all_match reached p options pick decides run are e (go_on reached p options pick decides run are e goes) in
-      if_case Now (is_flush_point options.interval e) (whole_flushed (reached (graph (state e))) (state e)) (state e) (flushed_lined reached p options decides e (state e) m.1 lined) lined
+      let m = all_match reached p options pick runs e (go_on reached p options pick runs e goes) in
+      if_case Now (is_flush_point options.interval e) (whole_flushed (reached (graph (state e))) (state e)) (state e) (flushed_lined reached p options runs.decides e (state e) m.1 lined) lined
 
   next_lined : (e : ℕ) → Before (suc e) → Now (state e) → Now (state (suc e))
   unfolding left_by
   next_lined e goes lined =
       let before : Before e = λ k lt. goes k (omega (arith, lt)) in
-      let m = settled_match reached p options pick decides run are e (go_on reached p options pick decides run are e before) in
+      let m = settled_match reached p options pick runs e (go_on reached p options pick runs e before) in
       let t : State = whole_settled_at reached p options pick e in
       let on = is_open (length (unended_threads t.kept) == 0) (e == options.limit) _ _ _ (goes e (omega arith)) in
       let k : ℕ = history.picked_turn (picked p options pick) (suc e) t.kept in
-      after_lined p options e t k (event_with_texts p t.kept k) m.1 (event_keeps_lists p t.kept k m.1.state (picked_unended t.kept (pick (suc e)) on.some) run.runnable) (settled_lined e before lined)
+      after_lined p options e t k (event_with_texts p t.kept k) m.1 (event_keeps_lists p t.kept k m.1.state (picked_unended t.kept (pick (suc e)) on.some) runs.run.runnable) (settled_lined e before lined)
 
   pub all_lined : (e : ℕ) → Before e → Now (state e)
   unfolding left_by

@@ -26,7 +26,7 @@ use Rattle.et_state.proofs.Enqueued.{past_flushed, length-flushed, joined_held}
 use Rattle.et_state.proofs.Pasts.{reached_kept}
 use Rattle.et_program.specs.Entries.{Linked}
 use Rattle.et_state.specs.declared.options.Options.{Options}
-use Rattle.et_state.specs.Options.{AreOptions, pick_of}
+use Rattle.et_state.specs.Options.{pick_of}
 use Rattle.et_state.specs.History.{Setting, Rule, IsLastEvent, trace_of}
 use Rattle.et_state.specs.Outcome.{Outcome, end_by}
 use Rattle.et_state.specs.Outcome as outcome
@@ -42,9 +42,9 @@ use Rattle.et_binary.specs.Formats.{trace_bytes}
 use Rattle.et_loop.specs.Kept.{IsKeptPart}
 use Rattle.et_loop.specs.Said.{said_to, Says, SaysPrefix, IsCutSaid}
 use Rattle.et_loop.specs.Visits.{allowed_visits, IsCut}
-use Rattle.et_history.specs.Settings.{IsSoundRun, flush_visits_of, setting, unended_threads, flushed_of}
+use Rattle.et_history.specs.Settings.{flush_visits_of, setting, unended_threads, flushed_of}
 use Rattle.et_walk.specs.Changing.{KeepsMonitors, LeadsToSound}
-use Rattle.et_history.specs.Histories.{picked, state_at, settled_at, HistoryGoesOn, WholeGoesOn, moment_at, whole_picked, whole_at, whole_settled_at}
+use Rattle.et_history.specs.Histories.{picked, state_at, settled_at, moment_at, whole_picked, whole_at, whole_settled_at, IsHistory, HistoryComesTo, WholeComesTo}
 use Rattle.et_history.specs.Same.{TellsTheSame, IsHere}
 use Rattle.et_history.specs.Whole.{beside, cleared, whole_event, whole_flushed, whole_setting, whole_start, whole_visits_of, whole_said}
 use Rattle.et_history.proofs.Alike.{is_open, settled_alike, LooksAlike, LeadsAlike, IsTurn, Mirrors, all_alike, looks_alike, last_alike, deaths_alike, lines_alike, trace_alike, last_there, last_back, goes_back, allowed_alike, cut_alike, said_alike, cut_said_alike}
@@ -262,7 +262,7 @@ first_full x zero some lt = absurd (omega (arith, some))
 first_full x (suc zero) some lt = inl tt
 first_full x (suc (suc o)) some lt = absurd (omega (arith, lt))
 
-module _ (reached : Graph → ℕ → Bool) (p : Linked) (options : Options) (pick : ℕ → ℕ) (decides : Decides reached) (run : IsSoundRun p (start p)) (are : AreOptions options) where
+module _ (reached : Graph → ℕ → Bool) (p : Linked) (options : Options) (pick : ℕ → ℕ) (runs : IsHistory reached p options) where
   abbrev pub given : Setting Kept
   given = picked p options pick
 
@@ -273,7 +273,7 @@ module _ (reached : Graph → ℕ → Bool) (p : Linked) (options : Options) (pi
   M = Matches p options
 
   same : (e : ℕ) (t : State) → Stands p options e t → reached (graph_of t.kept) ≡ reached (graph t)
-  same e t stands = same_reached reached decides t stands.state.held stands.past
+  same e t stands = same_reached reached runs.decides t stands.state.held stands.past
 
   looks : (e : ℕ) (s : Kept) (t : State) → M e s t → LooksAlike reached (graph_of s) (graph t)
   looks e s t m = subst (λ (x : Kept). LooksAlike reached (graph_of x) (graph t)) m.0 (record { made = refl; gone = refl; same = same e t m.1 })
@@ -285,7 +285,7 @@ module _ (reached : Graph → ℕ → Bool) (p : Linked) (options : Options) (pi
       let all : ℕ → Bool = reached (graph t) in
       let alike : flushed_of all k ≡ flushed_of now k = ap (λ (h : ℕ → Bool). flushed_of h k) (sym (same e t m.1)) in
       let left : Kept = record { heap = flushed_heap now k.heap; guest = k.guest } in
-      let state : IsSoundFor p (flushed_of now k) = sound-spoken p left (texts_left now k.guest.texts) (sound_left p k now m.1.state (λ o held. tells (graph_of k) now (decides (graph_of k)) o)) in
+      let state : IsSoundFor p (flushed_of now k) = sound-spoken p left (texts_left now k.guest.texts) (sound_left p k now m.1.state (λ o held. tells (graph_of k) now (runs.decides (graph_of k)) o)) in
       subst (λ (x : Kept). M e (flushed_of (reached (graph_of x)) x) (whole_flushed all t)) m.0 (
         alike,
         record {
@@ -301,7 +301,7 @@ module _ (reached : Graph → ℕ → Bool) (p : Linked) (options : Options) (pi
   -- what the event of the turn does to the heap
   pub keeps_at : (e : ℕ) (t : State) (thread : ℕ) → Stands p options e t → IsTurn reached given whole M e t.kept thread → KeepsMonitors (record { program = p; before = t.kept; thread = thread }) (event_with_texts p t.kept thread)
   keeps_at e t thread stands turn =
-      event_keeps_monitors p t.kept thread stands.state (subst (λ (i : ℕ). IsUnended t.kept.guest i) (sym turn.thread_is) (picked_unended t.kept (pick (suc e)) turn.some)) run.runnable
+      event_keeps_monitors p t.kept thread stands.state (subst (λ (i : ℕ). IsUnended t.kept.guest i) (sym turn.thread_is) (picked_unended t.kept (pick (suc e)) turn.some)) runs.run.runnable
 
   turn : (e : ℕ) (s : Kept) (t : State) (thread : ℕ) → M e s t → IsTurn reached given whole M e s thread → LeadsAlike (λ a b. M (suc e) a b) thread s t (event_with_texts p s thread) (whole_event p t thread)
   turn e s t thread m =
@@ -310,16 +310,16 @@ module _ (reached : Graph → ℕ → Bool) (p : Linked) (options : Options) (pi
       let k : Kept = t.kept in
       let unended : IsUnended k.guest thread = subst (λ (i : ℕ). IsUnended k.guest i) (sym turn.thread_is) (picked_unended k (pick (suc e)) turn.some) in
       let below : e < options.limit = below_limit e options.limit m.1.within (eqb-false e options.limit turn.within) in
-      let few : k.guest.clock < 2 ^ 40 = (let clock = m.1.clock in omega (arith, below, are.limit)) in
-      after_event p options e t thread (event_with_texts p k thread) (event_keeps_monitors p k thread m.1.state unended run.runnable) (event_leads_to_sound p k thread m.1.state unended run.runnable few) m.1 below)
+      let few : k.guest.clock < 2 ^ 40 = (let clock = m.1.clock in omega (arith, below, runs.options_are.limit)) in
+      after_event p options e t thread (event_with_texts p k thread) (event_keeps_monitors p k thread m.1.state unended runs.run.runnable) (event_leads_to_sound p k thread m.1.state unended runs.run.runnable few) m.1 below)
 
   pub mirrors : Mirrors reached given whole M
   mirrors = record { unended = λ e s t m. ap (λ (x : Kept). unended_threads x) (sym m.0); looks = looks; flush = flush; event = turn }
 
   pub first : M 0 (start p) (whole_start p)
-  first = (refl, record { past = record { within = omega arith; apart = λ o held there. absurd there }; none = λ there. absurd there; full = first_full _; state = run.state; clock = refl; within = omega arith })
+  first = (refl, record { past = record { within = omega arith; apart = λ o held there. absurd there }; none = λ there. absurd there; full = first_full _; state = runs.run.state; clock = refl; within = omega arith })
 
-  pub tells_same : (e : ℕ) → ((k : ℕ) → k < e → HistoryGoesOn reached p options pick k) → TellsTheSame reached p options pick e
+  pub tells_same : (e : ℕ) → HistoryComesTo reached p options pick e → TellsTheSame reached p options pick e
   tells_same e goes =
       let m = all_alike reached given whole M mirrors (start p) (whole_start p) (start_records p) first e goes in
       let like = looks_alike reached given whole M mirrors (start p) (whole_start p) (start_records p) first e goes in
@@ -356,7 +356,7 @@ module _ (reached : Graph → ℕ → Bool) (p : Linked) (options : Options) (pi
   same_cut before after old new c = cut_alike reached given whole M mirrors (start p) (whole_start p) (start_records p) first flush_visits_of whole_visits_of same_visits before after old new c
 
   -- what is printed, by a rule that reads what the machine keeps
-  pub same_said : (said : Kept → ℕ → List ℕ) (e : ℕ) → ((k : ℕ) → k < e → HistoryGoesOn reached p options pick k)
+  pub same_said : (said : Kept → ℕ → List ℕ) (e : ℕ) → HistoryComesTo reached p options pick e
       → said_to reached given said (start p) (start_records p) e ≡ said_to reached (whole_picked p options pick) (whole_said said) (whole_start p) (start_records p) e
   same_said said e goes = said_alike reached given whole M mirrors (start p) (whole_start p) (start_records p) first said (whole_said said) (λ k s t thread m. ap (λ x. said x thread) (sym m.0)) e goes
 
@@ -365,16 +365,16 @@ module _ (reached : Graph → ℕ → Bool) (p : Linked) (options : Options) (pi
   same_cut_said said before after old new c = cut_said_alike reached given whole M mirrors (start p) (whole_start p) (start_records p) first flush_visits_of whole_visits_of same_visits said (whole_said said) (λ k s t thread m. ap (λ x. said x thread) (sym m.0)) before after old new c
 
   -- the states that match, before and after the flush that may be due
-  pub all_match : (e : ℕ) → ((k : ℕ) → k < e → HistoryGoesOn reached p options pick k) → M e (state_at reached p options pick e) (whole_at reached p options pick e)
+  pub all_match : (e : ℕ) → HistoryComesTo reached p options pick e → M e (state_at reached p options pick e) (whole_at reached p options pick e)
   all_match e goes = all_alike reached given whole M mirrors (start p) (whole_start p) (start_records p) first e goes
 
-  pub settled_match : (e : ℕ) → ((k : ℕ) → k < e → HistoryGoesOn reached p options pick k) → M e (settled_at reached p options pick e) (whole_settled_at reached p options pick e)
+  pub settled_match : (e : ℕ) → HistoryComesTo reached p options pick e → M e (settled_at reached p options pick e) (whole_settled_at reached p options pick e)
   settled_match e goes = settled_alike reached given whole M mirrors e _ _ (all_match e goes)
 
-  pub go_on : (e : ℕ) → ((k : ℕ) → k < e → WholeGoesOn reached p options pick k) → (k : ℕ) → k < e → HistoryGoesOn reached p options pick k
+  pub go_on : (e : ℕ) → WholeComesTo reached p options pick e → HistoryComesTo reached p options pick e
   go_on e goes = goes_back reached given whole M mirrors (start p) (whole_start p) (start_records p) first e goes
 
-  pub state_sound : (e : ℕ) → ((k : ℕ) → k < e → HistoryGoesOn reached p options pick k) → IsSoundFor p (state_at reached p options pick e)
+  pub state_sound : (e : ℕ) → HistoryComesTo reached p options pick e → IsSoundFor p (state_at reached p options pick e)
   state_sound e goes = let m = all_match e goes in subst (λ (x : Kept). IsSoundFor p x) m.0 m.1.state
 
   -- what is known of event e + 1
@@ -383,7 +383,7 @@ module _ (reached : Graph → ℕ → Bool) (p : Linked) (options : Options) (pi
     pub keeps : KeepsMonitors (moment_at reached p options pick e) (event_with_texts p (settled_at reached p options pick e) (moment_at reached p options pick e).thread)
     pub done : end_by (moment_at reached p options pick e).thread (event_with_texts p (settled_at reached p options pick e) (moment_at reached p options pick e).thread) ≡ None
 
-  pub next : (e : ℕ) → ((k : ℕ) → k < suc e → HistoryGoesOn reached p options pick k) → Next e
+  pub next : (e : ℕ) → HistoryComesTo reached p options pick (suc e) → Next e
   next e goes =
       let s : Kept = settled_at reached p options pick e in
       let thread : ℕ = (moment_at reached p options pick e).thread in
@@ -392,72 +392,72 @@ module _ (reached : Graph → ℕ → Bool) (p : Linked) (options : Options) (pi
       let on = is_open (length (unended_threads s) == 0) (e == options.limit) Finished EventLimit (end_by thread (event_with_texts p s thread)) (goes e (omega arith)) in
       record {
         sound = sound;
-        keeps = event_keeps_monitors p s thread sound (picked_unended s (pick (suc e)) on.some) run.runnable;
+        keeps = event_keeps_monitors p s thread sound (picked_unended s (pick (suc e)) on.some) runs.run.runnable;
         done = on.done;
       }
 
 -- THE LAWS
 
-pub tells_the_same : (reached : Graph → ℕ → Bool) (p : Linked) (options : Options) (pick : ℕ → ℕ) (e : ℕ) → Decides reached → IsSoundRun p (start p) → AreOptions options → ((k : ℕ) → k < e → HistoryGoesOn reached p options pick k) → TellsTheSame reached p options pick e
-tells_the_same reached p options pick e decides run are goes = tells_same reached p options pick decides run are e goes
+pub tells_the_same : (reached : Graph → ℕ → Bool) (p : Linked) (options : Options) (pick : ℕ → ℕ) (e : ℕ) → IsHistory reached p options → HistoryComesTo reached p options pick e → TellsTheSame reached p options pick e
+tells_the_same reached p options pick e runs goes = tells_same reached p options pick runs e goes
 
-pub trace : (reached : Graph → ℕ → Bool) (p : Linked) (options : Options) (ran : Ran) (before after : Log) → Decides reached → IsSoundRun p (start p) → AreOptions options
+pub trace : (reached : Graph → ℕ → Bool) (p : Linked) (options : Options) (ran : Ran) (before after : Log) → IsHistory reached p options
     → WritesTrace reached (setting p options) (start p) (start_records p) ran before after ↔ WritesTrace reached (whole_setting p options) (whole_start p) (start_records p) ran before after
-trace reached p options ran before after decides run are =
+trace reached p options ran before after runs =
     let pick : ℕ → ℕ = pick_of options.schedule in (
       (λ w. record {
-        ends = ends_there reached p options pick decides run are ran.event ran.end w.ends;
-        taken = w.taken ∙ ap (λ ls. with_more before (trace_bytes options.format ls)) (same_trace reached p options pick decides run are ran.event ran.end w.ends);
+        ends = ends_there reached p options pick runs ran.event ran.end w.ends;
+        taken = w.taken ∙ ap (λ ls. with_more before (trace_bytes options.format ls)) (same_trace reached p options pick runs ran.event ran.end w.ends);
       }),
       (λ w.
-          let last = ends_back reached p options pick decides run are ran.event ran.end w.ends in
+          let last = ends_back reached p options pick runs ran.event ran.end w.ends in
           record {
             ends = last;
-            taken = w.taken ∙ ap (λ ls. with_more before (trace_bytes options.format ls)) (sym (same_trace reached p options pick decides run are ran.event ran.end last));
+            taken = w.taken ∙ ap (λ ls. with_more before (trace_bytes options.format ls)) (sym (same_trace reached p options pick runs ran.event ran.end last));
           }),
     )
 
-pub prefix : (reached : Graph → ℕ → Bool) (p : Linked) (options : Options) (before after : Log) → Decides reached → IsSoundRun p (start p) → AreOptions options
+pub prefix : (reached : Graph → ℕ → Bool) (p : Linked) (options : Options) (before after : Log) → IsHistory reached p options
     → WritesPrefix reached (setting p options) (start p) (start_records p) before after ↔ WritesPrefix reached (whole_setting p options) (whole_start p) (start_records p) before after
-prefix reached p options before after decides run are =
+prefix reached p options before after runs =
     let pick : ℕ → ℕ = pick_of options.schedule in (
       (λ w e end last.
-          let back = ends_back reached p options pick decides run are e end last in
-          subst (λ ls. TakesPrefix before after (trace_bytes options.format ls)) (same_trace reached p options pick decides run are e end back) (w e end back)),
+          let back = ends_back reached p options pick runs e end last in
+          subst (λ ls. TakesPrefix before after (trace_bytes options.format ls)) (same_trace reached p options pick runs e end back) (w e end back)),
       (λ w e end last.
-          subst (λ ls. TakesPrefix before after (trace_bytes options.format ls)) (sym (same_trace reached p options pick decides run are e end last)) (w e end (ends_there reached p options pick decides run are e end last))),
+          subst (λ ls. TakesPrefix before after (trace_bytes options.format ls)) (sym (same_trace reached p options pick runs e end last)) (w e end (ends_there reached p options pick runs e end last))),
     )
 
-pub visits : (reached : Graph → ℕ → Bool) (p : Linked) (options : Options) (e : ℕ) (end : End) → Decides reached → IsSoundRun p (start p) → AreOptions options
+pub visits : (reached : Graph → ℕ → Bool) (p : Linked) (options : Options) (e : ℕ) (end : End) → IsHistory reached p options
     → IsLastEvent reached (setting p options) (start p) (start_records p) e end
     → allowed_visits reached (setting p options) flush_visits_of (start p) (start_records p) e ≡ allowed_visits reached (whole_setting p options) whole_visits_of (whole_start p) (start_records p) e
-visits reached p options e end decides run are last = same_allowed reached p options (pick_of options.schedule) decides run are e end last
+visits reached p options e end runs last = same_allowed reached p options (pick_of options.schedule) runs e end last
 
-pub cut : (reached : Graph → ℕ → Bool) (p : Linked) (options : Options) (before after : Log) (old new : ℕ) → Decides reached → IsSoundRun p (start p) → AreOptions options
+pub cut : (reached : Graph → ℕ → Bool) (p : Linked) (options : Options) (before after : Log) (old new : ℕ) → IsHistory reached p options
     → IsCut reached (setting p options) flush_visits_of (start p) (start_records p) before after old new → IsCut reached (whole_setting p options) whole_visits_of (whole_start p) (start_records p) before after old new
-cut reached p options before after old new decides run are c = same_cut reached p options (pick_of options.schedule) decides run are before after old new c
+cut reached p options before after old new runs c = same_cut reached p options (pick_of options.schedule) runs before after old new c
 
-pub ends : (reached : Graph → ℕ → Bool) (p : Linked) (options : Options) (pick : ℕ → ℕ) (e : ℕ) (end : End) → Decides reached → IsSoundRun p (start p) → AreOptions options
+pub ends : (reached : Graph → ℕ → Bool) (p : Linked) (options : Options) (pick : ℕ → ℕ) (e : ℕ) (end : End) → IsHistory reached p options
     → IsLastEvent reached (picked p options pick) (start p) (start_records p) e end ↔ IsLastEvent reached (whole_picked p options pick) (whole_start p) (start_records p) e end
-ends reached p options pick e end decides run are = (ends_there reached p options pick decides run are e end, ends_back reached p options pick decides run are e end)
+ends reached p options pick e end runs = (ends_there reached p options pick runs e end, ends_back reached p options pick runs e end)
 
 -- what is printed
-pub says : (reached : Graph → ℕ → Bool) (p : Linked) (options : Options) (said : Kept → ℕ → List ℕ) (ran : Ran) (before after : Log) → Decides reached → IsSoundRun p (start p) → AreOptions options
+pub says : (reached : Graph → ℕ → Bool) (p : Linked) (options : Options) (said : Kept → ℕ → List ℕ) (ran : Ran) (before after : Log) → IsHistory reached p options
     → Says reached (setting p options) said (start p) (start_records p) ran before after → Says reached (whole_setting p options) (whole_said said) (whole_start p) (start_records p) ran before after
-says reached p options said ran before after decides run are w =
+says reached p options said ran before after runs w =
     let pick : ℕ → ℕ = pick_of options.schedule in
     record {
-      ends = ends_there reached p options pick decides run are ran.event ran.end w.ends;
-      taken = w.taken ∙ ap (λ bytes. with_more before bytes) (same_said reached p options pick decides run are said ran.event w.ends.first);
+      ends = ends_there reached p options pick runs ran.event ran.end w.ends;
+      taken = w.taken ∙ ap (λ bytes. with_more before bytes) (same_said reached p options pick runs said ran.event w.ends.first);
     }
 
-pub says_prefix : (reached : Graph → ℕ → Bool) (p : Linked) (options : Options) (said : Kept → ℕ → List ℕ) (before after : Log) → Decides reached → IsSoundRun p (start p) → AreOptions options
+pub says_prefix : (reached : Graph → ℕ → Bool) (p : Linked) (options : Options) (said : Kept → ℕ → List ℕ) (before after : Log) → IsHistory reached p options
     → SaysPrefix reached (setting p options) said (start p) (start_records p) before after → SaysPrefix reached (whole_setting p options) (whole_said said) (whole_start p) (start_records p) before after
-says_prefix reached p options said before after decides run are w e end last =
+says_prefix reached p options said before after runs w e end last =
     let pick : ℕ → ℕ = pick_of options.schedule in
-    let back = ends_back reached p options pick decides run are e end last in
-    subst (λ bytes. TakesPrefix before after bytes) (same_said reached p options pick decides run are said e back.first) (w e end back)
+    let back = ends_back reached p options pick runs e end last in
+    subst (λ bytes. TakesPrefix before after bytes) (same_said reached p options pick runs said e back.first) (w e end back)
 
-pub says_cut : (reached : Graph → ℕ → Bool) (p : Linked) (options : Options) (said : Kept → ℕ → List ℕ) (before after : Log) (old new : ℕ) → Decides reached → IsSoundRun p (start p) → AreOptions options
+pub says_cut : (reached : Graph → ℕ → Bool) (p : Linked) (options : Options) (said : Kept → ℕ → List ℕ) (before after : Log) (old new : ℕ) → IsHistory reached p options
     → IsCutSaid reached (setting p options) said (start p) (start_records p) flush_visits_of before after old new → IsCutSaid reached (whole_setting p options) (whole_said said) (whole_start p) (start_records p) whole_visits_of before after old new
-says_cut reached p options said before after old new decides run are c = same_cut_said reached p options (pick_of options.schedule) decides run are said before after old new c
+says_cut reached p options said before after old new runs c = same_cut_said reached p options (pick_of options.schedule) runs said before after old new c

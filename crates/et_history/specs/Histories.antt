@@ -1,17 +1,18 @@
--- The states of the two histories of a program, and how often a thread holds a monitor in them.
-use Rattle.std.specs.Prelude.{ℕ, zero, suc, ◌≡◌, ◌==◌, Bool, if◌then◌else◌, None}
-use Rattle.et_graph.specs.Graph.{Graph}
+-- The two histories of a program, their states, and how often a thread holds a monitor in them.
+use Rattle.std.specs.Prelude.{ℕ, zero, suc, ◌≡◌, ◌<◌, ◌==◌, Bool, if◌then◌else◌, None}
+use Rattle.et_graph.specs.Graph.{Graph, Decides}
 use Rattle.et_program.specs.Entries.{Linked}
 use Rattle.et_state.specs.State.{Kept, State}
 use Rattle.et_state.specs.declared.options.Options.{Options}
 use Rattle.et_state.specs.History.{Setting, left_by, settled}
 use Rattle.et_state.specs.History as history
+use Rattle.et_state.specs.Options.{AreOptions}
 use Rattle.et_event.specs.Told.{event_with_texts}
 use Rattle.et_event.specs.Moments.{Moment}
 use Rattle.et_event.specs.Monitors.{Lock}
 use Rattle.et_state.specs.Start.{start}
 use Rattle.et_event.specs.Start.{start_records}
-use Rattle.et_history.specs.Settings.{setting}
+use Rattle.et_history.specs.Settings.{IsSoundRun, setting}
 use Rattle.et_history.specs.Whole.{whole_setting, whole_start}
 use Rattle.et_walk.specs.Holding.{times_after}
 
@@ -22,6 +23,13 @@ picked p options pick = record (setting p options) { pick = pick }
 -- .. over states in which nothing is freed
 abbrev pub whole_picked : Linked → Options → (ℕ → ℕ) → Setting State
 whole_picked p options pick = record (whole_setting p options) { pick = pick }
+
+-- WHAT THE LAWS ON HISTORIES ASK: the test decides what is reached, the program may be run and its first state is sound, and
+-- the options are in range
+pub record IsHistory (reached : Graph → ℕ → Bool) (p : Linked) (options : Options) : Type 0 where
+  pub decides : Decides reached
+  pub run : IsSoundRun p (start p)
+  pub options_are : AreOptions options
 
 module _ (reached : Graph → ℕ → Bool) (p : Linked) (options : Options) (pick : ℕ → ℕ) where
   -- the state that event e left
@@ -44,6 +52,18 @@ module _ (reached : Graph → ℕ → Bool) (p : Linked) (options : Options) (pi
 
   abbrev pub WholeGoesOn : ℕ → Type 0
   WholeGoesOn e = history.ending (whole_picked p options pick) e (whole_settled_at e) ≡ None
+
+  -- it comes to event e: it goes on after each event before
+  abbrev pub HistoryComesTo : ℕ → Type 0
+  HistoryComesTo e = (k : ℕ) → k < e → HistoryGoesOn k
+
+  abbrev pub WholeComesTo : ℕ → Type 0
+  WholeComesTo e = (k : ℕ) → k < e → WholeGoesOn k
+
+  -- a history in which nothing is freed, up to event e
+  pub record IsHistoryTo (e : ℕ) : Type 0 where
+    pub is : IsHistory reached p options
+    pub comes : WholeComesTo e
 
   -- what the next event is of
   abbrev pub moment_at : ℕ → Moment

@@ -6,16 +6,13 @@ ghost use Rattle.et_heap.specs.Objects.{IsHeld};
 ghost use Rattle.et_program.specs.Entries.{Linked};
 ghost use Rattle.et_state.specs.declared.options.Options.{Options};
 ghost use Rattle.et_state.specs.History.{deaths};
-ghost use Rattle.et_state.specs.Options.{AreOptions};
 ghost use Rattle.et_state.specs.Roots.{graph};
-ghost use Rattle.et_state.specs.Start.{start};
 ghost use Rattle.et_state.specs.State.{Kept};
 ghost use Rattle.et_event.specs.Told.{event_with_texts};
 ghost use Rattle.et_event.specs.Start.{start_records};
 ghost use Rattle.et_history.specs.Deaths.{DiesBy, WasTold};
-ghost use Rattle.et_history.specs.Histories.{whole_picked, whole_at, WholeGoesOn};
+ghost use Rattle.et_history.specs.Histories.{whole_picked, whole_at, WholeGoesOn, IsHistoryTo, WholeComesTo};
 ghost use Rattle.et_history.specs.Reaching.{ReachesNew};
-ghost use Rattle.et_history.specs.Settings.{IsSoundRun};
 ghost use Rattle.et_history.specs.Whole.{whole_start};
 
 /// What an event of a thread that was started makes is reached after it, whatever the program and the state: the objects of
@@ -44,15 +41,13 @@ pub fn objects_are_reached_as_made()
 /// The time of each death that a flush after an event lists is the last event at which the object was reached: it was reached
 /// in the state that this event left, which is before the flush, and in no state that a later event up to the flush left.
 pub fn deaths_tell_last_events()
-    ensures told { (reached : Graph → ℕ → Bool) (p : Linked) (options : Options)
-        (pick : ℕ → ℕ) (e o time : ℕ) → Decides reached →
-        ((k : ℕ) → k < e → WholeGoesOn reached p options pick k) →
+    ensures told { (reached : Graph → ℕ → Bool) (p : Linked) (options : Options) (pick : ℕ → ℕ)
+        (e o time : ℕ) → Decides reached → WholeComesTo reached p options pick e →
         Contains (deaths reached (whole_picked p options pick) (whole_start p)
         (start_records p) e) (o, time) →
         reached (graph (whole_at reached p options pick time)) o ≡ true }
-    ensures earlier { (reached : Graph → ℕ → Bool) (p : Linked) (options : Options)
-        (pick : ℕ → ℕ) (e o time : ℕ) → Decides reached →
-        ((k : ℕ) → k < e → WholeGoesOn reached p options pick k) →
+    ensures earlier { (reached : Graph → ℕ → Bool) (p : Linked) (options : Options) (pick : ℕ → ℕ)
+        (e o time : ℕ) → Decides reached → WholeComesTo reached p options pick e →
         Contains (deaths reached (whole_picked p options pick) (whole_start p)
         (start_records p) e) (o, time) → time < e }
     ensures last { (reached : Graph → ℕ → Bool) (p : Linked) (options : Options)
@@ -65,14 +60,11 @@ pub fn deaths_tell_last_events()
 /// by no flush before, with the last event at which it was reached. The objects that are reported are exactly those that
 /// a flush before told.
 pub fn deaths_are_exact()
-    ensures exact { (reached : Graph → ℕ → Bool) (p : Linked) (options : Options)
-        (pick : ℕ → ℕ) (e o time : ℕ) → Decides reached → IsSoundRun p (start p) →
-        AreOptions options → ((k : ℕ) → k < e → WholeGoesOn reached p options pick k) →
+    ensures exact { (reached : Graph → ℕ → Bool) (p : Linked) (options : Options) (pick : ℕ → ℕ)
+        (e o time : ℕ) → IsHistoryTo reached p options pick e →
         Contains (deaths reached (whole_picked p options pick) (whole_start p)
         (start_records p) e) (o, time) ↔ DiesBy reached p options pick e o time }
-    ensures reported { (reached : Graph → ℕ → Bool) (p : Linked) (options : Options)
-        (pick : ℕ → ℕ) (e o : ℕ) → Decides reached → IsSoundRun p (start p) →
-        AreOptions options → ((k : ℕ) → k < e → WholeGoesOn reached p options pick k) →
-        IsHeld (whole_at reached p options pick e).reported o
-        ↔ WasTold reached p options pick e o }
+    ensures reported { (reached : Graph → ℕ → Bool) (p : Linked) (options : Options) (pick : ℕ → ℕ)
+        (e o : ℕ) → IsHistoryTo reached p options pick e →
+        IsHeld (whole_at reached p options pick e).reported o ↔ WasTold reached p options pick e o }
 {}

@@ -3,4 +3,5 @@ mod Ranges
 mod Defined
 mod DeathLines
 mod Formats
+mod Histories
 mod Held

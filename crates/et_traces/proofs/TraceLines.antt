@@ -10,7 +10,7 @@ use Rattle.et_base.specs.declared.line.TraceLine.TheVariants.{Header, Finish}
 use Rattle.et_base.specs.declared.value.End.{End}
 use Rattle.et_base.specs.declared.value.End.TheVariants.{Finished, EventLimit}
 use Rattle.et_base.specs.declared.value.End.TheVariants as ends
-use Rattle.et_graph.specs.Graph.{Graph, IsReached, Decides}
+use Rattle.et_graph.specs.Graph.{Graph, IsReached}
 use Rattle.et_program.specs.Entries.{Linked}
 use Rattle.et_heap.specs.Objects.{ObjectState, Objects, IsHeld, at, is_there}
 use Rattle.et_heap.specs.Refs.{gone_of}
@@ -19,7 +19,6 @@ use Rattle.et_heap.proofs.HeapLists.{at_gone}
 use Rattle.et_state.specs.History.{how_of, flush_lines, is_flush_point, is_gone, left_by, deaths, last_reached, lines_to, mentions_to, trace_of}
 use Rattle.et_state.specs.History as history
 use Rattle.et_state.specs.Naming.{Names, Mentions, nothing_mentioned, mentions_after, lines_of}
-use Rattle.et_state.specs.Options.{AreOptions}
 use Rattle.et_state.specs.Outcome.{Outcome, end_by, records_of}
 use Rattle.et_state.specs.Outcome as outcome
 use Rattle.et_state.specs.Roots.{graph, graph_of}
@@ -38,10 +37,10 @@ use Rattle.et_text.specs.Ranges.{header_version}
 use Rattle.et_text.specs.Rules.{AreFine, IsGood, has_ended, misses_no_flush}
 use Rattle.et_history.specs.Allocations.{next_number}
 use Rattle.et_walk.specs.Changing.{KeepsMonitors}
-use Rattle.et_history.specs.Histories.{HistoryGoesOn, WholeGoesOn, whole_picked, whole_at, whole_settled_at}
+use Rattle.et_history.specs.Histories.{WholeGoesOn, whole_picked, whole_at, whole_settled_at, IsHistory, HistoryComesTo, WholeComesTo}
 use Rattle.et_walk.specs.Records.{AreRecordsOf, TellsObjects}
 use Rattle.et_history.specs.Same.{TellsTheSame}
-use Rattle.et_history.specs.Settings.{IsSoundRun, unended_threads}
+use Rattle.et_history.specs.Settings.{unended_threads}
 use Rattle.et_walk.specs.Telling.{IsToldOf, names_of_program}
 use Rattle.et_history.specs.Whole.{beside, whole_flushed, whole_start}
 use Rattle.et_history.proofs.Alike.{is_open}
@@ -105,19 +104,19 @@ module _ (p : Linked) (fit : AreTellable (names_of_program p)) (version every e 
   event_stands outcome.ObjectLimit goes tells keeps named sound plain born h = absurd (let none : Some ends.ObjectLimit ≡ None = goes in cc)
 
 -- THE HISTORY, with what the laws say of its events and states
-module _ (reached : Graph → ℕ → Bool) (p : Linked) (options : Options) (pick : ℕ → ℕ) (decides : Decides reached) (run : IsSoundRun p (start p)) (are : AreOptions options)
+module _ (reached : Graph → ℕ → Bool) (p : Linked) (options : Options) (pick : ℕ → ℕ) (runs : IsHistory reached p options)
     (apart : AreNamesApart (names_of_program p)) (short : AreNamesShort (names_of_program p)) (few_statics : length p.statics < 2 ^ 28)
     (tells : (s : Kept) (t : ℕ) → IsSoundFor p s → IsUnended s.guest t → TellsObjects p s t (event_with_texts p s t))
     (keeps : (s : Kept) (t : ℕ) → IsSoundFor p s → IsUnended s.guest t → KeepsMonitors (record { program = p; before = s; thread = t }) (event_with_texts p s t))
     (named : (s : Kept) (t : ℕ) → IsSoundFor p s → IsUnended s.guest t → IsToldOf p s (event_with_texts p s t))
-    (same : (e : ℕ) → ((k : ℕ) → k < e → HistoryGoesOn reached p options pick k) → TellsTheSame reached p options pick e)
+    (same : (e : ℕ) → HistoryComesTo reached p options pick e → TellsTheSame reached p options pick e)
     (reached_as_made : (e o : ℕ) → WholeGoesOn reached p options pick e → (graph (whole_at reached p options pick e)).made < o → o ≤ (graph (whole_at reached p options pick (e + 1))).made → reached (graph (whole_at reached p options pick (e + 1))) o ≡ true) where
   -- the version that the header says
   abbrev version : ℕ
   version = header_version options.format
 
   fit : AreTellable (names_of_program p)
-  fit = record { few_classes = run.tabled.few_classes; few_methods = run.tabled.few_methods; apart = apart; short = short }
+  fit = record { few_classes = runs.run.tabled.few_classes; few_methods = runs.run.tabled.few_methods; apart = apart; short = short }
 
   abbrev now : ℕ → State
   now e = whole_at reached p options pick e
@@ -144,8 +143,8 @@ module _ (reached : Graph → ℕ → Bool) (p : Linked) (options : Options) (pi
   step e = event_with_texts p (settled e).kept (turn e)
 
   record Goes (e : ℕ) : Type 0 where
-    kept : (k : ℕ) → k < e → HistoryGoesOn reached p options pick k
-    whole : (k : ℕ) → k < e → WholeGoesOn reached p options pick k
+    kept : HistoryComesTo reached p options pick e
+    whole : WholeComesTo reached p options pick e
 
   fewer : (e : ℕ) → Goes (suc e) → Goes e
   fewer e g = record { kept = λ k lt. g.kept k (omega (arith, lt)); whole = λ k lt. g.whole k (omega (arith, lt)) }
@@ -158,7 +157,7 @@ module _ (reached : Graph → ℕ → Bool) (p : Linked) (options : Options) (pi
   here_is e g o =
       let s = same e g.kept in
       let alike : reached (graph (now e)) o ≡ reached (graph_of (now e).kept) o = s.reached_same o ∙ ap (λ (x : Kept). reached (graph_of x) o) (sym s.kept) in
-      (λ h. (decides (graph_of (now e).kept) o).0 (now_is (reached (graph_of (now e).kept) o) (sym alike ∙ h)), λ h. alike ∙ is_now (reached (graph_of (now e).kept) o) ((decides (graph_of (now e).kept) o).1 h))
+      (λ h. (runs.decides (graph_of (now e).kept) o).0 (now_is (reached (graph_of (now e).kept) o) (sym alike ∙ h)), λ h. alike ∙ is_now (reached (graph_of (now e).kept) o) ((runs.decides (graph_of (now e).kept) o).1 h))
 
   -- AFTER A FLUSH, if one is due
 
@@ -311,7 +310,7 @@ module _ (reached : Graph → ℕ → Bool) (p : Linked) (options : Options) (pi
       let names : Names = names_of_program p in
       let live : ℕ → Type 0 = λ o. IsHeld (start p).heap o in
       let begun : Stands names version options.interval 0 1 live (last 0) nothing_mentioned (Header version options.interval ∷ []) = record {
-        fine = (tt, (refl, are.interval), refl);
+        fine = (tt, (refl, runs.options_are.interval), refl);
         rests = (refl, refl, refl);
         flows = record { interval_is = refl; latest_within = omega arith; later = refl; not_final = refl; none_missing = none_missing options.interval };
         named = record {
@@ -334,7 +333,7 @@ module _ (reached : Graph → ℕ → Bool) (p : Linked) (options : Options) (pi
           births_within = λ o some lt. absurd (omega (arith, some, lt));
         };
       } in
-      let class : argument_class p < length p.classes = (run.state.objects 1 _ refl).0.class in
+      let class : argument_class p < length p.classes = (runs.run.state.objects 1 _ refl).0.class in
       let told : AreTold names 0 live (last 0) 1 (start_records p) 2 = ((refl, omega arith, refl, omega arith, omega arith, omega arith, omega arith, omega arith), record { classes = one_class class; methods = no_methods }, refl) in
       records_stand names fit version options.interval 0 (omega arith) live (last 0) 1 2 (start_records p) nothing_mentioned (Header version options.interval ∷ []) told begun
     where
@@ -364,7 +363,7 @@ module _ (reached : Graph → ℕ → Bool) (p : Linked) (options : Options) (pi
   how_within (ends.IllTyped thread method pc) = omega arith
   how_within ends.ObjectLimit = omega arith
 
-  pub trace_is_good : (e : ℕ) (end : End) → ((k : ℕ) → k < e → HistoryGoesOn reached p options pick k) → ((k : ℕ) → k < e → WholeGoesOn reached p options pick k) → IsGood (header_version options.format) (trace_of reached (whole_picked p options pick) (whole_start p) (start_records p) e end)
+  pub trace_is_good : (e : ℕ) (end : End) → HistoryComesTo reached p options pick e → WholeComesTo reached p options pick e → IsGood (header_version options.format) (trace_of reached (whole_picked p options pick) (whole_start p) (start_records p) e end)
   trace_is_good e end goes whole =
       let so : TellsTheSame reached p options pick e = same e goes in
       let within : e ≤ 2 ^ 40 = (let a = so.clock in let b = so.sound.clock in omega arith) in

@@ -3,7 +3,7 @@
 ghost use Rattle.std.specs.Prelude.{◌≡◌, ◌↔◌, ℕ, ◌+◌, ◌*◌, ◌<◌, ◌≤◌, All, Bool, List, bytes_eq, length, true};
 ghost use Rattle.et_base.specs.declared.line.TraceLine.{TraceLine};
 ghost use Rattle.et_base.specs.declared.value.End.{End};
-ghost use Rattle.et_graph.specs.Graph.{Graph, Decides};
+ghost use Rattle.et_graph.specs.Graph.{Graph};
 ghost use Rattle.et_linked.specs.ClassNames.{HasClassName};
 ghost use Rattle.et_program.specs.Entries.{Linked, class_at};
 ghost use Rattle.et_program.specs.LinkFaults.{IsLinkable};
@@ -13,13 +13,12 @@ ghost use Rattle.et_program.specs.ProgramOf.{IsProgramOf};
 ghost use Rattle.et_program.specs.Tables.{IsTabled};
 ghost use Rattle.et_state.specs.declared.options.Options.{Options};
 ghost use Rattle.et_state.specs.History.{IsLastEvent, trace_of};
-ghost use Rattle.et_state.specs.Options.{AreOptions};
 ghost use Rattle.et_state.specs.Start.{start};
 ghost use Rattle.et_text.specs.Rules.{IsGood};
 ghost use Rattle.et_text.specs.Ranges.{header_version};
 ghost use Rattle.et_binary.specs.Formats.{trace_bytes};
 ghost use Rattle.et_event.specs.Start.{start_records};
-ghost use Rattle.et_history.specs.Histories.{whole_picked};
+ghost use Rattle.et_history.specs.Histories.{whole_picked, IsHistory};
 ghost use Rattle.et_history.specs.Settings.{IsSoundRun};
 ghost use Rattle.et_history.specs.Whole.{whole_start};
 ghost use Rattle.et_traces.specs.Good.{IsTraceable};
@@ -38,8 +37,7 @@ use et_text::laws::{good_lists_differ, good_texts_have_no_fault};
 /// list of picks. Every program that was linked is one.
 pub fn traces_are_good()
     ensures good { (reached : Graph → ℕ → Bool) (p : Linked) (options : Options) (pick : ℕ → ℕ)
-        (last : ℕ) (end : End) → Decides reached → IsSoundRun p (start p) →
-        IsTraceable p → AreOptions options →
+        (last : ℕ) (end : End) → IsHistory reached p options → IsTraceable p →
         IsLastEvent reached (whole_picked p options pick) (whole_start p) (start_records p) last
         end →
         IsGood (header_version options.format) (trace_of reached (whole_picked p options pick)
@@ -61,8 +59,8 @@ pub fn traces_are_good()
 /// So its bytes, which are its text or its pack, are read to exactly its lines, and have no fault.
 pub fn traces_are_read()
     ensures lines { (reached : Graph → ℕ → Bool) (p : Linked) (options : Options) (pick : ℕ → ℕ)
-        (last : ℕ) (end : End) (lines : List TraceLine) → Decides reached →
-        IsSoundRun p (start p) → IsTraceable p → AreOptions options →
+        (last : ℕ) (end : End) (lines : List TraceLine) → IsHistory reached p options →
+        IsTraceable p →
         IsLastEvent reached (whole_picked p options pick) (whole_start p) (start_records p) last
         end →
         SpellsIn options.format lines (trace_bytes options.format
@@ -70,8 +68,7 @@ pub fn traces_are_read()
         end)) ↔ (lines ≡ trace_of reached (whole_picked p options pick) (whole_start p)
         (start_records p) last end) }
     ensures none { (reached : Graph → ℕ → Bool) (p : Linked) (options : Options) (pick : ℕ → ℕ)
-        (last : ℕ) (end : End) (kind number : ℕ) → Decides reached →
-        IsSoundRun p (start p) → IsTraceable p → AreOptions options →
+        (last : ℕ) (end : End) (kind number : ℕ) → IsHistory reached p options → IsTraceable p →
         IsLastEvent reached (whole_picked p options pick) (whole_start p) (start_records p) last
         end →
         HasFaultIn options.format (trace_bytes options.format

@@ -3,17 +3,17 @@
 
 ghost use Rattle.std.specs.Prelude.{◌≡◌, ℕ, ◌≤◌, Bool, Contains};
 ghost use Rattle.et_base.specs.declared.value.End.{End};
-ghost use Rattle.et_graph.specs.Graph.{Graph, Decides};
+ghost use Rattle.et_graph.specs.Graph.{Graph};
 ghost use Rattle.et_program.specs.Entries.{Linked};
 ghost use Rattle.et_program.specs.Linking.{IsLinked};
 ghost use Rattle.et_program.specs.Tables.{IsTabled};
 ghost use Rattle.et_state.specs.History.{IsLastEvent, trace_of};
-ghost use Rattle.et_state.specs.Options.{AreOptions};
 ghost use Rattle.et_state.specs.Start.{start};
 ghost use Rattle.et_state.specs.declared.options.Options.{Options};
 ghost use Rattle.et_event.specs.Start.{start_records};
 ghost use Rattle.et_history.specs.Allocations.{HasArguments};
 ghost use Rattle.et_walk.specs.Records.{HasPlainStrings};
+ghost use Rattle.et_history.specs.Histories.{IsHistory};
 ghost use Rattle.et_history.specs.Settings.{IsSoundRun};
 ghost use Rattle.et_history.specs.Whole.{whole_setting, whole_start};
 ghost use Rattle.et_replay.specs.Curve.{curve_events, live};
@@ -32,17 +32,16 @@ use et_linked::run_laws::files_keep_rules;
 /// of the curve is one up to the last. Every program that was linked has what this asks of one.
 pub fn live_is_reached()
     ensures live { (reached : Graph → ℕ → Bool) (p : Linked) (options : Options) (e last : ℕ)
-        (end : End) → Decides reached → IsSoundRun p (start p) → HasPlainStrings p →
-        HasArguments p → AreOptions options → IsLastEvent reached (whole_setting p options)
-        (whole_start p) (start_records p) last end → e ≤ last →
+        (end : End) → IsHistory reached p options → HasPlainStrings p → HasArguments p →
+        IsLastEvent reached (whole_setting p options) (whole_start p) (start_records p) last end →
+        e ≤ last →
         live (trace_of reached (whole_setting p options) (whole_start p) (start_records p) last
         end) e
         ≡ bytes_reached reached (whole_setting p options) (whole_start p) (start_records p)
         (object_size p) e last }
     ensures events { (reached : Graph → ℕ → Bool) (p : Linked) (options : Options) (e last : ℕ)
-        (end : End) → Decides reached → IsSoundRun p (start p) → IsTraceable p →
-        AreOptions options → IsLastEvent reached (whole_setting p options) (whole_start p)
-        (start_records p) last end →
+        (end : End) → IsHistory reached p options → IsTraceable p →
+        IsLastEvent reached (whole_setting p options) (whole_start p) (start_records p) last end →
         Contains (curve_events (trace_of reached (whole_setting p options) (whole_start p)
         (start_records p) last end)) e → e ≤ last }
     ensures linked { (p : Linked) → IsTabled p → IsLinked p →

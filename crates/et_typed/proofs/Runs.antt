@@ -28,15 +28,15 @@ use Rattle.et_class.specs.PoolOperands.Operand.TheVariants.{Reference}
 use Rattle.et_base.specs.declared.value.Value.{Value}
 use Rattle.et_base.specs.declared.value.Value.TheVariants.{Unset}
 use Rattle.et_history.proofs.Wholes.{ends_back, next, picked_unended, settled_match}
-use Rattle.et_history.specs.Histories.{HistoryGoesOn, moment_at, picked, settled_at, state_at, whole_picked}
-use Rattle.et_history.specs.Settings.{IsSoundRun, flushed_of, unended_threads}
+use Rattle.et_history.specs.Histories.{moment_at, picked, settled_at, state_at, whole_picked, IsHistory, HistoryComesTo}
+use Rattle.et_history.specs.Settings.{flushed_of, unended_threads}
 use Rattle.et_history.specs.Whole.{whole_start}
 use Rattle.et_sound.proofs.Outcomes.{if_case}
 use Rattle.et_typed.specs.Refused.{IsRefused}
 use Rattle.et_typed.specs.Typed.{AreTypings, HasTypedSlots, IsTyped, IsTypedThread, KeepsTyped, Typings}
 use Rattle.et_typed.proofs.Told.{told_typed}
 use Rattle.et_typed.proofs.Verified.{HasTypings, linked_typings}
-use Rattle.et_history.proofs.Runs.{sound_run}
+use Rattle.et_history.proofs.Runs.{linked_history}
 use Rattle.et_program.specs.Linking.{IsLinked}
 use Rattle.et_program.specs.Tables.{IsTabled}
 use Rattle.et_verify.specs.Typings.{IsVerified}
@@ -123,24 +123,24 @@ refused_so e typings (outcome.Waits next) thread t m pc h q = absurd (none_ill (
 refused_so e typings (outcome.IllTyped method place) thread t m pc h q = h
 refused_so e typings outcome.ObjectLimit thread t m pc h q = absurd (objects_ill t m pc q)
 
-module _ (reached : Graph → ℕ → Bool) (p : Linked) (options : Options) (pick : ℕ → ℕ) (typings : Typings) (decides : Decides reached) (run : IsSoundRun p (start p)) (are : AreOptions options) (all : AreTypings p typings) where
+module _ (reached : Graph → ℕ → Bool) (p : Linked) (options : Options) (pick : ℕ → ℕ) (typings : Typings) (runs : IsHistory reached p options) (all : AreTypings p typings) where
   settled_typed : (e : ℕ) → IsTyped p typings (state_at reached p options pick e) → IsTyped p typings (settled_at reached p options pick e)
   settled_typed e h =
       let s : Kept = state_at reached p options pick e in
       if_case (λ (x : Kept). IsTyped p typings x) (is_flush_point options.interval e) (flushed_of (reached (graph_of s)) s) s (flushed_typed p typings (reached (graph_of s)) s h) h
 
   -- what event e + 1 does, where there is a thread and the limit isn't met
-  event_keeps : (e : ℕ) → ((k : ℕ) → k < e → HistoryGoesOn reached p options pick k) → (length (unended_threads (settled_at reached p options pick e)) == 0) ≡ false → (e == options.limit) ≡ false → IsTyped p typings (state_at reached p options pick e)
+  event_keeps : (e : ℕ) → HistoryComesTo reached p options pick e → (length (unended_threads (settled_at reached p options pick e)) == 0) ≡ false → (e == options.limit) ≡ false → IsTyped p typings (state_at reached p options pick e)
       → KeepsTyped (moment_at reached p options pick e) typings (event_with_texts p (settled_at reached p options pick e) (moment_at reached p options pick e).thread)
   event_keeps e goes some within typed =
       let s : Kept = settled_at reached p options pick e in
       let thread : ℕ = (moment_at reached p options pick e).thread in
-      let m = settled_match reached p options pick decides run are e goes in
+      let m = settled_match reached p options pick runs e goes in
       let sound : IsSoundFor p s = subst (λ (x : Kept). IsSoundFor p x) m.0 m.1.state in
       let clock : s.guest.clock ≡ e = sym (ap (λ (x : Kept). x.guest.clock) m.0) ∙ m.1.clock in
       let below : e < options.limit = below_limit e options.limit m.1.within (eqb-false e options.limit within) in
-      let few : s.guest.clock < 2 ^ 40 = omega (arith, clock, below, are.limit) in
-      told_typed p typings s thread sound few (picked_unended s (pick (suc e)) some) run.runnable all (settled_typed e typed)
+      let few : s.guest.clock < 2 ^ 40 = omega (arith, clock, below, runs.options_are.limit) in
+      told_typed p typings s thread sound few (picked_unended s (pick (suc e)) some) runs.run.runnable all (settled_typed e typed)
     where
       below_limit : (n limit : ℕ) → n ≤ limit → (n ≡ limit → ⊥) → n < limit
       below_limit n limit le ne = omega arith
@@ -154,17 +154,17 @@ module _ (reached : Graph → ℕ → Bool) (p : Linked) (options : Options) (pi
   unfolding left_by
   first_state = start_typed p typings
 
-  pub all_typed : (e : ℕ) → ((k : ℕ) → k < e → HistoryGoesOn reached p options pick k) → IsTyped p typings (state_at reached p options pick e)
+  pub all_typed : (e : ℕ) → HistoryComesTo reached p options pick e → IsTyped p typings (state_at reached p options pick e)
   all_typed zero goes = first_state
   all_typed (suc e) goes =
-      let before : (k : ℕ) → k < e → HistoryGoesOn reached p options pick k = λ k lt. goes k (omega (arith, lt)) in
+      let before : HistoryComesTo reached p options pick e = λ k lt. goes k (omega (arith, lt)) in
       let typed : IsTyped p typings (state_at reached p options pick e) = all_typed e before in
       let s : Kept = settled_at reached p options pick e in
       let g = goes_by (length (unended_threads (settled_at reached p options pick e)) == 0) (e == options.limit)
       (end_by (moment_at reached p options pick e).thread (event_with_texts p (settled_at reached p options pick e) (moment_at reached p options pick e).thread)) (goes e (omega arith)) in
       next_typed e (settled_typed e typed) (event_keeps e before g.some g.within typed)
 
-  refused_at : (e t m pc : ℕ) → ((k : ℕ) → k < e → HistoryGoesOn reached p options pick k) → ending (picked p options pick) e (settled_at reached p options pick e) ≡ Some (ends.IllTyped t m pc) → IsRefused (moment_at reached p options pick e)
+  refused_at : (e t m pc : ℕ) → HistoryComesTo reached p options pick e → ending (picked p options pick) e (settled_at reached p options pick e) ≡ Some (ends.IllTyped t m pc) → IsRefused (moment_at reached p options pick e)
   refused_at e t m pc goes q =
       let g = ends_by (length (unended_threads (settled_at reached p options pick e)) == 0) (e == options.limit)
       (end_by (moment_at reached p options pick e).thread (event_with_texts p (settled_at reached p options pick e) (moment_at reached p options pick e).thread)) t m pc q in
@@ -175,15 +175,15 @@ module _ (reached : Graph → ℕ → Bool) (p : Linked) (options : Options) (pi
   kept_refused e t m pc last = refused_at e t m pc last.first last.ends
 
   pub whole_refused : (e t m pc : ℕ) → IsLastEvent reached (whole_picked p options pick) (whole_start p) (start_records p) e (ends.IllTyped t m pc) → IsRefused (moment_at reached p options pick e)
-  whole_refused e t m pc last = kept_refused e t m pc (ends_back reached p options pick decides run are e (ends.IllTyped t m pc) last)
+  whole_refused e t m pc last = kept_refused e t m pc (ends_back reached p options pick runs e (ends.IllTyped t m pc) last)
 
 -- OF A VERIFIED PROGRAM
 module _ (reached : Graph → ℕ → Bool) (p : Linked) (options : Options) (pick : ℕ → ℕ) (decides : Decides reached) (tabled : IsTabled p) (linked : IsLinked p) (verified : IsVerified p) (are : AreOptions options) where
-  run : IsSoundRun p (start p)
-  run = sound_run p tabled linked
+  runs : IsHistory reached p options
+  runs = linked_history reached p options decides tabled linked are
 
   pub verified_kept : (e t m pc : ℕ) → IsLastEvent reached (picked p options pick) (start p) (start_records p) e (ends.IllTyped t m pc) → IsRefused (moment_at reached p options pick e)
-  verified_kept e t m pc last = let h : HasTypings p = linked_typings p linked verified in kept_refused reached p options pick h.typings decides run are h.are e t m pc last
+  verified_kept e t m pc last = let h : HasTypings p = linked_typings p linked verified in kept_refused reached p options pick h.typings runs h.are e t m pc last
 
   pub verified_whole : (e t m pc : ℕ) → IsLastEvent reached (whole_picked p options pick) (whole_start p) (start_records p) e (ends.IllTyped t m pc) → IsRefused (moment_at reached p options pick e)
-  verified_whole e t m pc last = let h : HasTypings p = linked_typings p linked verified in whole_refused reached p options pick h.typings decides run are h.are e t m pc last
+  verified_whole e t m pc last = let h : HasTypings p = linked_typings p linked verified in whole_refused reached p options pick h.typings runs h.are e t m pc last

@@ -10,4 +10,4 @@ in_range = record { interval = omega arith; limit = omega arith; schedule = (ome
 pub returns : goal.returns
 returns c reached p old new kind line decides tabled linked (event, end, run, fault) =
     let able = c.traces_are_good.ensures.linked p tabled linked in
-    c.traces_are_read.ensures.none reached p bench_options (pick_of bench_options.schedule) event end kind line decides able.0 able.1 in_range run.last fault
+    c.traces_are_read.ensures.none reached p bench_options (pick_of bench_options.schedule) event end kind line (record { decides = decides; run = able.0; options_are = in_range }) able.1 run.last fault

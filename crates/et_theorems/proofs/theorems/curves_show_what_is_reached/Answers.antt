@@ -5,6 +5,7 @@ use Rattle.et_history.specs.Whole.{whole_start}
 use Rattle.et_replay.specs.Curve.{curve_events, live}
 use Rattle.et_traces.specs.LiveBytes.{bytes_reached, object_size}
 use Rattle.et_theorems.specs.Runs.{Run, IsTraced, lines_of, setting_of}
+use Rattle.et_theorems.proofs.Histories.{history_of}
 use Rattle.et_theorems.proofs.Held.{lines_same}
 use Rattle.et_theorems.proofs.theorems.curves_show_what_is_reached.Goals as goal
 
@@ -12,12 +13,12 @@ shown : (c : goal.After-written_traces_are_read) (r : Run) (e : ℕ) → IsTrace
     → live (lines_of r) e ≡ bytes_reached r.reached (setting_of r) (whole_start r.program) (start_records r.program) (object_size r.program) e r.last
 shown c r e is le =
     let ended = c.programs_are_linked.ensures.ended r is in
-    c.live_is_reached.ensures.live r.reached r.program r.options e r.last r.end is.decides ended.program.run ended.program.strings ended.program.arguments ended.options_are is.ends le
+    c.live_is_reached.ensures.live r.reached r.program r.options e r.last r.end (history_of r ended) ended.program.strings ended.program.arguments is.ends le
 
 within : (c : goal.After-written_traces_are_read) (r : Run) (e : ℕ) → IsTraced r → Contains (curve_events (lines_of r)) e → e ≤ r.last
 within c r e is has =
     let ended = c.programs_are_linked.ensures.ended r is in
-    c.live_is_reached.ensures.events r.reached r.program r.options e r.last r.end is.decides ended.program.run (c.programs_are_linked.ensures.traceable r is) ended.options_are is.ends has
+    c.live_is_reached.ensures.events r.reached r.program r.options e r.last r.end (history_of r ended) (c.programs_are_linked.ensures.traceable r is) is.ends has
 
 pub returns-clause-live : goal.returns-clause-live
 returns-clause-live c = shown c

@@ -10,13 +10,14 @@ use Rattle.et_loop.proofs.Dates.{in_deaths}
 use Rattle.et_state.specs.History.{is_gone, last_reached}
 use Rattle.et_state.specs.Roots.{graph}
 use Rattle.et_theorems.specs.Runs.{state_at, Run, IsTraced, IsFlushed, deaths_at, lines_of, picks_of, setting_of}
+use Rattle.et_theorems.proofs.Histories.{history_of}
 use Rattle.et_theorems.proofs.DeathLines.{told_trace, trace_told, trace_ends}
 use Rattle.et_theorems.proofs.theorems.deaths_are_told_exactly.Goals as goal
 
 exact : (c : goal.After-nothing_is_freed) (r : Run) (e o time : ℕ) → IsTraced r → e ≤ r.last → Contains (deaths_at r e) (o, time) ↔ DiesBy r.reached r.program r.options (picks_of r) e o time
 exact c r e o time is le =
     let ended = c.programs_are_linked.ensures.ended r is in
-    c.deaths_are_exact.ensures.exact r.reached r.program r.options (picks_of r) e o time is.decides ended.program.run ended.options_are (λ k lt. is.ends.first k (omega (arith, lt, le)))
+    c.deaths_are_exact.ensures.exact r.reached r.program r.options (picks_of r) e o time (record { is = history_of r ended; comes = λ k lt. is.ends.first k (omega (arith, lt, le)) })
 
 pub returns-clause-exact : goal.returns-clause-exact
 returns-clause-exact c = exact c
@@ -100,8 +101,8 @@ told_by : (c : goal.After-nothing_is_freed) (r : Run) (o : ℕ) (b : Bool) → I
     → is_gone (graph (state_at r r.last)) o ≡ b → (time : ℕ) × Contains (lines_of r) (Death o time)
 told_by c r o true is made out gone =
     let ended = c.programs_are_linked.ensures.ended r is in
-    let reported = (c.nothing_is_freed.ensures.gone r.reached r.program r.options (picks_of r) r.last o is.decides ended.program.run ended.options_are is.ends.first).0 (has_contains (graph (state_at r r.last)).gone o gone) in
-    let told = (c.deaths_are_exact.ensures.reported r.reached r.program r.options (picks_of r) r.last o is.decides ended.program.run ended.options_are is.ends.first).0 reported in
+    let reported = (c.nothing_is_freed.ensures.gone r.reached r.program r.options (picks_of r) r.last o (record { is = history_of r ended; comes = is.ends.first })).0 (has_contains (graph (state_at r r.last)).gone o gone) in
+    let told = (c.deaths_are_exact.ensures.reported r.reached r.program r.options (picks_of r) r.last o (record { is = history_of r ended; comes = is.ends.first })).0 reported in
     let lt = told.1 in
     (told.3, told_line c r told.0 o told.3 is (record { within = omega (arith, lt); due = inl told.2 }) told.4)
 told_by c r o false is made out gone =

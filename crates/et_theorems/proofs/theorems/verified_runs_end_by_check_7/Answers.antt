@@ -11,6 +11,7 @@ use Rattle.et_command.specs.Command.{command}
 use Rattle.et_top.specs.Top.{Traces, Verifies, IsAskedDefined}
 use Rattle.et_typed.specs.Refused.{IsRefused}
 use Rattle.et_theorems.specs.Runs.{Run, picks_of, setting_of}
+use Rattle.et_theorems.proofs.Histories.{history_of}
 use Rattle.et_theorems.proofs.Defined.{program_of}
 use Rattle.et_theorems.proofs.theorems.verified_runs_end_by_check_7.Goals as goal
 
@@ -22,9 +23,9 @@ pub returns-clause-refused : goal.returns-clause-refused
 returns-clause-refused c r thread method pc is verified ends_so =
     let ended = c.programs_are_linked.ensures.ended r is in
     let last = subst (λ (end : End). IsLastEvent r.reached (setting_of r) (whole_start r.program) (start_records r.program) r.last end) ends_so is.ends in
-    let kept = (c.histories_tell_the_same.ensures.ends r.reached r.program r.options (picks_of r) r.last r.end is.decides ended.program.run ended.options_are).1 is.ends in
+    let kept = (c.histories_tell_the_same.ensures.ends r.reached r.program r.options (picks_of r) r.last r.end (history_of r ended)).1 is.ends in
     let refused = c.verified_histories_end_by_check_7.ensures.whole r.reached r.program r.options (picks_of r) r.last thread method pc is.decides (c.programs_are_linked.ensures.tabled r is) (c.programs_are_linked.ensures.linked r is) verified ended.options_are last in
-    let same = (settled_match r.reached r.program r.options (picks_of r) is.decides ended.program.run ended.options_are r.last kept.first).0 in
+    let same = (settled_match r.reached r.program r.options (picks_of r) (history_of r ended) r.last kept.first).0 in
     subst (λ (s : Kept). IsRefused (at r s)) (sym same) refused
 
 pub returns-clause-verdict : goal.returns-clause-verdict

@@ -9,6 +9,7 @@ use Rattle.et_io.specs.Files.{Held}
 use Rattle.et_io.specs.Sink.{with_more}
 use Rattle.et_files.specs.Loaded.{file_bytes, most_of_trace, IsTraceOf}
 use Rattle.et_theorems.specs.Runs.{Run, IsTraced, IsWritten, lines_of, picks_of, setting_of}
+use Rattle.et_theorems.proofs.Histories.{history_of}
 use Rattle.et_theorems.proofs.Formats.{spells_trace, trace_begins}
 use Rattle.et_theorems.proofs.Held.{bytes_there, one_text}
 use Rattle.et_theorems.proofs.theorems.written_traces_are_read.Goals as goal
@@ -25,7 +26,7 @@ spells : (c : goal.After-spelled_lists_differ) (r : Run) (later : Held) (path by
 spells c r later path bytes is w =
     let ended = c.programs_are_linked.ensures.ended r is in
     let able = c.programs_are_linked.ensures.traceable r is in
-    let own = (c.traces_are_read.ensures.lines r.reached r.program r.options (picks_of r) r.last r.end (lines_of r) is.decides ended.program.run able ended.options_are is.ends).1 refl in
+    let own = (c.traces_are_read.ensures.lines r.reached r.program r.options (picks_of r) r.last r.end (lines_of r) (history_of r ended) able is.ends).1 refl in
     subst (SpellsTrace (lines_of r)) (sym (whole c r later path bytes is w))
     (spells_trace r.options.format (lines_of r) (trace_begins r.reached (setting_of r) (whole_start r.program) (start_records r.program) r.last r.end) own)
 

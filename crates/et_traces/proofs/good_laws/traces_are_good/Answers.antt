@@ -10,14 +10,15 @@ use Rattle.et_traces.proofs.Traceable.{file_texts, names_are_apart, statics_few}
 use Rattle.et_traces.proofs.good_laws.traces_are_good.Goals as goal
 
 pub returns-clause-good : goal.returns-clause-good
-returns-clause-good c reached p options pick last end decides run able are is =
-    let kept = (c.histories_tell_the_same.ensures.ends reached p options pick last end decides run are).1 is in
-    trace_is_good reached p options pick decides run are able.names able.short able.few_statics
+returns-clause-good c reached p options pick last end runs able is =
+    let run = runs.run in
+    let kept = (c.histories_tell_the_same.ensures.ends reached p options pick last end runs).1 is in
+    trace_is_good reached p options pick runs able.names able.short able.few_statics
     (λ s t sound unended. c.events_tell_objects.ensures p s t sound unended run.runnable able.strings)
     (λ s t sound unended. c.events_keep_monitors.ensures p s t sound unended run.runnable)
     (λ s t sound unended. c.events_are_told.ensures p s t sound unended run.runnable)
-    (λ e goes. c.histories_tell_the_same.ensures.same reached p options pick e decides run are goes)
-    (λ e o goes above within. c.objects_are_reached_as_made.ensures.made reached p options pick e o decides goes above within)
+    (λ e goes. c.histories_tell_the_same.ensures.same reached p options pick e runs goes)
+    (λ e o goes above within. c.objects_are_reached_as_made.ensures.made reached p options pick e o runs.decides goes above within)
     last end kept.first is.first
 
 pub returns-clause-linked : goal.returns-clause-linked

@@ -18,9 +18,9 @@ own formats.Text trace good = record { good = good; whole = refl }
 own formats.Binary trace good = record { good = good; whole = refl }
 
 pub returns-clause-lines : goal.returns-clause-lines
-returns-clause-lines c reached p options pick last end lines decides run able are is =
+returns-clause-lines c reached p options pick last end lines runs able is =
     by options.format (trace_of reached (whole_picked p options pick) (whole_start p) (start_records p) last end)
-    (c.traces_are_good.ensures.good reached p options pick last end decides run able are is)
+    (c.traces_are_good.ensures.good reached p options pick last end runs able is)
   where
     back : (format : Format) (trace : List TraceLine) → IsGood (header_version format) trace → lines ≡ trace → SpellsIn format lines (trace_bytes format trace)
     back format trace good same = subst (λ (ls : List TraceLine). SpellsIn format ls (trace_bytes format trace)) (sym same) (own format trace good)
@@ -32,9 +32,9 @@ returns-clause-lines c reached p options pick last end lines decides run able ar
         (λ h. c.packed_lists_differ.ensures lines trace (trace_bytes formats.Binary trace) h (own formats.Binary trace good), back formats.Binary trace good)
 
 pub returns-clause-none : goal.returns-clause-none
-returns-clause-none c reached p options pick last end kind number decides run able are is =
+returns-clause-none c reached p options pick last end kind number runs able is =
     by options.format (trace_of reached (whole_picked p options pick) (whole_start p) (start_records p) last end)
-    (c.traces_are_good.ensures.good reached p options pick last end decides run able are is)
+    (c.traces_are_good.ensures.good reached p options pick last end runs able is)
   where
     by : (format : Format) (trace : List TraceLine) → IsGood (header_version format) trace → HasFaultIn format (trace_bytes format trace) kind number → ⊥
     by formats.Text trace good fault = c.good_texts_have_no_fault.ensures trace (trace_bytes formats.Text trace) kind number (own formats.Text trace good) fault

@@ -5,7 +5,7 @@ use Rattle.et_program.specs.Entries.{Linked}
 use Rattle.et_program.specs.Loaded.{LoadedClass, loaded_class}
 use Rattle.et_state.specs.declared.options.Options.{Options}
 use Rattle.et_event.specs.Start.{start_records}
-use Rattle.et_history.specs.Histories.{HistoryGoesOn, WholeGoesOn, whole_picked}
+use Rattle.et_history.specs.Histories.{whole_picked, HistoryComesTo, IsHistory, IsHistoryTo}
 use Rattle.et_history.specs.Slots.{told_by}
 use Rattle.et_history.specs.Whole.{whole_start}
 use Rattle.et_linked.specs.Programs.{KeepRules}
@@ -16,26 +16,27 @@ use Rattle.et_traces.proofs.snapshot_laws.snapshots_show_states.Goals as goal
 facts : (c : goal.After-files_keep_rules) (reached : Graph → ℕ → Bool) (p : Linked) (options : Options) (pick : ℕ → ℕ) (last : ℕ) (end : End) → IsEndedRun reached p options pick last end → Facts reached p options pick last
 facts c reached p options pick last end run =
     let is = run.program in
-    let goes : (n : ℕ) → n ≤ last → (k : ℕ) → k < n → WholeGoesOn reached p options pick k = λ n le k lt. run.last_is.first k (omega (arith, le, lt)) in
-    let kept = (c.histories_tell_the_same.ensures.ends reached p options pick last end run.decides is.run run.options_are).1 run.last_is in
-    let goes_kept : (n : ℕ) → n ≤ last → (k : ℕ) → k < n → HistoryGoesOn reached p options pick k = λ n le k lt. kept.first k (omega (arith, le, lt)) in
+    let runs : IsHistory reached p options = record { decides = run.decides; run = is.run; options_are = run.options_are } in
+    let up : (n : ℕ) → n ≤ last → IsHistoryTo reached p options pick n = λ n le. record { is = runs; comes = λ k lt. run.last_is.first k (omega (arith, le, lt)) } in
+    let kept = (c.histories_tell_the_same.ensures.ends reached p options pick last end runs).1 run.last_is in
+    let goes_kept : (n : ℕ) → n ≤ last → HistoryComesTo reached p options pick n = λ n le k lt. kept.first k (omega (arith, le, lt)) in
     record {
       knows = record {
         first = λ o some within. c.objects_are_reached_as_made.ensures.first reached p options pick o run.decides some within;
-        told = λ n within. c.allocations_are_told.ensures reached p options pick n run.decides is.run is.strings is.arguments run.options_are (goes n within);
-        here = λ n m o within h. c.nothing_is_freed.ensures.here reached p options pick n m o run.decides is.run run.options_are (goes (n + m) within) h;
-        stays = λ n m o x within h. c.nothing_is_freed.ensures.reported reached p options pick n m o x run.decides is.run run.options_are (goes (n + m) within) h;
-        all = λ n o within some below. c.nothing_is_freed.ensures.all reached p options pick n o run.decides is.run run.options_are (goes n within) some below;
-        gone = λ n o within. c.nothing_is_freed.ensures.gone reached p options pick n o run.decides is.run run.options_are (goes n within);
-        same = λ n within. c.histories_tell_the_same.ensures.same reached p options pick n run.decides is.run run.options_are (goes_kept n within);
+        told = λ n within. c.allocations_are_told.ensures reached p options pick n (up n within) is.strings is.arguments;
+        here = λ n m o within h. c.nothing_is_freed.ensures.here reached p options pick n m o (up (n + m) within) h;
+        stays = λ n m o x within h. c.nothing_is_freed.ensures.reported reached p options pick n m o x (up (n + m) within) h;
+        all = λ n o within some below. c.nothing_is_freed.ensures.all reached p options pick n o (up n within) some below;
+        gone = λ n o within. c.nothing_is_freed.ensures.gone reached p options pick n o (up n within);
+        same = λ n within. c.histories_tell_the_same.ensures.same reached p options pick n runs (goes_kept n within);
       };
-      told_is = λ e o i le place other. c.records_tell_slots.ensures.told reached p options pick e o i run.decides is.run is.strings is.cause run.options_are (goes e le) place other;
-      out_is = λ e i le out. c.records_tell_slots.ensures.out reached p options pick e i run.decides is.run is.strings is.cause run.options_are (goes e le) out;
-      events_are = λ e le. c.records_tell_slots.ensures.events reached p options pick e run.decides is.run is.strings run.options_are (goes e le);
+      told_is = λ e o i le place other. c.records_tell_slots.ensures.told reached p options pick e o i (up e le) is.strings is.cause place other;
+      out_is = λ e i le out. c.records_tell_slots.ensures.out reached p options pick e i (up e le) is.strings is.cause out;
+      events_are = λ e le. c.records_tell_slots.ensures.events reached p options pick e (up e le) is.strings;
       unreached = λ e o i le some within out.
           let one : e + 1 ≡ suc e = omega arith in
           subst (λ (k : ℕ). told_by reached (whole_picked p options pick) (whole_start p) (start_records p) k o i ≡ told_by reached (whole_picked p options pick) (whole_start p) (start_records p) e o i) one
-          (c.records_tell_slots.ensures.unreached reached p options pick e o i run.decides is.run run.options_are (λ k below. run.last_is.first k (omega (arith, le, below))) some within out);
+          (c.records_tell_slots.ensures.unreached reached p options pick e o i (up (e + 1) (omega (arith, le))) some within out);
     }
 
 pub returns-clause-objects : goal.returns-clause-objects
