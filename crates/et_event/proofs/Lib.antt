@@ -8,3 +8,4 @@ pub mod Told
 pub mod Beside
 pub mod Deferrals
 pub mod OutTurns
+pub mod Values

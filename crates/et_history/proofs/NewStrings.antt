@@ -28,7 +28,7 @@ use Rattle.et_event.specs.Sites.{LoadedConstant, AnInt, ALong, AString, constant
 use Rattle.et_event.specs.Strings.{interned, string_object}
 use Rattle.et_walk.proofs.Heaps.{newest}
 use Rattle.et_heap.specs.Queues.{with_waits, without_first_waiting, take_first}
-use Rattle.et_sound.proofs.Slots.{updated_state}
+use Rattle.et_event.proofs.Values.{updated_state}
 use Rattle.et_sound.proofs.Outcomes.{if_case}
 
 -- the thread was started, and each object that is new is that of a string

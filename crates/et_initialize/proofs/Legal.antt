@@ -102,7 +102,7 @@ made_written : (e : Moment) (s : Kept) (lost : List ℕ) (i : ℕ) (v : Value) (
 made_written e s lost i v d lt unset string h =
     subst (λ (k : Kept). HasMadeStrings s k lost) (sym (written_state e i v d)) (made_static s d.state lost i v lt unset string h)
 
-same_statics : (e : Moment) (bytes : List ℕ) (d : Doing) → (interned e bytes d).state.guest.statics ≡ d.state.guest.statics
+pub same_statics : (e : Moment) (bytes : List ℕ) (d : Doing) → (interned e bytes d).state.guest.statics ≡ d.state.guest.statics
 same_statics e bytes d = by_interned (λ (x : Doing). x.state.guest.statics ≡ d.state.guest.statics) e bytes d (λ none. refl) (λ o some. refl)
 
 pub made_constant : (e : Moment) (s : Kept) (lost : List ℕ) (f : FieldInfo) (k : Option LoadedConstant) (d : Doing) → f.slot < length d.state.guest.statics → static_at d.state.guest f.slot ≡ Unset

@@ -8,4 +8,5 @@ pub mod Beginning
 pub mod Preparing
 pub mod Stepping
 mod Turning
+pub mod Statics
 pub mod Needing

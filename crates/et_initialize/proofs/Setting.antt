@@ -9,7 +9,7 @@ use Rattle.std.proofs.lemmas.List.Elements.{Contains-append_cases}
 use Rattle.std.proofs.lemmas.List.{map-append}
 use Rattle.et_base.proofs.Lists.{Contains-none, Contains-cons}
 use Rattle.et_base.specs.declared.value.Value.{Value}
-use Rattle.et_base.specs.declared.value.Value.TheVariants.{Unset, Int, Long, LongHigh, Null, Ref}
+use Rattle.et_base.specs.declared.value.Value.TheVariants.{Unset, Int, Long, Ref}
 use Rattle.et_heap.specs.Objects.{Objects, slots_in, most_objects, most_slots}
 use Rattle.et_state.specs.declared.class_state.ClassState.{ClassState}
 use Rattle.et_state.specs.declared.class_state.ClassState.TheVariants.{Untouched, Begun, Done, Failed}
@@ -26,6 +26,7 @@ use Rattle.et_event.specs.Initialization.{state_of, with_state, constant_set, fi
 use Rattle.et_event.specs.InitializationOrder.{IsStaticOf, HasConstants, IsInOrder}
 use Rattle.et_initialize.specs.Under.{IsInitializing, class_of_slot}
 use Rattle.et_initialize.proofs.Strings.{making, by_interned}
+use Rattle.et_event.proofs.Values.{updated_state}
 
 pub record Grown (a b : Objects) : Type 0 where
   pub rest : Objects
@@ -78,12 +79,7 @@ follows_less V W a b sub f = record { statics = f.statics; others = λ j n. f.ot
 
 -- a record changes no state
 pub written_state : (e : Moment) (i : ℕ) (v : Value) (d : Doing) → (static_written e i v d).state ≡ (doing_with_guest (with_static d.state.guest i v) d).state
-written_state e i Unset d = refl
-written_state e i (Int n) d = refl
-written_state e i (Long n) d = refl
-written_state e i LongHigh d = refl
-written_state e i Null d = refl
-written_state e i (Ref o) d = refl
+written_state e i v d = updated_state e 0 i (static_at d.state.guest i) v (doing_with_guest (with_static d.state.guest i v) d)
 
 abbrev pub Slot : ℕ → ℕ → Type 0
 Slot i j = j ≡ i

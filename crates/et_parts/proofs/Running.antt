@@ -1,7 +1,13 @@
 -- A thread that does an instruction runs a method.
-use Rattle.std.proofs.Common.{◌≡◌, ℕ, zero, suc, ◌<◌, Bool, true, false, List, [], ◌∷◌, length, Option, Some, None, refl, arith}
+use Rattle.std.proofs.Common.{◌≡◌, ℕ, zero, suc, ◌<◌, Bool, true, false, List, [], ◌∷◌, length, Option, Some, None, Result, Ok, Err, refl, inl, inr, arith}
 use Rattle.std.specs.Prelude.{if◌then◌else◌, slice_index_or}
 use Rattle.std.specs.Option.{is_some}
+use Rattle.et_code.specs.Bodies.{Body}
+use Rattle.et_code.specs.Decoding.{instruction_at}
+use Rattle.et_code.specs.Starts.{IsStart}
+use Rattle.et_code.specs.declared.instr.CodeFault.{CodeFault}
+use Rattle.et_code.specs.declared.instr.CodeFault.TheVariants as fault
+use Rattle.et_code.specs.declared.instr.Instr.{Instr}
 use Rattle.et_state.specs.declared.stage.Stage.{Stage}
 use Rattle.et_state.specs.declared.stage.Stage.TheVariants.{Plain, Before, Clinit}
 use Rattle.et_state.specs.declared.stage.Turn.TheVariants.{Unwind, EndThread, Entry, Initialize, Instruction}
@@ -9,8 +15,9 @@ use Rattle.et_state.specs.Threads.{FrameState, ThreadState, no_thread, turn_of, 
 use Rattle.et_state.specs.State.{GuestState, Kept}
 use Rattle.et_state.specs.Words.{thread_at, top, HasFrame}
 use Rattle.et_program.specs.Entries.{Linked}
-use Rattle.et_event.specs.Sound.{IsStaged, AreSoundFrames, IsSoundFor}
+use Rattle.et_event.specs.Sound.{IsPc, IsStaged, AreSoundFrames, IsSoundFor}
 use Rattle.et_parts.specs.Places.{Runs}
+use Rattle.et_parts.proofs.Constants.{at_end}
 
 by_parts : (pending has before entered : Bool) →
     (if pending then (if has then Unwind else EndThread) else (if has then (if before then Initialize else Instruction) else (if entered then EndThread else Entry))) ≡ Instruction →
@@ -54,3 +61,14 @@ pub runs_there : (p : Linked) (s : Kept) (t : ℕ) → IsSoundFor p s → turn_o
 runs_there p s t sound e =
     let h = framed (thread_at s.guest t) e in
     runs_first p (thread_at s.guest t).frames h.0 h.1 (sound.threads t (has_frame_there s.guest t e).thread).frames
+
+-- an instruction that is decoded at a pc of the code begins there
+pub starts_there : (b : Body) (pc : ℕ) (x : Instr × ℕ) → IsPc b pc → instruction_at b.code pc ≡ Ok x → IsStart b.code pc
+starts_there b pc x there e =
+    elim there [
+      | inl s ↦ s
+      | inr last ↦ absurd (not_both x (instruction_at b.code pc) e (at_end b.code pc (omega arith)))
+    ]
+  where
+    not_both : (y : Instr × ℕ) (r : Result (Instr × ℕ) CodeFault) → r ≡ Ok y → r ≡ Err fault.Short → ⊥
+    not_both y r a c = cc

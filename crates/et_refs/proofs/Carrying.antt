@@ -36,11 +36,11 @@ use Rattle.et_parts.proofs.Taking.{replaced}
 use Rattle.et_parts.proofs.Throwing.{ends_fit, ends_full}
 use Rattle.et_refs.proofs.Leading.{moves_held, entries_refer}
 use Rattle.et_refs.proofs.Reading.{read_refers}
-use Rattle.et_sound.specs.WellFormed.{IsWellFormed}
 use Rattle.et_initialize.specs.Under.{HasMadeStrings, base}
 use Rattle.et_initialize.proofs.Beginning.{strings_led}
 use Rattle.et_initialize.proofs.Counting.{room_fits}
 use Rattle.et_initialize.proofs.Setting.{written_state}
+use Rattle.et_initialize.proofs.Statics.{AreStatics}
 use Rattle.et_initialize.proofs.Stepping.{has_frame_on, top_on, one_fits}
 use Rattle.et_refs.specs.declared.accesses.Read.{Read}
 use Rattle.et_refs.specs.declared.accesses.Write.{Write}
@@ -52,7 +52,7 @@ use Rattle.et_refs.specs.Accesses.{with_access, access_outcome, objects_in, slot
 -- so far the event has come to d: it initialized classes, and did nothing else
 pub record HasInitialized (p : Linked) (m : MachineState) (d : Doing) : Type 0 where
   pub made : HasMadeStrings (kept_of m) d.state []
-  pub well : IsWellFormed p d.state
+  pub statics : AreStatics p d.state.guest.statics
   pub threads : d.state.guest.threads ≡ m.guest.threads
 
 pub base_threads : (p : Linked) (m m₂ : MachineState) (d : Doing) → HasInitialized p m d → m₂ ≡ base m d → m₂.guest.threads ≡ m.guest.threads
@@ -60,20 +60,20 @@ base_threads p m m₂ d done e = ap (λ (z : MachineState). z.guest.threads) e �
 
 -- WHAT THE CALL NEEDS
 
-can_by : (p : Linked) (m n : MachineState) (t c : ℕ) (f : FrameState) (a : Access) → IsWellFormed p (kept_of n) → MayAccess p f a → has_room n.heap (objects_in a) (slots_accessed p c a) ≡ true → CanAccess p n f c a
-can_by p m n t c f (access.Read x) well may room = record {
-  slot = subst (λ (k : ℕ). x.slot < k) (sym well.statics.0) may.slot;
-  room = may.room (static_at n.guest x.slot) (ap (λ (k : Option Operand). is_of_kind k (static_at n.guest x.slot)) may.kind ∙ (well.statics.1 x.slot may.slot).value);
+can_by : (p : Linked) (m n : MachineState) (t c : ℕ) (f : FrameState) (a : Access) → AreStatics p n.guest.statics → MayAccess p f a → has_room n.heap (objects_in a) (slots_accessed p c a) ≡ true → CanAccess p n f c a
+can_by p m n t c f (access.Read x) statics may room = record {
+  slot = subst (λ (k : ℕ). x.slot < k) (sym statics.slots) may.slot;
+  room = may.room (static_at n.guest x.slot) (ap (λ (k : Option Operand). is_of_kind k (static_at n.guest x.slot)) may.kind ∙ statics.typed x.slot may.slot);
 }
-can_by p m n t c f (access.Write x) well may room = record { slot = subst (λ (k : ℕ). x.slot < k) (sym well.statics.0) may.slot; taken = may.taken; few = may.few }
-can_by p m n t c f access.Make well may room = record { operands = may; room = room }
+can_by p m n t c f (access.Write x) statics may room = record { slot = subst (λ (k : ℕ). x.slot < k) (sym statics.slots) may.slot; taken = may.taken; few = may.few }
+can_by p m n t c f access.Make statics may room = record { operands = may; room = room }
 
 pub can_access : (p : Linked) (t : ℕ) (m m₂ : MachineState) (d : Doing) (x : Wanted) → HasInitialized p m d → MayWant p (top m.guest t) x → has_room d.state.heap (objects_in x.access) (slots_accessed p x.class x.access) ≡ true
     → m₂ ≡ base m d → CanAccess p m₂ (top m₂.guest t) x.class x.access
 can_access p t m m₂ d x done may room e =
     let n = base m d in
     let here : CanAccess p n (top n.guest t) x.class x.access =
-    can_by p m n t x.class (top n.guest t) x.access done.well (subst (λ (f : FrameState). MayAccess p f x.access) (sym (top_on m.guest n.guest t done.threads)) may.access) room in
+    can_by p m n t x.class (top n.guest t) x.access done.statics (subst (λ (f : FrameState). MayAccess p f x.access) (sym (top_on m.guest n.guest t done.threads)) may.access) room in
     subst (λ (z : MachineState). CanAccess p z (top z.guest t) x.class x.access) (sym e) here
 
 -- WHAT FITS
@@ -105,7 +105,7 @@ read_steps p t at m m₃ d out out₂ out₃ c x has done may r₂ e₃ r₃ =
     let v : Value = or_zero x.kind (static_at n.guest x.slot) in
     let f : FrameState = top n.guest t in
     let on : HasFrame n.guest t = has_frame_on m.guest n.guest t done.threads has in
-    let lt : x.slot < length n.guest.statics = subst (λ (k : ℕ). x.slot < k) (sym done.well.statics.0) may.slot in
+    let lt : x.slot < length n.guest.statics = subst (λ (k : ℕ). x.slot < k) (sym done.statics.slots) may.slot in
     let held : (o : ℕ) → Contains (refs_of (entries_of v)) o → IsHeld n.heap o = λ o z. done.made.way.sound.roots o (static_root n.guest x.slot o lt (read_refers x.kind (static_at n.guest x.slot) o (entries_refer v o z))) in
     let way : IsOnWay s m₃ =
     did_on_way s n t (replaced 0 (entries_of v) at.next f) [] m₃ done.made.way on (record { is = e₃; moves = moves_held (MayEnter n) (MayBeLost s n) f 0 at.next (entries_of v) held (λ o z. frame_there m n t o has done.threads z) }) in
@@ -137,7 +137,7 @@ write_steps p t at m m₃ d out out₂ out₃ c x has done may r₂ did =
     let f : FrameState = top n.guest t in
     let same : f ≡ top m.guest t = top_on m.guest n.guest t done.threads in
     let on : HasFrame n.guest t = has_frame_on m.guest n.guest t done.threads has in
-    let lt : x.slot < length n.guest.statics = subst (λ (k : ℕ). x.slot < k) (sym done.well.statics.0) may.slot in
+    let lt : x.slot < length n.guest.statics = subst (λ (k : ℕ). x.slot < k) (sym done.statics.slots) may.slot in
     let lost : List ℕ = refs_of (take x.taken f.operands) in
     let b : MachineState = replaces t at.next x.taken [] n in
     let way₁ : IsOnWay s b =

@@ -15,7 +15,7 @@ use Rattle.et_event.specs.Sound.{is_of_kind}
 use Rattle.et_parts.specs.Tops.{IsIn}
 use Rattle.et_refs.proofs.Reading.{kept_refers}
 use Rattle.et_event.specs.Programs.{HasSlots}
-use Rattle.et_sound.proofs.Values.{read_width}
+use Rattle.et_event.proofs.Values.{read_width}
 use Rattle.et_refs.specs.declared.accesses.Access.TheVariants as access
 use Rattle.et_refs.specs.Accesses.{IsStaticField, MayWant}
 

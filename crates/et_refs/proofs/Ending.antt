@@ -20,16 +20,9 @@ use Rattle.et_parts.specs.Making.{MakesObject}
 use Rattle.et_parts.proofs.Taking.{replaced}
 use Rattle.et_parts.proofs.Throwing.{ends_fit}
 use Rattle.et_refs.proofs.Leading.{make_led}
+use Rattle.et_event.proofs.Values.{updated_state}
 
 -- WRITING
-
-updated_state : (e : Moment) (o i : ℕ) (old v : Value) (d : Doing) → (updated e o i old v d).state ≡ d.state
-updated_state e o i old Unset d = refl
-updated_state e o i old (Int n) d = refl
-updated_state e o i old (Long n) d = refl
-updated_state e o i old LongHigh d = refl
-updated_state e o i old Null d = refl
-updated_state e o i old (Ref r) d = refl
 
 updated_records : (e : Moment) (o i : ℕ) (old v : Value) (s : Kept) (out : List Record) → (updated e o i old v (record { state = s; records = out })).records ≡ out ++ (updated e o i old v (record { state = s; records = [] })).records
 updated_records e o i old Unset s out = sym (append-nil out)

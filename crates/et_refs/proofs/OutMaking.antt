@@ -68,9 +68,9 @@ module _ (p : Linked) (t c slot : ℕ) (at : Site) (m : MachineState) where
   pub stream_fits : IsSoundFor p (kept_of m) → fits_heap stream_done.state.heap ≡ has_room m.heap 1 (class_at p c).info.slots
   stream_fits sound = one_fits m.heap c 0 (class_at p c).info.slots sound.held.room
 
-  module _ (sound : IsSoundFor p (kept_of m)) (clock : m.guest.clock < 2 ^ 40) (has : HasFrame m.guest t) (lt : slot < length m.guest.statics) (unset : referent_of (static_at m.guest slot) ≡ None) where
+  module _ (sound : IsSoundFor p (kept_of m)) (has : HasFrame m.guest t) (lt : slot < length m.guest.statics) (unset : referent_of (static_at m.guest slot) ≡ None) where
     done : HasInitialized p m (begins (moment p m t))
-    done = begun_initialized p t m sound clock
+    done = begun_initialized p t m sound
 
     one : (n : MachineState) → n.heap ≡ made.heap → (o : ℕ) → Contains (number ∷ []) o → IsHeld n.heap o
     one n same o z = subst (λ (h : Objects). IsHeld h o) (sym same) (subst (λ (k : ℕ). IsHeld made.heap k) (only_newest number o z) (newest_held m.heap stream))

@@ -20,9 +20,8 @@ use Rattle.et_event.specs.Table.{row_of}
 use Rattle.et_parts.specs.declared.places.Place.{Place}
 use Rattle.et_parts.specs.Places.{Runs, IsPlace, site_at}
 use Rattle.et_parts.proofs.Placing.{method_runs, body_runs}
-use Rattle.et_parts.proofs.Running.{runs_there}
+use Rattle.et_parts.proofs.Running.{runs_there, starts_there}
 use Rattle.et_event.specs.Programs.{IsInstruction, NamesClass, HasArrays}
-use Rattle.et_sound.proofs.Frames.{starts_there}
 
 pub some_dimension : (p : Linked) (m : MachineState) (t : ℕ) (place : Place) (name : List ℕ) (c : ℕ) → IsSoundFor p (kept_of m) → HasArrays p → turn_of (thread_at m.guest t) ≡ Instruction → IsPlace p (top m.guest t) place
     → place.row ≡ Heap NewMultiArray → Some name ≡ class_operand (site_at place) → resolve_class p name ≡ Ok c → 0 < natural_of place.instr.second

@@ -33,7 +33,8 @@ use Rattle.et_sound.proofs.Classes.{new_array_keeps, new_reference_array_keeps}
 use Rattle.et_sound.proofs.Fields.{going, operands_there, leaving_well}
 use Rattle.et_sound.proofs.Objects.{heap_now}
 use Rattle.et_sound.proofs.Outcomes.{array_well, ends_sound, unless_thrown, where_resolved}
-use Rattle.et_sound.proofs.Slots.{slot_well, updated_state}
+use Rattle.et_event.proofs.Values.{updated_state}
+use Rattle.et_sound.proofs.Slots.{slot_well}
 use Rattle.et_sound.proofs.Taken.{AreOperands, taken_int}
 use Rattle.et_sound.proofs.Values.{array_holds}
 use Rattle.et_sound.specs.Places.{IsAtRow}

@@ -43,7 +43,8 @@ use Rattle.et_sound.proofs.Fields.{going}
 use Rattle.et_sound.proofs.Monitors.{started_well}
 use Rattle.et_sound.proofs.Objects.{heap_now, object_is_sound}
 use Rattle.et_sound.proofs.Outcomes.{goes_sound, throws_sound, unless_ill_typed, unless_thrown, unless_waiting}
-use Rattle.et_sound.proofs.Slots.{slot_well, slot_fits, referent_well, fits_still, updated_state, reference_well, first_taken_well, reference_fits, first_taken_fits}
+use Rattle.et_event.proofs.Values.{updated_state}
+use Rattle.et_sound.proofs.Slots.{slot_well, slot_fits, referent_well, fits_still, reference_well, first_taken_well, reference_fits, first_taken_fits}
 use Rattle.et_event.specs.Runnable.{IsRunnable}
 use Rattle.et_sound.proofs.Entering.{framed_going}
 use Rattle.et_heap.specs.Queues.{first_value}

@@ -36,7 +36,7 @@ use Rattle.et_sound.proofs.Outcomes.{instance_well, ends_sound, unless_ill_typed
 use Rattle.et_sound.proofs.Slots.{static_well}
 use Rattle.et_sound.proofs.Steps.{class_named as class_operand_named, new_array_sound}
 use Rattle.et_sound.proofs.Taken.{taken_int, taken_value}
-use Rattle.et_sound.proofs.Values.{narrowed_kind, read_width}
+use Rattle.et_event.proofs.Values.{narrowed_kind, read_width}
 
 -- STATIC FIELDS
 

@@ -23,7 +23,8 @@ use Rattle.et_sound.specs.Outcomes.{KeepsSound}
 use Rattle.et_event.specs.Programs.{MakesSound, IsInstruction}
 use Rattle.et_sound.specs.WellFormed.{IsWellFormed, IsUnderWayAt, KeepsFrame, MayEnter, StandsAt}
 use Rattle.et_sound.proofs.Calls.{frame_entered_well}
-use Rattle.et_sound.proofs.Frames.{RunsSome, runs_some, starts_there, frames_still, popped_keeps, with_first, top_well}
+use Rattle.et_parts.proofs.Running.{starts_there}
+use Rattle.et_sound.proofs.Frames.{RunsSome, runs_some, frames_still, popped_keeps, with_first, top_well}
 use Rattle.et_sound.proofs.Monitors.{monitor_count}
 use Rattle.et_sound.proofs.Outcomes.{ends_sound, unless_waiting, where_frame_fits}
 use Rattle.et_sound.proofs.Wholes.{well_formed}

@@ -42,7 +42,8 @@ use Rattle.et_sound.proofs.Frames.{top_well}
 use Rattle.et_sound.proofs.Outcomes.{begins_well, goes_sound, unless_ill_typed, unless_thrown, where_resolved, where_not_null}
 use Rattle.et_sound.proofs.Slots.{slot_well, slot_fits}
 use Rattle.et_sound.proofs.Taken.{AreOperands, taken_int, taken_reference, taken_value}
-use Rattle.et_sound.proofs.Values.{narrowed_kind, field_holds, element_holds, few_entries, read_width}
+use Rattle.et_event.proofs.Values.{narrowed_kind, few_entries, read_width}
+use Rattle.et_sound.proofs.Values.{field_holds, element_holds}
 
 -- THE PLACE
 

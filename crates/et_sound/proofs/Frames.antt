@@ -1,5 +1,5 @@
 -- The frames of a thread: the topmost one changes, one is entered, one is left.
-use Rattle.std.proofs.Common.{◌≡◌, ℕ, ◌-◌, ◌<◌, ◌≤◌, ◌↔◌, Bool, true, false, List, [], ◌∷◌, ◌++◌, length, replicate, Option, Some, None, Result, Ok, Err, refl, sym, ◌∙◌, ap, subst, inl, inr, arith}
+use Rattle.std.proofs.Common.{◌≡◌, ℕ, ◌-◌, ◌<◌, ◌≤◌, ◌↔◌, Bool, true, false, List, [], ◌∷◌, ◌++◌, length, replicate, Option, Some, None, Result, Ok, refl, sym, ◌∙◌, ap, subst, inl, inr, arith}
 use Rattle.std.specs.Prelude.{IsSome, if◌then◌else◌, unwrap_or}
 use Rattle.std.proofs.lemmas.Bool.{cases_lt, false≢true, true≢false}
 use Rattle.std.proofs.lemmas.List.{length-append, length-drop, length-replicate}
@@ -11,7 +11,6 @@ use Rattle.et_code.specs.Bodies.{Body}
 use Rattle.et_code.specs.Decoding.{instruction_at}
 use Rattle.et_code.specs.Starts.{IsStart, Begins, Follows}
 use Rattle.et_code.specs.declared.instr.CodeFault.{CodeFault}
-use Rattle.et_code.specs.declared.instr.CodeFault.TheVariants as fault
 use Rattle.et_code.specs.declared.instr.Instr.{Instr}
 use Rattle.et_code.proofs.Decoded.{decoded_fits}
 use Rattle.et_program.specs.Entries.{Linked, method_at, is_static}
@@ -25,22 +24,11 @@ use Rattle.et_event.specs.Initialization.{initializer_frame}
 use Rattle.et_event.specs.Sites.{present_body, code_of_frame, decoded_at, running_method}
 use Rattle.et_event.specs.Sound.{IsPc, RunsMethod, IsVoid, returned_of, IsStaged, IsCaller, IsAbove, AreSoundFrames}
 use Rattle.et_event.specs.Operands.{returned_width}
-use Rattle.et_parts.proofs.Constants.{at_end}
 use Rattle.et_sound.specs.WellFormed.{IsWellFormed, KeepsFrame, MayTake}
 use Rattle.et_sound.proofs.Threads.{guest_now, with_thread_well, may_have_frames}
+use Rattle.et_parts.proofs.Running.{starts_there}
 
 -- THE PC
-
--- an instruction that is decoded at a pc of the code begins there
-pub starts_there : (b : Body) (pc : ℕ) (x : Instr × ℕ) → IsPc b pc → instruction_at b.code pc ≡ Ok x → IsStart b.code pc
-starts_there b pc x there e =
-    elim there [
-      | inl s ↦ s
-      | inr last ↦ absurd (not_both x (instruction_at b.code pc) e (at_end b.code pc (omega arith)))
-    ]
-  where
-    not_both : (y : Instr × ℕ) (r : Result (Instr × ℕ) CodeFault) → r ≡ Ok y → r ≡ Err fault.Short → ⊥
-    not_both y r a c = cc
 
 -- the place behind an instruction is one of the code
 pub behind_pc : (b : Body) (pc : ℕ) (x : Instr × ℕ) → IsStart b.code pc → instruction_at b.code pc ≡ Ok x → IsPc b x.1

@@ -26,7 +26,7 @@ use Rattle.et_event.specs.Programs.{MakesSound, HasInitializers}
 use Rattle.et_sound.specs.WellFormed.{IsUnderWayAt}
 use Rattle.et_sound.proofs.Initializing.{AllGoOn, all_done, begins_sound}
 use Rattle.et_sound.proofs.Outcomes.{if_case, throws_sound, waits_sound}
-use Rattle.et_sound.proofs.Slots.{updated_state}
+use Rattle.et_event.proofs.Values.{updated_state}
 use Rattle.et_sound.proofs.Entering.{IsOnTime, begins_on_time}
 
 -- WHAT STAYS

@@ -5,7 +5,7 @@ use Rattle.std.specs.List.{slice_index_or}
 use Rattle.std.proofs.lemmas.List.Elements.{All-head, All-tail}
 use Rattle.et_base.proofs.Lists.{Contains-none, Contains-cons}
 use Rattle.et_base.specs.declared.value.Value.{Value}
-use Rattle.et_base.specs.declared.value.Value.TheVariants.{Int, Long, Null, Ref}
+use Rattle.et_base.specs.declared.value.Value.TheVariants.{Int, Long, Ref}
 use Rattle.et_program.specs.Entries.{Linked, class_at, field_at}
 use Rattle.et_state.specs.Threads.{ThreadState, no_thread, entered_by, most_frames}
 use Rattle.et_state.specs.declared.class_state.ClassState.{ClassState}
@@ -15,8 +15,6 @@ use Rattle.et_state.specs.State.{GuestState, Kept}
 use Rattle.et_state.specs.Words.{thread_at, static_at, with_static, class_state_at, with_class_state, with_string}
 use Rattle.et_state.specs.Outcome.{Outcome}
 use Rattle.et_event.specs.declared.errors.GuestError.TheVariants.{NoClassDefFoundError}
-use Rattle.et_event.specs.PoolOperands.Operand.{Operand}
-use Rattle.et_event.specs.PoolOperands.Operand.TheVariants as operand
 use Rattle.et_event.specs.Errors.{class_called}
 use Rattle.et_event.specs.Initialization.{state_of, with_state, constant_set, field_set, constants_set, is_quiet, class_done, quietly_done, initializer_frame, begun_by, begins_class, needed, initialized}
 use Rattle.et_event.specs.Kinds.{narrowed}
@@ -31,9 +29,9 @@ use Rattle.et_sound.specs.WellFormed.{IsWellFormed, IsUnderWayAt, IsFurther}
 use Rattle.et_sound.proofs.Frames.{initializer_frames}
 use Rattle.et_sound.proofs.Monitors.{class_well, untouched_before}
 use Rattle.et_sound.proofs.Outcomes.{if_case, interned_well, ends_sound, waits_sound, throws_sound, where_frame_fits}
-use Rattle.et_sound.proofs.Slots.{updated_state, static_well}
+use Rattle.et_event.proofs.Values.{updated_state, narrowed_kind, any_reference}
+use Rattle.et_sound.proofs.Slots.{static_well}
 use Rattle.et_sound.proofs.Threads.{with_thread_well, may_have_frames}
-use Rattle.et_sound.proofs.Values.{narrowed_kind}
 
 -- WHAT STAYS
 
@@ -77,12 +75,6 @@ written e c f v d has touched h kind =
           (subst (λ (k : ℕ). class_state_at d.state.guest (field_at p k).class ≡ Untouched → ⊥) (sym has.place) (subst (λ (k : ℕ). class_state_at d.state.guest k ≡ Untouched → ⊥) (sym has.class) touched));
       beside = static_beside e i v d;
     }
-
-pub any_reference : (k : Option Operand) (o : ℕ) → is_of_kind k Null ≡ true → is_of_kind k (Ref o) ≡ true
-any_reference None o h = h
-any_reference (Some operand.Int) o h = h
-any_reference (Some operand.Long) o h = h
-any_reference (Some operand.Reference) o h = refl
 
 one_set : (e : Moment) (c f : ℕ) (k : Option LoadedConstant) (d : Doing) → MakesSound e.program → HasConstant e.program c f → ((x : LoadedConstant) → k ≡ Some x → is_of_kind (operand_kind (field_at e.program f).descriptor) (value_like x) ≡ true) → (state_of d c ≡ Untouched → ⊥) → IsWellFormed e.program d.state
     → IsSetting e c d (constant_set e (field_at e.program f) k d)

@@ -31,7 +31,8 @@ use Rattle.et_sound.specs.Outcomes.{KeepsSound}
 use Rattle.et_sound.specs.WellFormed.{StandsAt}
 use Rattle.et_sound.proofs.Classes.{get_static_sound, put_static_sound, new_sound}
 use Rattle.et_sound.proofs.Fields.{get_field_sound, put_field_sound, load_element_sound, store_element_sound}
-use Rattle.et_sound.proofs.Frames.{RunsSome, pc_there, starts_there}
+use Rattle.et_parts.proofs.Running.{starts_there}
+use Rattle.et_sound.proofs.Frames.{RunsSome, pc_there}
 use Rattle.et_sound.proofs.Steps.{array_length_sound, check_cast_sound, instance_of_sound, monitor_sound, throw_sound}
 use Rattle.et_sound.specs.Places.{IsAtRow}
 use Rattle.et_event.specs.Runnable.{IsRunnable}

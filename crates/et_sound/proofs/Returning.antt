@@ -23,7 +23,7 @@ use Rattle.et_sound.proofs.Calls.{returned_sound}
 use Rattle.et_sound.proofs.Fields.{going, operands_there}
 use Rattle.et_sound.proofs.Outcomes.{unless_ill_typed, unless_thrown}
 use Rattle.et_sound.proofs.Taken.{taken_value}
-use Rattle.et_sound.proofs.Values.{few_entries}
+use Rattle.et_event.proofs.Values.{few_entries}
 
 abbrev operand_width : Operand → ℕ
 operand_width operand.Int = 1

@@ -6,7 +6,7 @@ use Rattle.std.proofs.lemmas.Bool.{cases_eq}
 use Rattle.std.proofs.lemmas.List.{length-set, get_or-set_other}
 use Rattle.std.proofs.lemmas.List.Sums.{sum_by-set}
 use Rattle.et_base.specs.declared.value.Value.{Value}
-use Rattle.et_base.specs.declared.value.Value.TheVariants.{Unset, Int, Long, LongHigh, Null, Ref}
+use Rattle.et_base.specs.declared.value.Value.TheVariants.{Unset}
 use Rattle.et_program.specs.Entries.{Linked, class_at, field_at}
 use Rattle.et_program.specs.declared.info.Element.{Element}
 use Rattle.et_program.specs.declared.info.Element.TheVariants.{NoArray}
@@ -18,7 +18,7 @@ use Rattle.et_state.specs.State.{GuestState, Kept}
 use Rattle.et_state.specs.Words.{static_at, with_static, class_state_at}
 use Rattle.et_event.specs.PoolOperands.Operand.{Operand}
 use Rattle.et_event.specs.Operands.{operand_kind}
-use Rattle.et_event.specs.Moments.{Moment, Doing, updated, slot_written, static_written, fits_heap}
+use Rattle.et_event.specs.Moments.{Moment, Doing, slot_written, static_written, fits_heap}
 use Rattle.et_event.specs.BuiltIns.{with_referent_of, with_queue_of, with_reference_made, with_first_taken}
 use Rattle.et_event.specs.Sound.{is_of_kind, kind_of_element, HasField, IsSoundObject, IsSoundStatic}
 use Rattle.et_sound.specs.WellFormed.{IsWellFormed}
@@ -28,6 +28,7 @@ use Rattle.et_sound.proofs.Objects.{heap_now, object_well, object_is_sound, foun
 use Rattle.et_sound.proofs.Threads.{guest_now, object_still}
 use Rattle.et_heap.specs.Queues.{with_waits, without_first_waiting, take_first}
 use Rattle.et_base.proofs.Lists.{Contains-here}
+use Rattle.et_event.proofs.Values.{updated_state}
 
 -- LISTS
 
@@ -42,16 +43,6 @@ set_all P xs i x h new k d lt =
       | inl e ↦ subst P (sym (at_same xs i k x d e inside)) new
       | inr ne ↦ subst P (sym (get_or-set_other xs i k x d ne)) (h k d inside)
     ]
-
--- THE RECORDS don't matter
-
-pub updated_state : (e : Moment) (o i : ℕ) (old v : Value) (d : Doing) → (updated e o i old v d).state ≡ d.state
-updated_state e o i old Unset d = refl
-updated_state e o i old (Int n) d = refl
-updated_state e o i old (Long n) d = refl
-updated_state e o i old LongHigh d = refl
-updated_state e o i old Null d = refl
-updated_state e o i old (Ref r) d = refl
 
 -- A SLOT OF AN OBJECT
 

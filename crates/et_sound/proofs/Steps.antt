@@ -51,7 +51,8 @@ use Rattle.et_sound.proofs.Frames.{with_first, frames_still, left_frames, fewer_
 use Rattle.et_sound.proofs.Monitors.{entered_well, entered_fits, left_well, left_fits, monitor_count, class_well}
 use Rattle.et_sound.proofs.Outcomes.{if_case, array_well, instance_well, begins_well, goes_sound, ends_sound, pending_well, unless_ill_typed, unless_thrown, unless_waiting, where_resolved, where_not_null}
 use Rattle.et_sound.proofs.Objects.{heap_now}
-use Rattle.et_sound.proofs.Slots.{slot_well, updated_state}
+use Rattle.et_event.proofs.Values.{updated_state}
+use Rattle.et_sound.proofs.Slots.{slot_well}
 use Rattle.et_sound.proofs.Taken.{taken_reference}
 use Rattle.et_sound.proofs.Threads.{with_thread_well, may_have_frames, may_end}
 use Rattle.et_sound.proofs.Wholes.{well_formed}

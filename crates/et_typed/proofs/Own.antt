@@ -8,7 +8,7 @@ use Rattle.et_event.specs.Moments.{Doing, Moment, doing_with_guest, ends_event, 
 use Rattle.et_event.specs.declared.errors.GuestError.{GuestError}
 use Rattle.et_program.specs.Entries.{Linked}
 use Rattle.et_sound.proofs.Entering.{thread_now}
-use Rattle.et_sound.proofs.Slots.{updated_state}
+use Rattle.et_event.proofs.Values.{updated_state}
 use Rattle.et_state.specs.Outcome.{Outcome}
 use Rattle.et_state.specs.Outcome as outcome
 use Rattle.et_state.specs.State.{Kept}

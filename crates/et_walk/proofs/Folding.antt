@@ -19,7 +19,7 @@ use Rattle.et_walk.proofs.Rows.{later_fine, on_top}
 use Rattle.et_walk.specs.Records.{Steady}
 use Rattle.et_walk.specs.Steps.{AllObjects, Begins, BeginsClass, Catches, ClassBecomes, Comes, CountsEntered, Drops, Ended, Ends, EntersClinit, EntersCode, EntersMonitor, GoesOn, Interns, LeavesMonitor, Level, MakesArray, MakesInstance, Pends, Phase, Plainly, Polls, Returns, SetsQueue, SetsReferent, Starts, StringsAlone, Unwinds, UnwindsClinit, WithArray, WithArrays, WithCause, WithError, WithInstance, WritesSlot, WritesStatic}
 use Rattle.et_state.specs.State.{Kept}
-use Rattle.et_sound.proofs.Slots.{updated_state}
+use Rattle.et_event.proofs.Values.{updated_state}
 use Rattle.et_sound.proofs.Outcomes.{if_case}
 use Rattle.std.proofs.Common.{List, Option, Some, [], ap, arith, inl, inr, length, subst, suc, sym, zero, ℕ, ◌<◌, ◌∙◌, ◌∷◌, ◌≡◌, ◌≤◌}
 use Rattle.std.proofs.lemmas.List.{length-replicate, length-set, length_push}

@@ -37,7 +37,7 @@ use Rattle.et_walk.proofs.Words.{object_in, object_pushed}
 use Rattle.et_walk.proofs.Records.{steady_itself, steady_then, steady_set, steady_push, newest_at, records_grow, records_more}
 use Rattle.et_heap.specs.Queues.{with_waits, without_first_waiting, take_first}
 use Rattle.et_state.proofs.UnderWay.{waiting_pair}
-use Rattle.et_sound.proofs.Slots.{updated_state}
+use Rattle.et_event.proofs.Values.{updated_state}
 
 -- an event has come to this state with these records
 pub record Tells (e : Moment) (s : Kept) (rs : List Record) : Type 0 where

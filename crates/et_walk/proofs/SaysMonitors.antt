@@ -11,7 +11,7 @@ use Rattle.et_event.specs.Throw.{dropped, handled, left_if_owned}
 use Rattle.et_heap.specs.Objects.{IsHeld, ObjectState, at, object_at, slot_of, with_object_at, with_slot}
 use Rattle.et_program.specs.Entries.{Linked, method_at}
 use Rattle.et_sound.specs.WellFormed.{IsThere}
-use Rattle.et_sound.proofs.Slots.{updated_state}
+use Rattle.et_event.proofs.Values.{updated_state}
 use Rattle.et_sound.proofs.Frames.{length-resumed}
 use Rattle.et_state.specs.Outcome.{Outcome}
 use Rattle.et_state.specs.State.{Kept}

@@ -29,7 +29,7 @@ use Rattle.et_event.specs.Runnable.{IsRunnable}
 use Rattle.et_event.specs.Sound.{IsSoundFor, is_of_kind}
 use Rattle.et_event.specs.Strings.{interned}
 use Rattle.et_event.specs.Throw.{dropped, left_if_owned}
-use Rattle.et_sound.proofs.Slots.{updated_state}
+use Rattle.et_event.proofs.Values.{updated_state}
 use Rattle.et_sound.proofs.Outcomes.{if_case}
 use Rattle.et_walk.specs.Records.{HasPlainStrings}
 use Rattle.et_walk.specs.Steps.{AllObjects, AllThere, Begins, BeginsClass, Catches, ClassBecomes, Comes, CountsEntered, Drops, Ends, EntersClinit, EntersCode, EntersMonitor, GoesOn, Interns, IsTyped, Leads, LeavesMonitor, Level, MakesArray, MakesInstance, MayTell, MayWrite, Pends, Phase, Polls, Returns, SetsQueue, SetsReferent, Starts, Unwinds, UnwindsClinit, WritesSlot, WritesStatic, kind_of_static, own_lock}
