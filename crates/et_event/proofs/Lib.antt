@@ -9,3 +9,4 @@ pub mod Beside
 pub mod Deferrals
 pub mod OutTurns
 pub mod Values
+pub mod Taken

@@ -18,7 +18,7 @@ use Rattle.et_event.specs.FrameSteps.{frame_by_row, frame_decoded, frame_next}
 use Rattle.et_event.specs.Plain.{put, put_some, with_locals, one_stored, long_stored, stored, loaded, are_groups, groups_of, combined, negated, values_moved, converted, compared, condition_tested, branched, frame_after}
 use Rattle.et_event.specs.Sites.{Site, local_index}
 use Rattle.et_event.specs.Table.{row_of}
-use Rattle.et_sound.proofs.Keeping.{taken_int, taken_long, taken_reference}
+use Rattle.et_event.proofs.Taken.{taken_int, taken_long, taken_reference}
 
 -- f' is f with another pc, other locals and other operands
 abbrev pub Stays : FrameState → FrameState → Type 0

@@ -16,10 +16,10 @@ use Rattle.et_event.specs.declared.rows.Condition.{Condition}
 use Rattle.et_event.specs.declared.rows.Condition.TheVariants as when
 use Rattle.et_event.specs.declared.rows.FrameRow.{FrameRow}
 use Rattle.et_event.specs.declared.rows.FrameRow.TheVariants as row
-use Rattle.et_event.specs.Checks.{Reference, with_int, with_long, with_reference}
 use Rattle.et_event.specs.Sites.{Site, local_index, target}
 use Rattle.et_event.specs.Plain.{put, put_some, with_locals, other_half_unset, freed, one_stored, long_stored, stored, increased, loaded, are_groups, groups_of, combined, negated, values_moved, converted, compared, condition_tested, branched, switched, frame_after}
 use Rattle.et_event.specs.Sound.{IsPc}
+use Rattle.et_event.proofs.Taken.{taken_int, taken_long, taken_reference}
 
 pub record Keeps (body : Body) (f f' : FrameState) : Type 0 where
   pub same : f' ≡ record f { pc = f'.pc; locals = f'.locals; operands = f'.operands }
@@ -75,43 +75,7 @@ length-long_stored i n locals =
     length-set (set (freed (i + 1) (freed i locals)) i (Long n)) (i + 1) LongHigh
     ∙ (length-set (freed (i + 1) (freed i locals)) i (Long n) ∙ (length-freed (i + 1) (freed i locals) ∙ length-freed i locals))
 
--- OPERANDS TAKEN: below them there are no more than before
-
-pub taken_int : {A : Type 0} (P : A → Type 0) (refused : A) (ops : List Value) (k : ℕ) (go : ℤ → List Value → A) → P refused → length ops ≤ k → ((n : ℤ) (below : List Value) → length below ≤ k → P (go n below)) → P (with_int refused ops go)
-taken_int P refused [] k go r le h = r
-taken_int P refused (Unset ∷ below) k go r le h = r
-taken_int P refused (Int n ∷ below) k go r le h = h n below (omega arith)
-taken_int P refused (Long n ∷ below) k go r le h = r
-taken_int P refused (LongHigh ∷ below) k go r le h = r
-taken_int P refused (Null ∷ below) k go r le h = r
-taken_int P refused (Ref o ∷ below) k go r le h = r
-
-taken_high : {A : Type 0} (P : A → Type 0) (refused : A) (ops : List Value) (k : ℕ) (go : ℤ → List Value → A) → P refused → length ops ≤ k → ((n : ℤ) (below : List Value) → length below ≤ k → P (go n below)) → P (with_long refused (LongHigh ∷ ops) go)
-taken_high P refused [] k go r le h = r
-taken_high P refused (Unset ∷ below) k go r le h = r
-taken_high P refused (Int n ∷ below) k go r le h = r
-taken_high P refused (Long n ∷ below) k go r le h = h n below (omega arith)
-taken_high P refused (LongHigh ∷ below) k go r le h = r
-taken_high P refused (Null ∷ below) k go r le h = r
-taken_high P refused (Ref o ∷ below) k go r le h = r
-
-pub taken_long : {A : Type 0} (P : A → Type 0) (refused : A) (ops : List Value) (k : ℕ) (go : ℤ → List Value → A) → P refused → length ops ≤ k → ((n : ℤ) (below : List Value) → length below ≤ k → P (go n below)) → P (with_long refused ops go)
-taken_long P refused [] k go r le h = r
-taken_long P refused (Unset ∷ below) k go r le h = r
-taken_long P refused (Int n ∷ below) k go r le h = r
-taken_long P refused (Long n ∷ below) k go r le h = r
-taken_long P refused (LongHigh ∷ below) k go r le h = taken_high P refused below k go r (omega arith) h
-taken_long P refused (Null ∷ below) k go r le h = r
-taken_long P refused (Ref o ∷ below) k go r le h = r
-
-pub taken_reference : {A : Type 0} (P : A → Type 0) (refused : A) (ops : List Value) (k : ℕ) (go : Reference → List Value → A) → P refused → length ops ≤ k → ((r : Reference) (below : List Value) → length below ≤ k → P (go r below)) → P (with_reference refused ops go)
-taken_reference P refused [] k go r le h = r
-taken_reference P refused (Unset ∷ below) k go r le h = r
-taken_reference P refused (Int n ∷ below) k go r le h = r
-taken_reference P refused (Long n ∷ below) k go r le h = r
-taken_reference P refused (LongHigh ∷ below) k go r le h = r
-taken_reference P refused (Null ∷ below) k go r le h = h None below (omega arith)
-taken_reference P refused (Ref o ∷ below) k go r le h = h (Some o) below (omega arith)
+-- THE FRAME BEHIND AN INSTRUCTION
 
 kept_stored : (body : Body) (f : FrameState) (pc : ℕ) (kind : Operand) (i : ℕ) → length f.operands ≤ f.room → IsPc body pc → KeepsSome body f (stored pc kind i f)
 kept_stored body f pc operand.Int i le at =

@@ -28,7 +28,7 @@ use Rattle.et_event.specs.Sites.{Site, constant_at, pool_index, LoadedConstant, 
 use Rattle.et_event.specs.Strings.{interned, string_object}
 use Rattle.et_event.specs.PlainRows.{is_plain}
 use Rattle.et_parts.proofs.SiteAnswers.{moment}
-use Rattle.et_sound.proofs.Keeping.{taken_int, taken_long}
+use Rattle.et_event.proofs.Taken.{taken_int, taken_long}
 use Rattle.et_sound.proofs.Outcomes.{if_case}
 
 -- an ArithmeticException is thrown
