@@ -98,7 +98,7 @@ have_rules files rules =
 
 -- `run` OF THREAD
 
-thread_place : boot_place (codes "java/lang/Thread") ≡ Some 6
+pub thread_place : boot_place (codes "java/lang/Thread") ≡ Some 6
 unfolding boots
 thread_place = refl
 

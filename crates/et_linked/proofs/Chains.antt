@@ -10,6 +10,20 @@ use Rattle.et_hierarchy.specs.Links.{LinkEntry, no_links}
 use Rattle.et_program.specs.declared.info.FieldInfo.{FieldInfo}
 use Rattle.et_program.specs.Slots.{own_slots, slots_above}
 
+-- behind the first of the superclasses stand those of that one
+pub rest_by : (rows : List Ancestry) (o : Option ℕ) (s : ℕ) (ys : List ℕ) → supers_over rows o ≡ s ∷ ys → ys ≡ (ancestry_at rows s).supers
+rest_by rows None s ys e = absurd (nothing e)
+  where
+    nothing : supers_over rows None ≡ s ∷ ys → ⊥
+    nothing q = cc
+rest_by rows (Some r) s ys e = sym (tails e) ∙ ap (λ (k : ℕ). (ancestry_at rows k).supers) (heads e)
+  where
+    heads : (r ∷ (ancestry_at rows r).supers) ≡ s ∷ ys → r ≡ s
+    heads q = cc
+
+    tails : (r ∷ (ancestry_at rows r).supers) ≡ s ∷ ys → (ancestry_at rows r).supers ≡ ys
+    tails q = cc
+
 module _ (fields : List FieldInfo) (table : List LinkEntry) (rows : List Ancestry) (is : IsAncestry table rows) where
   abbrev own : ℕ → ℕ
   own k = own_slots fields k
@@ -25,24 +39,11 @@ module _ (fields : List FieldInfo) (table : List LinkEntry) (rows : List Ancestr
   beyond (r ∷ rs) zero le = absurd (omega arith)
   beyond (r ∷ rs) (suc k) le = beyond rs k (omega arith)
 
-  rest_by : (o : Option ℕ) (s : ℕ) (ys : List ℕ) → supers_over rows o ≡ s ∷ ys → ys ≡ supers s
-  rest_by None s ys e = absurd (nothing e)
-    where
-      nothing : supers_over rows None ≡ s ∷ ys → ⊥
-      nothing q = cc
-  rest_by (Some r) s ys e = sym (tails e) ∙ ap (λ (k : ℕ). supers k) (heads e)
-    where
-      heads : (r ∷ supers r) ≡ s ∷ ys → r ≡ s
-      heads q = cc
-
-      tails : (r ∷ supers r) ≡ s ∷ ys → supers r ≡ ys
-      tails q = cc
-
   -- behind the direct superclass stand its own superclasses
   rest_is : (k s : ℕ) (ys : List ℕ) → supers k ≡ s ∷ ys → ys ≡ supers s
   rest_is k s ys e =
       elim (cases_lt k (length table)) [
-        | inl lt ↦ rest_by (slice_index_or table k no_links).above s ys (sym (ap (λ (r : Ancestry). r.supers) (is.row k lt)) ∙ e)
+        | inl lt ↦ rest_by rows (slice_index_or table k no_links).above s ys (sym (ap (λ (r : Ancestry). r.supers) (is.row k lt)) ∙ e)
         | inr le ↦ absurd (nothing (sym (ap (λ (r : Ancestry). r.supers) (beyond rows k (omega (arith, is.each)))) ∙ e))
       ]
     where

@@ -1,6 +1,6 @@
 -- What holds of each element of lists that are put together.
 use Rattle.std.proofs.Common.{◌≡◌, ℕ, zero, suc, ◌+◌, ◌<◌, ◌==◌, Bool, true, false, cond, List, [], ◌∷◌, ◌++◌, length, reverse, refl, sym, subst, inl, inr, arith, Contains}
-use Rattle.std.specs.Prelude.{All}
+use Rattle.std.specs.Prelude.{All, if◌then◌else◌}
 use Rattle.std.specs.List.{slice_index_or, list_any, list_all, flat_map}
 use Rattle.std.proofs.lemmas.List.Elements.{All-nil, All-cons, All-head, All-tail, All-append, All-push, All-contains, All-contains_itself, Contains-append_left, Contains-append_right}
 use Rattle.std.proofs.lemmas.List.Sorted.{All-permutation, IsPermutation-reverse}
@@ -10,6 +10,10 @@ use Rattle.et_base.proofs.Lists.{Contains-none, Contains-cons}
 use Rattle.et_program.specs.Slots.{places_from}
 use Rattle.et_hierarchy.specs.Ancestry.{class_added, added_all}
 use Rattle.et_program.specs.MembersOf.{numbered}
+
+pub if_true : (b : Bool) (n m : ℕ) → b ≡ true → (if b then n else m) ≡ n
+if_true true n m e = refl
+if_true false n m e = cc
 
 module _ (P : ℕ → Type 0) where
   either : (b : Bool) (xs ys : List ℕ) → All P xs → All P ys → All P (cond b xs ys)

@@ -1,7 +1,7 @@
 -- The slots that the machine itself uses.
-use Rattle.std.proofs.Common.{◌≡◌, ℕ, ◌+◌, ◌<◌, ◌≤◌, ◌⊎◌, ◌==◌, ◌||◌, ◌&&◌, Bool, true, false, not, List, [], ◌∷◌, length, map, take, replicate, Option, None, Some, refl, sym, ◌∙◌, ap, subst, inl, inr, arith, Contains}
+use Rattle.std.proofs.Common.{◌≡◌, ℕ, ◌+◌, ◌<◌, ◌≤◌, ◌⊎◌, ◌==◌, ◌||◌, ◌&&◌, Bool, true, false, not, List, [], ◌∷◌, length, map, replicate, Option, None, Some, refl, sym, ◌∙◌, ap, subst, inl, inr, arith, Contains}
 use mathlib.Core.Logic.{⊎_elim}
-use Rattle.std.specs.Prelude.{All, codes, count_by, sum_by, if◌then◌else◌}
+use Rattle.std.specs.Prelude.{All, codes, sum_by, if◌then◌else◌}
 use Rattle.std.specs.List.{slice_index_or, list_any, list_all}
 use Rattle.std.specs.Option.{option_and_then}
 use Rattle.std.specs.Str.{bytes_eq}
@@ -9,7 +9,7 @@ use Rattle.std.proofs.lemmas.Bool.{eqb-true, eq-eqb, or_cases, and_parts, both_w
 use Rattle.std.proofs.lemmas.List.{length-map, length-replicate}
 use Rattle.std.proofs.lemmas.List.Sums.{sum_by-cons}
 use Rattle.std.proofs.lemmas.List.Elements.{All-nil, All-cons, All-map}
-use Rattle.et_base.proofs.Lists.{Contains-here, Contains-there, Contains-cons, has_contains}
+use Rattle.et_base.proofs.Lists.{Contains-cons}
 use Rattle.et_base.specs.declared.value.Value.TheVariants.{Unset}
 use Rattle.et_boot.specs.Classes.{no_boot_class}
 use Rattle.et_class.specs.Names.{has}
@@ -22,16 +22,14 @@ use Rattle.et_hierarchy.proofs.Names.{same_name}
 use Rattle.et_program.specs.Entries.{ClassEntry, Linked, no_field, class_at, field_at, is_interface}
 use Rattle.et_program.specs.Members.{is_subclass, is_above}
 use Rattle.et_program.specs.declared.info.FieldInfo.{FieldInfo}
-use Rattle.et_program.specs.declared.info.Element.TheVariants.{NoArray}
-use Rattle.et_program.specs.Classes.{set_class}
 use Rattle.et_program.specs.Files.{boots, set_of, boot_outline, file_outline}
 use Rattle.et_program.specs.Loaded.{LoadedClass}
 use Rattle.et_program.specs.LinkFaults.{IsLinkable}
 use Rattle.et_program.proofs.DeclaredFields.{all_fields}
 use Rattle.et_program.specs.MembersOf.{numbered, fields_of, boot_fields, file_fields, file_field}
-use Rattle.et_program.specs.ProgramOf.{heads_of, class_names_of, program_with, IsProgramOf}
-use Rattle.et_program.specs.Slots.{is_static_field, is_instance_of, own_slots, slots_above, slot_of_field}
-use Rattle.et_link.proofs.TabledLemmas.{length-set, length-placed, fields_within}
+use Rattle.et_program.specs.ProgramOf.{class_names_of, program_with, IsProgramOf}
+use Rattle.et_program.specs.Slots.{own_slots, slots_above}
+use Rattle.et_link.proofs.TabledLemmas.{length-set, length-placed}
 use Rattle.et_event.specs.Errors.{class_called}
 use Rattle.et_event.specs.Sound.{HasField, IsSoundObject}
 use Rattle.et_heap.specs.Objects.{new_object}
@@ -43,14 +41,14 @@ use Rattle.et_linked.proofs.PlacesAbove.{link_at}
 use Rattle.et_linked.proofs.BuiltIn.{boot_place}
 use Rattle.et_linked.proofs.Lists.{all_pass}
 use Rattle.et_linked.proofs.Chains.{chain_above, apart}
-use Rattle.et_linked.proofs.Counts.{placed_at}
-use Rattle.et_linked.proofs.Making.{numbered_all, placed_all, class_in, named_in}
+use Rattle.et_linked.proofs.Making.{numbered_all, named_in}
 use Rattle.et_linked.proofs.Places.{at_map, one_of}
-use Rattle.et_linked.proofs.Slotted.{has_slots}
+use Rattle.et_linked.proofs.Slotted.{has_slots, field_is, is_placed, low as field_low, class_below, slots_are, no_array, below_is, in_lineage}
 use Rattle.et_linked.specs.Fields.{HasStaticFields}
 use Rattle.et_linked.proofs.Above.{interface_is, knows_interfaces}
 use Rattle.et_linked.proofs.Classes.{length_all, array_in}
 use Rattle.et_linked.proofs.Static.{fields_static}
+use Rattle.et_linked.proofs.Bodies.{thread_place}
 
 -- THE TABLE: class t of it is right below Object, is no interface, and declares so many slots
 
@@ -72,10 +70,6 @@ thread_is = record { low = omega arith; within = omega arith; kind = refl; super
 throwable_place : boot_place (codes "java/lang/Throwable") ≡ Some 10
 unfolding boots
 throwable_place = refl
-
-thread_place : boot_place (codes "java/lang/Thread") ≡ Some 6
-unfolding boots
-thread_place = refl
 
 object_place : boot_place (codes "java/lang/Object") ≡ Some 0
 unfolding boots
@@ -164,48 +158,21 @@ module _ (files : List LoadedClass) (rows : List Ancestry) (pools : List Constan
 
   -- FIELDS
 
-  field_is : (f : ℕ) → f < length p.fields → field_at p f ≡ record (declared f) { slot = slot_of_field (slots_above (fields_of files) rows) (take f (fields_of files)) (declared f) }
-  field_is f lt = placed_at (slots_above (fields_of files) rows) [] (fields_of files) f (subst (λ (n : ℕ). f < n) (length-placed (slots_above (fields_of files) rows) [] (fields_of files)) lt)
-
-  slot_by : (b : Bool) (n m : ℕ) → b ≡ false → (if b then n else m) ≡ m
-  slot_by true n m e = cc
-  slot_by false n m e = refl
-
   -- an instance field stands behind the slots of the superclasses of its class
   low : (f : ℕ) → f < length p.fields → has (field_at p f).flags STATIC ≡ false → above (field_at p f).class ≤ (field_at p f).slot
-  low f lt static =
-      let e = field_is f lt in
-      let g : FieldInfo = declared f in
-      let before : List FieldInfo = take f (fields_of files) in
-      let class : (field_at p f).class ≡ g.class = ap (λ (x : FieldInfo). x.class) e in
-      let plain : is_static_field g ≡ false = sym (ap (λ (x : FieldInfo). has x.flags STATIC) e) ∙ static in
-      let slot : (field_at p f).slot ≡ above g.class + count_by (is_instance_of g.class) before =
-      ap (λ (x : FieldInfo). x.slot) e ∙ slot_by (is_static_field g) (count_by is_static_field before) (above g.class + count_by (is_instance_of g.class) before) plain in
-      subst (λ (q : ℕ). above q ≤ (field_at p f).slot) (sym class) (let le : above g.class ≤ (field_at p f).slot = omega arith in le)
-
-  class_below : (f : ℕ) → f < length p.fields → (field_at p f).class < set_length
-  class_below f lt = placed_all (λ k. k < set_length) (slots_above (fields_of files) rows) [] (fields_of files) (fields_within files) f no_field lt
+  low f lt static = field_low files rows pools is f (is_placed files rows pools is f lt static)
 
   is_of_thread : (f : ℕ) → f < length p.fields → (field_at p f).class ≡ 6 → is_target (field_at p f) ≡ true
   is_of_thread f lt =
       let inside : f < length (fields_of files) = subst (λ (n : ℕ). f < n) (length-placed (slots_above (fields_of files) rows) [] (fields_of files)) lt in
-      subst IsTargetIf (sym (field_is f lt)) (targets_in files f no_field inside)
+      subst IsTargetIf (sym (field_is files rows pools is f lt)) (targets_in files f no_field inside)
 
   is_of_other : (f : ℕ) → f < length p.fields → (field_at p f).class ≡ 10 → ⊥
   is_of_other f lt =
       let inside : f < length (fields_of files) = subst (λ (n : ℕ). f < n) (length-placed (slots_above (fields_of files) rows) [] (fields_of files)) lt in
-      subst IsOther (sym (field_is f lt)) (others_in files f no_field inside)
+      subst IsOther (sym (field_is files rows pools is f lt)) (others_in files f no_field inside)
 
   -- CLASSES
-
-  class_is : (c : ℕ) → c < set_length → class_at p c ≡ set_class (heads_of files rows) c (slice_index_or (set_of files) c no_outline)
-  class_is c lt = class_in files rows pools c lt
-
-  slots_are : (c : ℕ) → c < set_length → (class_at p c).info.slots ≡ above c + own c
-  slots_are c lt = ap (λ (x : ClassEntry). x.info.slots) (class_is c lt)
-
-  no_array : (c : ℕ) → c < set_length → (class_at p c).info.element ≡ NoArray
-  no_array c lt = ap (λ (x : ClassEntry). x.info.element) (class_is c lt)
 
   above_each : (k : ℕ) → k < length boots → supers k ≡ supers_over rows (option_and_then (class_place (set_of files)) (slice_index_or boots k no_boot_class).super_name)
   above_each k lt =
@@ -231,22 +198,6 @@ module _ (files : List LoadedClass) (rows : List Ancestry) (pools : List Constan
       ∙ (sum_by-cons (own_slots (fields_of files)) 0 [] ∙ (let none : own 0 + 0 ≡ 0 = omega (arith, object_bare (fields_of files)) in none))
 
   module _ (plain : HaveStaticFields p) (faces : KnowsInterfaces p) (slots : HasSlots p) where
-    -- what a class is below is the class or a superclass of it, unless it is an interface
-    below_is : (c q : ℕ) → c < set_length → is_above p q c ≡ false → is_subclass p c q ≡ true → Contains (c ∷ supers c) q
-    below_is c q lt out h =
-        ⊎_elim
-        (λ e. subst (λ (k : ℕ). Contains (c ∷ supers c) k) (eqb-true c q e) (Contains-here c (supers c)))
-        (λ r.
-        ⊎_elim
-        (λ s. Contains-there c (supers c) q (has_contains (supers c) q (subst (λ (x : ClassEntry). list_any (λ k. k == q) x.supers ≡ true) (class_is c lt) s)))
-        (λ i. absurd (both_ways (is_above p q c) out i))
-        (or_cases (list_any (λ k. k == q) (class_at p c).supers) (is_above p q c) r))
-        (or_cases (c == q) (list_any (λ k. k == q) (class_at p c).supers || is_above p q c) h)
-
-    -- the class of a field of an object is that of the object, or a superclass
-    in_lineage : (c f : ℕ) → c < set_length → HasInstanceField p c f → Contains (c ∷ supers c) (field_at p f).class
-    in_lineage c f lt h = below_is c (field_at p f).class lt (plain c f h.within h.instance) h.below
-
     top_kind : (t count : ℕ) → IsTop t count → is_interface p t ≡ false
     top_kind t count top =
         let n : length (set_of files) ≡ length boots + length files = length-set files in
@@ -279,7 +230,7 @@ module _ (files : List LoadedClass) (rows : List Ancestry) (pools : List Constan
     -- each class below it has its slots
     room : (t count c : ℕ) → IsTop t count → c < set_length → Contains (c ∷ supers c) t → count ≤ (class_at p c).info.slots
     room t count c top lt h =
-        let total : (class_at p c).info.slots ≡ above c + own c = slots_are c lt in
+        let total : (class_at p c).info.slots ≡ above c + own c = slots_are files rows pools is c lt in
         let mine : own t ≡ count = top.own (fields_of files) in
         elim (Contains-cons c (supers c) t h) [
           | inl same ↦ let here : own c ≡ count = ap (λ (k : ℕ). own_slots (fields_of files) k) same ∙ mine in omega arith
@@ -290,12 +241,12 @@ module _ (files : List LoadedClass) (rows : List Ancestry) (pools : List Constan
     some_own : (f : ℕ) → f < length p.fields → has (field_at p f).flags STATIC ≡ false → (field_at p f).slot < above (field_at p f).class + own (field_at p f).class
     some_own f lt static =
         let q : ℕ = (field_at p f).class in
-        let inside : q < set_length = class_below f lt in
+        let inside : q < set_length = class_below files rows pools is f lt in
         let n : length p.classes ≡ set_length + length (class_names_of files) = length_all files rows pools in
-        let sound : IsSoundObject p (new_object q 0 (class_at p q).info.slots) = slots.instances q (omega arith) (no_array q inside) in
+        let sound : IsSoundObject p (new_object q 0 (class_at p q).info.slots) = slots.instances q (omega arith) (no_array files rows pools is q inside) in
         let at : HasField p (new_object q 0 (class_at p q).info.slots) f = sound.fields f lt static (itself q (list_any (λ k. k == q) (class_at p q).supers || is_above p q q)) in
         let size : length (replicate (class_at p q).info.slots Unset) ≡ (class_at p q).info.slots = length-replicate (class_at p q).info.slots Unset in
-        let total : (class_at p q).info.slots ≡ above q + own q = slots_are q inside in
+        let total : (class_at p q).info.slots ≡ above q + own q = slots_are files rows pools is q inside in
         let slot : (field_at p f).slot < length (replicate (class_at p q).info.slots Unset) = at.slot in
         omega arith
       where
@@ -310,7 +261,7 @@ module _ (files : List LoadedClass) (rows : List Ancestry) (pools : List Constan
         let high : (field_at p f).slot < above q + own q = some_own f field.within field.instance in
         let none : above t ≡ 0 = top_above t count top in
         let mine : own t ≡ count = top.own (fields_of files) in
-        elim (apart (fields_of files) (links (set_of files)) rows is c (supers c) refl t q h (in_lineage c f lt field)) [
+        elim (apart (fields_of files) (links (set_of files)) rows is c (supers c) refl t q h (in_lineage files rows pools is c f plain lt field)) [
           | inl same ↦ inl (sym same)
           | inr other ↦ elim other [ inl le ↦ inr (omega arith) | inr le ↦ absurd (omega arith) ]
         ]
@@ -331,8 +282,8 @@ module _ (files : List LoadedClass) (rows : List Ancestry) (pools : List Constan
     throwable_at c inside h =
         elim (cases_lt c set_length) [
           | inl lt ↦
-              let at : Contains (c ∷ supers c) 10 = below_is c 10 lt (not_above 10 2 c throwable_is) h in
-              record { bare = no_array c lt; room = room 10 2 c throwable_is lt at; free = λ f field. throwable_free c f lt at field }
+              let at : Contains (c ∷ supers c) 10 = below_is files rows pools is c 10 lt (not_above 10 2 c throwable_is) h in
+              record { bare = no_array files rows pools is c lt; room = room 10 2 c throwable_is lt at; free = λ f field. throwable_free c f lt at field }
           | inr le ↦ absurd (not_of_array 10 2 c throwable_is le inside h)
         ]
 
@@ -353,8 +304,8 @@ module _ (files : List LoadedClass) (rows : List Ancestry) (pools : List Constan
     thread_at c inside h =
         elim (cases_lt c set_length) [
           | inl lt ↦
-              let at : Contains (c ∷ supers c) 6 = below_is c 6 lt (not_above 6 1 c thread_is) h in
-              record { bare = no_array c lt; room = room 6 1 c thread_is lt at; target = λ f field first. thread_target c f lt at field first }
+              let at : Contains (c ∷ supers c) 6 = below_is files rows pools is c 6 lt (not_above 6 1 c thread_is) h in
+              record { bare = no_array files rows pools is c lt; room = room 6 1 c thread_is lt at; target = λ f field first. thread_target c f lt at field first }
           | inr le ↦ absurd (not_of_array 6 1 c thread_is le inside h)
         ]
 

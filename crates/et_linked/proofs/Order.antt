@@ -1,5 +1,5 @@
 -- The order in which classes are initialized (JVMS 5.5).
-use Rattle.std.proofs.Common.{◌≡◌, ℕ, ◌+◌, ◌<◌, ◌≤◌, Bool, true, false, List, [], ◌∷◌, ◌++◌, length, reverse, Option, None, Some, refl, sym, ◌∙◌, ap, subst, inl, inr, arith, Contains}
+use Rattle.std.proofs.Common.{◌≡◌, ℕ, ◌+◌, ◌<◌, ◌≤◌, Bool, true, false, List, [], ◌∷◌, ◌++◌, length, reverse, refl, sym, ◌∙◌, ap, subst, inl, inr, arith, Contains}
 use Rattle.std.specs.Prelude.{All}
 use Rattle.std.specs.List.{slice_index_or, flat_map}
 use Rattle.std.proofs.lemmas.List.Elements.{All-nil, All-cons, All-head, All-push, All-weaker, All-filter, All-contains, All-contains_itself, Contains-append_right}
@@ -25,6 +25,7 @@ use Rattle.et_linked.proofs.Making.{class_in}
 use Rattle.et_linked.proofs.Classes.{length_all, class_cases, array_in}
 use Rattle.et_linked.proofs.Supers.{IsClass, IsInterface, kinds, interfaces, below}
 use Rattle.et_linked.proofs.Lists.{all_added, all_flat, all_before, flat_has, reverse_all, reverse_has}
+use Rattle.et_linked.proofs.Chains.{rest_by}
 
 module _ (files : List LoadedClass) (rows : List Ancestry) (pools : List Constants) (is : IsAncestry (links (set_of files)) rows) (linkable : IsLinkable files) where
   abbrev set : List Outline
@@ -38,26 +39,13 @@ module _ (files : List LoadedClass) (rows : List Ancestry) (pools : List Constan
 
   -- SUPERCLASSES
 
-  rest_by : (o : Option ℕ) (s : ℕ) (ys : List ℕ) → supers_over rows o ≡ s ∷ ys → ys ≡ supers s
-  rest_by None s ys e = absurd (nothing e)
-    where
-      nothing : supers_over rows None ≡ s ∷ ys → ⊥
-      nothing q = cc
-  rest_by (Some r) s ys e = sym (tails e) ∙ ap (λ (k : ℕ). supers k) (heads e)
-    where
-      heads : (r ∷ supers r) ≡ s ∷ ys → r ≡ s
-      heads q = cc
-
-      tails : (r ∷ supers r) ≡ s ∷ ys → supers r ≡ ys
-      tails q = cc
-
   -- what is above a superclass is above the class
   above_super : (k : ℕ) (xs : List ℕ) → k < length set → supers k ≡ xs → (t u : ℕ) → Contains xs t → Contains (supers t) u → Contains xs u
   above_super k [] lt e t u c d = absurd (Contains-none t c)
   above_super k (s ∷ ys) lt e t u c d =
       let n : length (links set) ≡ length set = length-map set (links_of set) in
       let row : supers k ≡ supers_over rows (slice_index_or (links set) k no_links).above = ap (λ (r : Ancestry). r.supers) (is.row k (omega arith)) in
-      let rest : ys ≡ supers s = rest_by (slice_index_or (links set) k no_links).above s ys (sym row ∙ e) in
+      let rest : ys ≡ supers s = rest_by rows (slice_index_or (links set) k no_links).above s ys (sym row ∙ e) in
       let within : s < length set = (All-head (IsClass set) s ys (subst (All (IsClass set)) e (kinds files rows is linkable k lt).supers)).within in
       elim (Contains-cons s ys t c) [
         | inl same ↦ Contains-there s ys u (subst (λ (zs : List ℕ). Contains zs u) (sym rest) (subst (λ (i : ℕ). Contains (supers i) u) (sym same) d))

@@ -1,37 +1,22 @@
 -- Above a built-in class that declares no field, no class of a program declares one.
-use Rattle.std.proofs.Common.{◌≡◌, ℕ, zero, suc, ◌+◌, ◌<◌, Bool, true, false, cond, ◌==◌, List, [], ◌∷◌, ◌++◌, length, map, Option, None, Some, refl, sym, ◌∙◌, ap, subst, arith}
+use Rattle.std.proofs.Common.{◌≡◌, ℕ, zero, suc, ◌+◌, ◌<◌, true, false, ◌==◌, List, [], ◌∷◌, ◌++◌, length, map, Option, None, Some, refl, sym, ◌∙◌, ap, subst, arith}
 use Rattle.std.specs.Prelude.{All, nat_lt}
-use Rattle.std.specs.List.{slice_index_or, list_any, list_all, flat_map, filter_map, cons_option}
+use Rattle.std.specs.List.{slice_index_or, list_all, flat_map, filter_map, cons_option}
 use Rattle.std.specs.Option.{option_map_or, option_and_then}
 use Rattle.std.proofs.lemmas.Bool.{and_parts, ltb-true, false≢true}
 use Rattle.std.proofs.lemmas.List.{length-map}
-use Rattle.std.proofs.lemmas.List.Elements.{All-nil, All-cons, All-head, All-tail, All-append, All-push}
+use Rattle.std.proofs.lemmas.List.Elements.{All-nil, All-cons, All-append, All-push}
 use Rattle.et_boot.specs.Classes.{BootClassOf, no_boot_class}
 use Rattle.et_hierarchy.specs.Outline.{class_place, no_outline}
 use Rattle.et_hierarchy.specs.Links.{LinkEntry, links, links_of, no_links}
-use Rattle.et_hierarchy.specs.Ancestry.{Ancestry, ancestry_at, ancestry_of, class_added, added_all, supers_over, superinterfaces_over, IsAncestry}
+use Rattle.et_hierarchy.specs.Ancestry.{Ancestry, ancestry_at, ancestry_of, supers_over, superinterfaces_over, IsAncestry}
 use Rattle.et_program.specs.Loaded.{LoadedClass}
 use Rattle.et_program.specs.Files.{boots, set_of, boot_outline, file_outline}
 use Rattle.et_program.proofs.Standing.{place_in_set}
 use Rattle.et_link.proofs.TabledLemmas.{length-set}
 use Rattle.et_linked.proofs.Places.{at_map, at_mapped}
 use Rattle.et_linked.proofs.BuiltIn.{has_no_fields, no_fields_within, boot_place, is_before, above_in_table}
-
--- LISTS PUT TOGETHER
-
-module _ (P : ℕ → Type 0) where
-  either : (b : Bool) (xs ys : List ℕ) → All P xs → All P ys → All P (cond b xs ys)
-  either true xs ys h g = h
-  either false xs ys h g = g
-
-  all_added : (seen xs : List ℕ) → All P seen → All P xs → All P (added_all seen xs)
-  all_added seen [] h g = h
-  all_added seen (x ∷ xs) h g =
-      all_added (class_added seen x) xs (either (list_any (λ y. x == y) seen) seen (seen ++ x ∷ []) h (All-push P seen x h (All-head P x xs g))) (All-tail P x xs g)
-
-  all_flat : (f : ℕ → List ℕ) (xs : List ℕ) → All (λ i. All P (f i)) xs → All P (flat_map f xs)
-  all_flat f [] h = All-nil P
-  all_flat f (x ∷ xs) h = All-append P (f x) (flat_map f xs) (All-head (λ i. All P (f i)) x xs h) (all_flat f xs (All-tail (λ i. All P (f i)) x xs h))
+use Rattle.et_linked.proofs.Lists.{all_added, all_flat}
 
 -- WHAT STANDS ABOVE
 

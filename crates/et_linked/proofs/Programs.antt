@@ -43,7 +43,7 @@ use Rattle.et_linked.proofs.TextClasses.{system_place, system_within}
 use Rattle.et_linked.specs.Fields.{HasStaticConstants, HasTypedConstants}
 use Rattle.et_linked.proofs.Classes.{length_all, class_cases}
 use Rattle.et_linked.proofs.Supers.{IsInterface}
-use Rattle.et_linked.proofs.Lists.{all_numbered, all_places, all_before, Ascends, places_ascend}
+use Rattle.et_linked.proofs.Lists.{all_numbered, all_places, all_before, Ascends, places_ascend, if_true}
 use Rattle.et_linked.proofs.Order.{orders, own, within_all, run_kinds}
 use Rattle.et_linked.proofs.Threads.{pool_is}
 
@@ -93,16 +93,12 @@ module _ (files : List LoadedClass) (rows : List Ancestry) (pools : List Constan
   field_is : (f : ℕ) → f < length (fields_of files) → field_at p f ≡ record (declared f) { slot = slot_of_field (slots_above (fields_of files) rows) (take f (fields_of files)) (declared f) }
   field_is f lt = placed_at (slots_above (fields_of files) rows) [] (fields_of files) f lt
 
-  slot_if : (b : Bool) (n m : ℕ) → b ≡ true → (if b then n else m) ≡ n
-  slot_if true n m q = refl
-  slot_if false n m q = cc
-
   -- a static field stands in its slot
   static_place : (f : ℕ) → f < length (fields_of files) → has (declared f).flags STATIC ≡ true → StandsIn p.statics (field_at p f).slot f
   static_place f lt test =
       let g : FieldInfo = declared f in
       let before : List FieldInfo = take f (fields_of files) in
-      let slot : (field_at p f).slot ≡ count_by is_static_field before = ap (λ (x : FieldInfo). x.slot) (field_is f lt) ∙ slot_if (is_static_field g) (count_by is_static_field before) (slots_above (fields_of files) rows g.class + count_by (is_instance_of g.class) before) test in
+      let slot : (field_at p f).slot ≡ count_by is_static_field before = ap (λ (x : FieldInfo). x.slot) (field_is f lt) ∙ if_true (is_static_field g) (count_by is_static_field before) (slots_above (fields_of files) rows g.class + count_by (is_instance_of g.class) before) test in
       let at : StandsIn p.statics (count_by is_static_field before) (0 + f) = places_at is_static_field 0 (fields_of files) f no_field lt test in
       let same : 0 + f ≡ f = omega arith in
       subst (λ (i : ℕ). StandsIn p.statics i f) (sym slot) (subst (λ (i : ℕ). StandsIn p.statics (count_by is_static_field before) i) same at)

@@ -18,7 +18,7 @@ use Rattle.et_hierarchy.specs.Ancestry.{Ancestry, ancestry_at, IsAncestry}
 use Rattle.et_hierarchy.specs.Links.{links}
 use Rattle.et_hierarchy.specs.Outline.{no_outline}
 use Rattle.et_program.specs.Entries.{ClassEntry, Linked, no_class, no_field, class_at, field_at}
-use Rattle.et_program.specs.Members.{is_above}
+use Rattle.et_program.specs.Members.{is_above, is_subclass}
 use Rattle.et_program.specs.declared.info.Element.{Element}
 use Rattle.et_program.specs.declared.info.Element.TheVariants.{NoArray, Base, Class}
 use Rattle.et_program.specs.declared.info.FieldInfo.{FieldInfo}
@@ -39,7 +39,7 @@ use Rattle.et_linked.proofs.Interfaces.{HaveStaticFields}
 use Rattle.et_linked.proofs.PlacesAbove.{NoField}
 use Rattle.et_linked.proofs.Arguments.{no_field_of}
 use Rattle.et_linked.proofs.BuiltIn.{object_fieldless, cloneable_fieldless, serializable_fieldless}
-use Rattle.et_linked.proofs.Lists.{all_pass}
+use Rattle.et_linked.proofs.Lists.{all_pass, if_true}
 use Rattle.et_linked.proofs.Chains.{chain_above, apart}
 use Rattle.et_linked.proofs.Counts.{count_none, count_within, count_before, placed_at, StandsIn, places_at}
 use Rattle.et_linked.proofs.Making.{numbered_all, placed_all, fields_elsewhere, class_in}
@@ -117,11 +117,11 @@ module _ (files : List LoadedClass) (rows : List Ancestry) (pools : List Constan
   abbrev above : ℕ → ℕ
   above q = slots_above (fields_of files) rows q
 
-  field_is : (f : ℕ) → f < length p.fields → field_at p f ≡ record (declared f) { slot = slot_of_field (slots_above (fields_of files) rows) (take f (fields_of files)) (declared f) }
+  pub field_is : (f : ℕ) → f < length p.fields → field_at p f ≡ record (declared f) { slot = slot_of_field (slots_above (fields_of files) rows) (take f (fields_of files)) (declared f) }
   field_is f lt = placed_at (slots_above (fields_of files) rows) [] (fields_of files) f (subst (λ (n : ℕ). f < n) (length-placed (slots_above (fields_of files) rows) [] (fields_of files)) lt)
 
   -- an instance field
-  record IsPlaced (f : ℕ) : Type 0 where
+  pub record IsPlaced (f : ℕ) : Type 0 where
     within : f < length (fields_of files)
     test : is_instance_of (field_at p f).class (declared f) ≡ true
     slot : (field_at p f).slot ≡ above (field_at p f).class + count_by (is_instance_of (field_at p f).class) (take f (fields_of files))
@@ -135,7 +135,7 @@ module _ (files : List LoadedClass) (rows : List Ancestry) (pools : List Constan
   test_by true true e g = cc
   test_by false b e g = cc
 
-  is_placed : (f : ℕ) → f < length p.fields → has (field_at p f).flags STATIC ≡ false → IsPlaced f
+  pub is_placed : (f : ℕ) → f < length p.fields → has (field_at p f).flags STATIC ≡ false → IsPlaced f
   is_placed f lt static =
       let e = field_is f lt in
       let g : FieldInfo = declared f in
@@ -157,7 +157,7 @@ module _ (files : List LoadedClass) (rows : List Ancestry) (pools : List Constan
       let less : count_by (is_instance_of q) (take f (fields_of files)) + 1 ≤ count_by (is_instance_of q) (fields_of files) = count_within (is_instance_of q) (fields_of files) f no_field at.within at.test in
       omega (arith, at.slot, own_enough files q)
 
-  low : (f : ℕ) → IsPlaced f → above (field_at p f).class ≤ (field_at p f).slot
+  pub low : (f : ℕ) → IsPlaced f → above (field_at p f).class ≤ (field_at p f).slot
   low f at = omega (arith, at.slot)
 
   -- two of one class in one slot are one
@@ -180,7 +180,7 @@ module _ (files : List LoadedClass) (rows : List Ancestry) (pools : List Constan
   abbrev set_length : ℕ
   set_length = length (set_of files)
 
-  class_is : (c : ℕ) → c < set_length → class_at p c ≡ set_class (heads_of files rows) c (slice_index_or (set_of files) c no_outline)
+  pub class_is : (c : ℕ) → c < set_length → class_at p c ≡ set_class (heads_of files rows) c (slice_index_or (set_of files) c no_outline)
   class_is c lt = class_in files rows pools c lt
 
   -- what stands behind the set has no fields above it
@@ -217,7 +217,7 @@ module _ (files : List LoadedClass) (rows : List Ancestry) (pools : List Constan
       let there : class_at p c ≡ slice_index_or back (c - length front) no_class = get_or-append_right front back (length front) c no_class refl (omega arith) in
       subst (λ (x : ClassEntry). IsBare x) (sym there) (any_bare back (c - length front) arrays_bare)
 
-  class_below : (f : ℕ) → f < length p.fields → (field_at p f).class < set_length
+  pub class_below : (f : ℕ) → f < length p.fields → (field_at p f).class < set_length
   class_below f lt = placed_all (λ k. k < set_length) (slots_above (fields_of files) rows) [] (fields_of files) (fields_within files) f no_field lt
 
   no_field_behind : (c f : ℕ) → set_length ≤ c → HasInstanceField p c f → ⊥
@@ -227,24 +227,27 @@ module _ (files : List LoadedClass) (rows : List Ancestry) (pools : List Constan
       no_field_of p c (field_at p f).class (omega arith) (fields_elsewhere files rows f no_field h.within) b.supers b.interfaces h.below
 
   -- a class of the set has the slots of its superclasses, and its own
-  slots_are : (c : ℕ) → c < set_length → (class_at p c).info.slots ≡ above c + own c
+  pub slots_are : (c : ℕ) → c < set_length → (class_at p c).info.slots ≡ above c + own c
   slots_are c lt = ap (λ (x : ClassEntry). x.info.slots) (class_is c lt)
 
-  no_array : (c : ℕ) → c < set_length → (class_at p c).info.element ≡ NoArray
+  pub no_array : (c : ℕ) → c < set_length → (class_at p c).info.element ≡ NoArray
   no_array c lt = ap (λ (x : ClassEntry). x.info.element) (class_is c lt)
 
-  -- the class of a field of an object is that of the object, or a superclass
-  in_lineage : (c f : ℕ) → HaveStaticFields p → c < set_length → HasInstanceField p c f → Contains (c ∷ (ancestry_at rows c).supers) (field_at p f).class
-  in_lineage c f plain lt h =
-      let q : ℕ = (field_at p f).class in
+  -- what a class is below is the class or a superclass of it, unless it is an interface
+  pub below_is : (c q : ℕ) → c < set_length → is_above p q c ≡ false → is_subclass p c q ≡ true → Contains (c ∷ (ancestry_at rows c).supers) q
+  below_is c q lt out h =
       ⊎_elim
       (λ e. subst (λ (k : ℕ). Contains (c ∷ (ancestry_at rows c).supers) k) (eqb-true c q e) (Contains-here c (ancestry_at rows c).supers))
       (λ r.
       ⊎_elim
       (λ s. Contains-there c (ancestry_at rows c).supers q (has_contains (ancestry_at rows c).supers q (subst (λ (x : ClassEntry). list_any (λ k. k == q) x.supers ≡ true) (class_is c lt) s)))
-      (λ i. absurd (both_ways (is_above p q c) (plain c f h.within h.instance) i))
+      (λ i. absurd (both_ways (is_above p q c) out i))
       (or_cases (list_any (λ k. k == q) (class_at p c).supers) (is_above p q c) r))
-      (or_cases (c == q) (list_any (λ k. k == q) (class_at p c).supers || is_above p q c) h.below)
+      (or_cases (c == q) (list_any (λ k. k == q) (class_at p c).supers || is_above p q c) h)
+
+  -- the class of a field of an object is that of the object, or a superclass
+  pub in_lineage : (c f : ℕ) → HaveStaticFields p → c < set_length → HasInstanceField p c f → Contains (c ∷ (ancestry_at rows c).supers) (field_at p f).class
+  in_lineage c f plain lt h = below_is c (field_at p f).class lt (plain c f h.within h.instance) h.below
 
   slot_within : (c f : ℕ) → HaveStaticFields p → c < set_length → HasInstanceField p c f → (field_at p f).slot < (class_at p c).info.slots
   slot_within c f plain lt h =
@@ -369,15 +372,11 @@ module _ (files : List LoadedClass) (rows : List Ancestry) (pools : List Constan
       let g : FieldInfo = declared f in
       let before : List FieldInfo = take f (fields_of files) in
       let test : is_static_field g ≡ true = sym (ap (λ (x : FieldInfo). has x.flags STATIC) e) ∙ static in
-      let slot : (field_at p f).slot ≡ count_by is_static_field before = ap (λ (x : FieldInfo). x.slot) e ∙ slot_if (is_static_field g) (count_by is_static_field before) (above g.class + count_by (is_instance_of g.class) before) test in
+      let slot : (field_at p f).slot ≡ count_by is_static_field before = ap (λ (x : FieldInfo). x.slot) e ∙ if_true (is_static_field g) (count_by is_static_field before) (above g.class + count_by (is_instance_of g.class) before) test in
       let inside : f < length (fields_of files) = subst (λ (n : ℕ). f < n) (length-placed (slots_above (fields_of files) rows) [] (fields_of files)) lt in
       let at : StandsIn p.statics (count_by is_static_field before) (0 + f) = places_at is_static_field 0 (fields_of files) f no_field inside test in
       let there : StandsIn p.statics (field_at p f).slot (0 + f) = subst (λ (i : ℕ). StandsIn p.statics i (0 + f)) (sym slot) at in
       (there.within, there.is ∙ (let same : 0 + f ≡ f = omega arith in same))
-    where
-      slot_if : (b : Bool) (n m : ℕ) → b ≡ true → (if b then n else m) ≡ n
-      slot_if true n m q = refl
-      slot_if false n m q = cc
 
   slotted : HaveStaticFields p → HasSlots p
   slotted plain = record {

@@ -31,6 +31,7 @@ use Rattle.et_event.specs.Programs.{value_like}
 use Rattle.et_linked.specs.Fields.{HasTypedConstants, KeepsFieldRules}
 use Rattle.et_linked.proofs.Files.{IsWellField, well_fields, constant_by, static_fields, static_constants}
 use Rattle.et_linked.proofs.PromisedFiles.{found}
+use Rattle.et_linked.proofs.Lists.{if_true}
 
 -- TYPES
 
@@ -107,10 +108,6 @@ entry_fits slots None i k h e = absurd (false≢true h)
 entry_fits slots (Some type) i k h e = slot_fits slots type (slot_at slots i) k h e
 
 -- FIELDS
-
-if_true : (b : Bool) (n m : ℕ) → b ≡ true → (if b then n else m) ≡ n
-if_true true n m e = refl
-if_true false n m e = cc
 
 field_fits : (slots : List (Option Item)) (face : Bool) (m : MemberOf) → IsWellField slots face m → (k : LoadedConstant) → (constant_of slots m == 0) ≡ false → constant_at slots (constant_of slots m) ≡ Some k → Fits (pool_text slots m.descriptor) k
 field_fits slots face m w k h e =
