@@ -121,7 +121,7 @@ thread-spoken p s x t h = record { frames = h.frames; few_frames = h.few_frames;
 static-spoken : (p : Linked) (g : GuestState) (x : Texts) (i : ℕ) → IsSoundStatic p g i → IsSoundStatic p (with_texts g x) i
 static-spoken p g x i h = record { value = h.value; untouched = h.untouched }
 
-held-spoken : (s : Kept) (x : Texts) → IsSound s → IsSound (spoken x s)
+pub held-spoken : (s : Kept) (x : Texts) → IsSound s → IsSound (spoken x s)
 held-spoken s x h = record { room = h.room; none = h.none; roots = h.roots; slots = h.slots; referents = h.referents }
 
 pub sound-spoken : (p : Linked) (s : Kept) (x : Texts) → IsSoundFor p s → IsSoundFor p (spoken x s)

@@ -38,12 +38,21 @@ use Rattle.et_history.specs.Settings.{unended_threads}
 use Rattle.et_walk.specs.Telling.{names_of_program}
 use Rattle.et_history.specs.Whole.{beside, cleared, whole_flushed, whole_start}
 use Rattle.et_history.proofs.Alike.{is_open}
-use Rattle.et_history.proofs.Wholes.{all_match, settled_match, go_on, flushed_here, picked_unended}
+use Rattle.et_history.proofs.Wholes.{settled_match, go_on, picked_unended}
 use Rattle.et_walk.proofs.Records.{alike_itself, alike_then, same_size}
 use Rattle.et_spoken.proofs.Events.{event_tells_objects as event_tells}
 use Rattle.et_sound.proofs.Outcomes.{if_case}
+use Rattle.et_history.proofs.Freed.{past_at, settled_here, next_here}
 
 -- LINES
+
+-- a record never lowers the number of the next object
+pub rises : (next : ℕ) (r : Record) → next ≤ next_after next r
+rises next (Alloc event thread object class size elements) = omega arith
+rises next (Update event thread object slot old new) = omega arith
+rises next (Enter event thread method receiver) = omega arith
+rises next (Exit event thread method) = omega arith
+rises next (Unwind event thread method exception) = omega arith
 
 module _ (P : (event object size elements : ℕ) → Type 0) where
   both_tell : (a b c : ℕ) (xs ys : List TraceLine) → AreAllocations P a xs b → AreAllocations P b ys c → AreAllocations P a (xs ++ ys) c
@@ -85,13 +94,6 @@ module _ (P : (event object size elements : ℕ) → Type 0) where
     line_tells m next (Enter event thread method receiver) rs last le are = (tt, refl)
     line_tells m next (Exit event thread method) rs last le are = (tt, refl)
     line_tells m next (Unwind event thread method exception) rs last le are = (tt, refl)
-
-    rises : (next : ℕ) (r : Record) → next ≤ next_after next r
-    rises next (Alloc event thread object class size elements) = omega arith
-    rises next (Update event thread object slot old new) = omega arith
-    rises next (Enter event thread method receiver) = omega arith
-    rises next (Exit event thread method) = omega arith
-    rises next (Unwind event thread method exception) = omega arith
 
     lines_tell : (names : Names) (m : Mentions) (next last : ℕ) (rs : List Record) → from ≤ next → AreRecordsOf p clock t heap next rs last → AreAllocations P next (lines_of names m rs) last
     lines_tell names m next last [] le are = are
@@ -245,19 +247,11 @@ module _ (reached : Graph → ℕ → Bool) (p : Linked) (options : Options) (pi
   fewer : (e : ℕ) → Before (suc e) → Before e
   fewer e goes k lt = goes k (omega (arith, lt))
 
-  past_at : (e : ℕ) → Before e → IsPast (now e).kept.heap (now e).reported
-  past_at e goes = (all_match reached p options pick runs e goes).1.past
-
-  settled_here : (e o : ℕ) → Before e → IsHere (now e) o → IsHere (settled e) o
-  settled_here e o goes h =
-      let here : ℕ → Bool = reached (graph (now e)) in
-      if_case (λ (s : State). IsHere s o) (is_flush_point options.interval e) (whole_flushed here (now e)) (now e) (flushed_here here (now e) o (past_at e goes) h) h
-
   settled_alike : (e o : ℕ) → Before e → IsHere (now e) o → IsAlike (object_in (now e) o) (object_in (settled e) o)
   settled_alike e o goes h =
       let here : ℕ → Bool = reached (graph (now e)) in
       if_case (λ (s : State). IsAlike (object_in (now e) o) (object_in s o)) (is_flush_point options.interval e) (whole_flushed here (now e)) (now e)
-      (flushed_alike here (now e) o (past_at e goes) h) (alike_itself (object_in (now e) o))
+      (flushed_alike here (now e) o (past_at reached p options pick runs e goes) h) (alike_itself (object_in (now e) o))
 
   settled_next : (e : ℕ) → next_number (settled e) ≡ next_number (now e)
   settled_next e =
@@ -294,21 +288,10 @@ module _ (reached : Graph → ℕ → Bool) (p : Linked) (options : Options) (pi
   next_alike e o goes h =
       let t : State = settled e in
       let m = settled_match reached p options pick runs e (fewer e goes) in
-      let past_next : IsPast (after t (step e)).kept.heap (after t (step e)).reported = subst (λ (s : State). IsPast s.kept.heap s.reported) (next_is e) (past_at (suc e) goes) in
+      let past_next : IsPast (after t (step e)).kept.heap (after t (step e)).reported = subst (λ (s : State). IsPast s.kept.heap s.reported) (next_is e) (past_at reached p options pick runs (suc e) goes) in
       subst (λ (s : State). IsAlike (object_in (now e) o) (object_in s o)) (sym (next_is e))
       (alike_then (object_in (now e) o) (object_in t o) (object_in (after t (step e)) o) (settled_alike e o (fewer e goes) h)
-      (event_alike p t (turn e) (step e) o (tells_at e goes) m.1.past past_next (settled_here e o (fewer e goes) h)))
-
-  next_here : (e o : ℕ) → Before (suc e) → IsHere (now e) o → IsHere (now (suc e)) o
-  next_here e o goes h = subst (λ (s : State). IsHere s o) (sym (next_is e)) (event_here (settled e) (step e) (tells_at e goes) (settled_here e o (fewer e goes) h))
-    where
-      event_here : (t : State) (x : Outcome Kept) → TellsObjects p t.kept (turn e) x → IsHere t o → IsHere (after t x) o
-      event_here t (outcome.Goes next records) tells (inl held) = inl (tells.stays o held)
-      event_here t (outcome.Goes next records) tells (inr there) = inr there
-      event_here t (outcome.Waits next) tells (inl held) = inl (subst (λ (heap : Objects). IsHeld heap o) (sym tells) held)
-      event_here t (outcome.Waits next) tells (inr there) = inr there
-      event_here t (outcome.IllTyped method pc) tells g = g
-      event_here t outcome.ObjectLimit tells g = g
+      (event_alike p t (turn e) (step e) o (tells_at e goes) m.1.past past_next (settled_here reached p options pick runs e o (fewer e goes) h)))
 
   abbrev Made : ℕ → (event object size elements : ℕ) → Type 0
   Made e event object size elements = IsMadeAt p (whole_at reached p options pick) e event object size elements
@@ -321,7 +304,7 @@ module _ (reached : Graph → ℕ → Bool) (p : Linked) (options : Options) (pi
         within = omega arith;
         made = h.made;
         new = h.new;
-        here = next_here e object goes h.here;
+        here = next_here reached p options pick runs e object goes h.here;
         length_is = h.length_is ∙ sym alike.elements;
         size_is = h.size_is ∙ same_size p (object_in (now e) object) (object_in (now (suc e)) object) alike;
       }

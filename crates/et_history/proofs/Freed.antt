@@ -107,10 +107,10 @@ module _ (reached : Graph → ℕ → Bool) (p : Linked) (options : Options) (pi
   abbrev settled : ℕ → State
   settled e = whole_settled_at reached p options pick e
 
-  past_at : (e : ℕ) → Before e → IsPast (now e).kept.heap (now e).reported
+  pub past_at : (e : ℕ) → Before e → IsPast (now e).kept.heap (now e).reported
   past_at e goes = (all_match reached p options pick runs e goes).1.past
 
-  settled_here : (e o : ℕ) → Before e → IsHere (now e) o → IsHere (settled e) o
+  pub settled_here : (e o : ℕ) → Before e → IsHere (now e) o → IsHere (settled e) o
   settled_here e o goes h =
       let here : ℕ → Bool = reached (graph (now e)) in
       if_case (λ (s : State). IsHere s o) (is_flush_point options.interval e) (whole_flushed here (now e)) (now e) (flushed_here here (now e) o (past_at e goes) h) h
@@ -120,7 +120,7 @@ module _ (reached : Graph → ℕ → Bool) (p : Linked) (options : Options) (pi
       let here : ℕ → Bool = reached (graph (now e)) in
       if_case (λ (s : State). IsReportedAs s o x) (is_flush_point options.interval e) (whole_flushed here (now e)) (now e) (flushed_as here (now e) o x (past_at e goes) h) h
 
-  next_here : (e o : ℕ) → Before (suc e) → IsHere (now e) o → IsHere (now (suc e)) o
+  pub next_here : (e o : ℕ) → Before (suc e) → IsHere (now e) o → IsHere (now (suc e)) o
   unfolding left_by
   next_here e o goes h =
       let before : Before e = λ k lt. goes k (omega (arith, lt)) in

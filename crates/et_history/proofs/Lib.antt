@@ -11,12 +11,12 @@ mod FlushedTexts
 mod Waits
 mod Histories
 mod NewStrings
-mod NewArrays
+pub mod NewArrays
 mod NewWays
 mod NewRows
 mod NewTurns
 mod NewTexts
-mod Reached
+pub mod Reached
 pub mod Allocations
 mod LinkedSizes
 mod Causes

@@ -43,6 +43,7 @@ use Rattle.et_history.proofs.Reporting.{if_known}
 use Rattle.et_history.proofs.Wholes.{Stands, go_on, keeps_at, picked_unended, reached_all, settled_match}
 use Rattle.et_history.proofs.NewArrays.{unset_at}
 use Rattle.et_sound.proofs.Outcomes.{if_case}
+use Rattle.et_walk.proofs.WaitingLists.{beyond}
 
 -- RECORDS
 
@@ -104,11 +105,6 @@ number_at h o i = number_of_value (slot_of (object_at h o) i)
 abbrev number_in : (slot : ℕ) → Option ObjectState → ℕ
 number_in i x = number_of_value (slot_of (found x) i)
 
-nothing_beyond : (h : Objects) (o : ℕ) → length h ≤ o → at h o ≡ None
-nothing_beyond [] o le = refl
-nothing_beyond (x ∷ h) zero le = absurd (omega (arith, le))
-nothing_beyond (x ∷ h) (suc o) le = nothing_beyond h o (omega (arith, le))
-
 by_object : (b : Bool) (x y z : ℕ) → y ≡ z → (if b then x else y) ≡ (if b then x else z)
 by_object b x y z same = ap (λ (n : ℕ). if b then x else n) same
 
@@ -129,7 +125,7 @@ flushed_reference here s o i (inr (inl held)) =
 flushed_reference here s o i (inr (inr beyond)) =
     let len : length (flushed_heap here s.kept.heap) ≡ length s.kept.heap = length-flushed here s.kept.heap in
     same_reference s.kept.guest s.kept.heap (flushed_heap here s.kept.heap) o i
-    (ap (λ (x : Option ObjectState). number_in i x) (nothing_beyond (flushed_heap here s.kept.heap) o beyond ∙ sym (nothing_beyond s.kept.heap o (omega (arith, len, beyond)))))
+    (ap (λ (x : Option ObjectState). number_in i x) (beyond (flushed_heap here s.kept.heap) o beyond ∙ sym (beyond s.kept.heap o (omega (arith, len, beyond)))))
 
 -- AN EVENT
 

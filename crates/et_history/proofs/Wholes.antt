@@ -131,7 +131,7 @@ picked_unended s k some = by (length (unended_threads s)) refl
         let positive : 0 < length us = omega arith in
         unended_thread s.guest (slice_index us (k % length us)) (Contains-get_or us (k % length us) 0 (mod-lt k positive))
 
-below_limit : (e limit : ℕ) → e ≤ limit → (e ≡ limit → ⊥) → e < limit
+pub below_limit : (e limit : ℕ) → e ≤ limit → (e ≡ limit → ⊥) → e < limit
 below_limit e limit le ne = omega arith
 
 -- no object has the number 0

@@ -11,7 +11,7 @@ use Rattle.et_heap.specs.Objects.{ObjectState, Objects, new_object, has_room, sl
 use Rattle.et_heap.specs.Refs.{refs_of}
 use Rattle.et_state.specs.declared.stage.Stage.{Stage}
 use Rattle.et_state.specs.declared.stage.Stage.TheVariants.{Plain, Before, Clinit}
-use Rattle.et_state.specs.Threads.{FrameState, ThreadState, no_thread, first_frame, top_of, has_frame, without_top, with_pending, as_entered, in_clinit, entered_by, lost_room, most_frames}
+use Rattle.et_state.specs.Threads.{FrameState, ThreadState, no_thread, first_frame, top_of, without_top, with_pending, as_entered, in_clinit, entered_by, lost_room, most_frames}
 use Rattle.et_state.specs.ThreadRoots.{frame_roots}
 use Rattle.et_state.specs.declared.class_state.ClassState.{ClassState}
 use Rattle.et_state.specs.declared.class_state.ClassState.TheVariants.{Untouched, Begun, Done}
@@ -35,7 +35,7 @@ use Rattle.et_event.specs.Answered.{EventAnswers}
 use Rattle.et_event.specs.Sound.{IsSoundFor, AreSoundFrames, IsStaged}
 use Rattle.et_event.specs.Sites.{present_body}
 use Rattle.et_event.specs.Initialization.{with_state, prepared, constants_set, begun_by, begins_class, initializer_frame, enters_clinit}
-use Rattle.et_parts.proofs.Throwing.{ends_fit, ends_full}
+use Rattle.et_parts.proofs.Throwing.{ends_fit, ends_full, framed}
 use Rattle.et_event.specs.InitializationOrder.{IsInOrder}
 use Rattle.et_initialize.specs.Under.{so_far, with_kept, InitializesTo, IsInitializing, HasMadeStrings}
 use Rattle.et_initialize.proofs.Setting.{fits_grown, follows_each}
@@ -207,10 +207,6 @@ pub told_enter : (out out' : List Record) (n clock t number method : ℕ) → n 
 told_enter out out' n clock t number method a b e = e ∙ (ap (λ (i : ℕ). out ++ Enter i number method 0 ∷ []) a ∙ ap (λ (i : ℕ). out ++ Enter clock i method 0 ∷ []) b)
 
 -- AN ERROR IS THROWN
-
-framed : (fs : List FrameState) → 0 < length fs → has_frame fs ≡ true
-framed [] h = absurd (omega arith)
-framed (f ∷ fs) h = refl
 
 not_given_up : (e : Moment) (d : Doing) → 0 < length (thread_at d.state.guest e.thread).frames → entry_given_up e d ≡ d
 not_given_up e d h = ap (λ (b : Bool). if b then d else with_thread_state e (as_entered (thread_at d.state.guest e.thread)) d) (framed (thread_at d.state.guest e.thread).frames h)

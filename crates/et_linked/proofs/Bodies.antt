@@ -70,7 +70,7 @@ empty : (rows : List TableRow) → length rows ≡ 0 → rows ≡ []
 empty [] e = refl
 empty (r ∷ rows) e = absurd (omega arith)
 
-body_is : (b : Body) → is_run_body b ≡ true → b ≡ boot_body thread_run
+pub body_is : (b : Body) → is_run_body b ≡ true → b ≡ boot_body thread_run
 body_is b h =
     let one = and_parts (b.max_stack == 1) ((b.max_locals == 1) && (bytes_eq b.code thread_run.code && (length b.table == 0))) h in
     let two = and_parts (b.max_locals == 1) (bytes_eq b.code thread_run.code && (length b.table == 0)) one.1 in

@@ -49,7 +49,7 @@ frame_lock_there p m t sound has class =
 
 -- HOW OFTEN A MONITOR WAS ENTERED
 
-there_is : (x : Option ObjectState) → is_there x → x ≡ Some (found x)
+pub there_is : (x : Option ObjectState) → is_there x → x ≡ Some (found x)
 there_is None h = absurd h
 there_is (Some x) h = refl
 

@@ -35,7 +35,7 @@ ends_full d e = ap (λ (b : Bool). if b then Goes d.state d.records else ObjectL
 
 -- A THREAD WITH A FRAME
 
-framed : (fs : List FrameState) → 0 < length fs → has_frame fs ≡ true
+pub framed : (fs : List FrameState) → 0 < length fs → has_frame fs ≡ true
 framed [] h = absurd (omega arith)
 framed (f ∷ fs) h = refl
 

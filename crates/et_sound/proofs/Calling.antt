@@ -67,7 +67,7 @@ returned_as e kind member type m typed called = ap (λ (o : Option MethodType). 
 pub not_initializing : (e : Moment) (kind : CallKind) (member : Member) (type : MethodType) (m : ℕ) → bytes_eq member.name (codes "<clinit>") ≡ false → IsCalled e kind member type m → is_initializing e.program m ≡ false
 not_initializing e kind member type m named called = ap (λ (name : List ℕ). bytes_eq name (codes "<clinit>")) called.method.named ∙ named
 
-either : (a b c : Bool) → a ≡ c → b ≡ false → (a || b) ≡ c
+pub either : (a b c : Bool) → a ≡ c → b ≡ false → (a || b) ≡ c
 either true b c e h = e
 either false b c e h = h ∙ e
 

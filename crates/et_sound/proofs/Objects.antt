@@ -8,13 +8,14 @@ use Rattle.et_program.specs.Entries.{Linked}
 use Rattle.et_program.specs.Members.{is_subclass}
 use Rattle.et_heap.proofs.HeapLists.{held_within}
 use Rattle.et_heap.specs.declared.monitor.Monitor.{Monitor}
-use Rattle.et_heap.specs.Objects.{ObjectState, Objects, IsHeld, is_there, at, found, object_at, with_object_at, free_monitor}
+use Rattle.et_heap.specs.Objects.{ObjectState, Objects, IsHeld, at, found, object_at, with_object_at, free_monitor}
 use Rattle.et_state.specs.State.{Kept}
 use Rattle.et_state.specs.Words.{thread_at}
 use Rattle.et_event.specs.Errors.{class_called}
 use Rattle.et_event.specs.Sound.{HasThreadObject, IsSoundObject, IsSoundMonitor}
 use Rattle.et_sound.specs.WellFormed.{IsWellFormed}
 use Rattle.et_sound.proofs.Growing.{free_is_sound}
+use Rattle.et_parts.proofs.There.{there_is}
 
 abbrev pub heap_now : Kept → Objects → Kept
 heap_now s heap = record { heap = heap; guest = s.guest }
@@ -75,11 +76,7 @@ object_well p s o y h held sound monitor class =
 
 -- what stands at a number at which there is an object
 pub found_there : (heap : Objects) (o : ℕ) → IsHeld heap o → at heap o ≡ Some (object_at heap o)
-found_there heap o held = by (at heap o) held
-  where
-    by : (x : Option ObjectState) → is_there x → x ≡ Some (found x)
-    by None h = absurd h
-    by (Some x) h = refl
+found_there heap o held = there_is (at heap o) held
 
 pub object_is_sound : (p : Linked) (s : Kept) (o : ℕ) → IsWellFormed p s → IsHeld s.heap o → IsSoundIn p s (object_at s.heap o)
 object_is_sound p s o h held = h.objects o (object_at s.heap o) (found_there s.heap o held)

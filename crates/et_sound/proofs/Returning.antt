@@ -47,7 +47,7 @@ value_width operand.Reference Null h = omega arith
 value_width operand.Reference (Ref o) h = omega arith
 
 -- .. than the type that may be returned by that kind
-kind_is : (kind : Operand) (o : Option Operand) → is_kind kind o ≡ true → o ≡ Some kind
+pub kind_is : (kind : Operand) (o : Option Operand) → is_kind kind o ≡ true → o ≡ Some kind
 kind_is operand.Int None e = absurd (false≢true e)
 kind_is operand.Int (Some operand.Int) e = refl
 kind_is operand.Int (Some operand.Long) e = absurd (false≢true e)

@@ -30,6 +30,7 @@ use Rattle.et_event.specs.PlainRows.{is_plain}
 use Rattle.et_parts.proofs.SiteAnswers.{moment}
 use Rattle.et_event.proofs.Taken.{taken_int, taken_long}
 use Rattle.et_sound.proofs.Outcomes.{if_case}
+use Rattle.et_parts.proofs.Throwing.{framed}
 
 -- an ArithmeticException is thrown
 abbrev pub error_thrown : Linked → Kept → ℕ → Doing
@@ -54,10 +55,6 @@ pub record HoldsOfShapes (P : Outcome Kept → Type 0) (K : FrameState → Type 
   pub known : (f : FrameState) → K f → P (ends_event (with_frame (moment p s t) f (begins (moment p s t))))
   pub made : (bytes : List ℕ) (f : FrameState) → K f → P (ends_event (with_frame (moment p s t) f (string_made p s t bytes)))
 
-has_first : (fs : List FrameState) → 0 < length fs → has_frame fs ≡ true
-has_first [] h = absurd (omega arith)
-has_first (f ∷ fs) h = refl
-
 not_given_up : (d x : Doing) (b : Bool) → b ≡ true → (if b then d else x) ≡ d
 not_given_up d x true h = refl
 not_given_up d x false h = cc
@@ -74,7 +71,7 @@ module _ (P : Outcome Kept → Type 0) (K : FrameState → Type 0) (p : Linked) 
   throwing : P (throws (moment p s t) ArithmeticException (begins (moment p s t)))
   throwing =
       let e = moment p s t in
-      let given : entry_given_up e (begins e) ≡ begins e = not_given_up (begins e) _ (has_frame (thread_at s.guest t).frames) (has_first (thread_at s.guest t).frames has.frame) in
+      let given : entry_given_up e (begins e) ≡ begins e = not_given_up (begins e) _ (has_frame (thread_at s.guest t).frames) (framed (thread_at s.guest t).frames has.frame) in
       subst (λ (x : Doing). P (ends_event (pending_now e (next_object (begins e)) (instance_made e (error_class p ArithmeticException) x)))) (sym given) holds.thrown
 
   stringing : (bytes : List ℕ) → length (top s.guest t).operands < (top s.guest t).room

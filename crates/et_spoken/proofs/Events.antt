@@ -27,9 +27,9 @@ use Rattle.et_event.specs.TextRows.{is_fit_text, text_row}
 use Rattle.et_event.specs.Told.{by_out, by_text_call, event_with_texts, keeping}
 use Rattle.et_event.specs.declared.rows.Row.{Row}
 use Rattle.et_event.specs.declared.rows.Row.TheVariants.{Call, Heap}
-use Rattle.et_event.proofs.Beside.{sound-spoken}
+use Rattle.et_event.proofs.Beside.{sound-spoken, held-spoken}
 use Rattle.et_sound.specs.WellFormed.{StandsAt}
-use Rattle.et_sound.proofs.Turning.{parts, some_frame, stands_at}
+use Rattle.et_sound.proofs.Turning.{parts, stands_at, some_frame}
 use Rattle.et_walk.proofs.Calls.{arguments_fine}
 use Rattle.et_walk.proofs.Folding.{MadeOf, comes_so}
 use Rattle.et_walk.proofs.Held.{Ready, first_fine}
@@ -50,7 +50,7 @@ use Rattle.et_spoken.proofs.Called.{IsTextCall, text_called}
 use Rattle.et_spoken.proofs.Out.{LeadsOut, as_beside, out_keeps_sound, out_leads, out_slot, with_statics}
 use Rattle.et_spoken.proofs.Read.{IsOutRead, out_found}
 use Rattle.et_spoken.proofs.Rows.{LeadsBeside, done_beside, unless_ill_typed}
-use Rattle.et_spoken.proofs.Sounding.{held_spoken, row_keeps_sound}
+use Rattle.et_spoken.proofs.Sounding.{row_keeps_sound}
 
 abbrev pub moment : Linked → Kept → ℕ → Moment
 moment p s t = record { program = p; before = s; thread = t }
@@ -193,7 +193,7 @@ module _ (p : Linked) (s : Kept) (t : ℕ) (sound : IsSoundFor p s) (unended : I
 
 changes_spoken : (p : Linked) (s : Kept) (t : ℕ) (y x : Texts) (entry exit : Option Lock) (after : Kept) → Changes (moment p s t) entry exit after → Changes (moment p (spoken y s) t) entry exit (spoken x after)
 changes_spoken p s t y x entry exit after h = record {
-  sound = held_spoken after x h.sound;
+  sound = held-spoken after x h.sound;
   clock = h.clock;
   stays = h.stays;
   fresh = h.fresh;

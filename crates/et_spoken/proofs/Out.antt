@@ -27,7 +27,8 @@ use Rattle.et_sound.specs.WellFormed.{IsUnderWayAt, IsWellFormed, StandsAt}
 use Rattle.et_sound.proofs.Fields.{going, leaving_well}
 use Rattle.et_sound.proofs.Outcomes.{ends_sound, instance_well, if_case}
 use Rattle.et_sound.proofs.Slots.{static_well}
-use Rattle.et_walk.proofs.Heaps.{new_held, statics_fine}
+use Rattle.et_state.proofs.Steps.{newest_held}
+use Rattle.et_walk.proofs.Heaps.{statics_fine}
 use Rattle.et_walk.proofs.Held.{Ready, frame_fine}
 use Rattle.et_walk.proofs.Rows.{leaving_comes, operands_fine}
 use Rattle.et_walk.proofs.Values.{fine_at, frame_grows}
@@ -82,7 +83,7 @@ module _ (e : Moment) (ready : Ready e) (framed : IsFramed e) (at : Site) (slot 
   with_out = doing_with_guest (with_static made.state.guest slot (Ref new)) made
 
   new_there : IsHeld made.state.heap new
-  new_there = new_held e.before.heap (new_object class 0 (class_at e.program class).info.slots)
+  new_there = newest_held e.before.heap (new_object class 0 (class_at e.program class).info.slots)
 
   out_still : Still e (level e) (leaving_values e at operands with_out).state
   out_still =

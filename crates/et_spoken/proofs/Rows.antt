@@ -30,7 +30,7 @@ use Rattle.et_event.specs.declared.errors.GuestError.{GuestError}
 use Rattle.et_event.specs.declared.errors.GuestError.TheVariants.{NullPointerException, OutOfMemoryError, StringIndexOutOfBoundsException}
 use Rattle.et_walk.proofs.Calls.{answering_comes}
 use Rattle.et_walk.proofs.Given.{truth_fine}
-use Rattle.et_walk.proofs.Heaps.{new_held}
+use Rattle.et_state.proofs.Steps.{newest_held}
 use Rattle.et_walk.proofs.Held.{Ready}
 use Rattle.et_walk.proofs.Records.{newest_at}
 use Rattle.et_walk.proofs.Rows.{operands_fine}
@@ -166,7 +166,7 @@ module _ (e : Moment) (ready : Ready e) (framed : IsFramed e) where
       record {
         ended = WithInstance at class below (begins e) Begins framed ready.may.makes.string.class ready.may.texts.string (fines_drop e.before.heap (length arguments) (current_frame e).operands (operands_fine e ready framed));
         same = refl;
-        held = new_held e.before.heap new;
+        held = newest_held e.before.heap new;
         class = subst (λ (c : ℕ). is_text_class e.program c ≡ true) (sym (ap (λ (x : Option ObjectState). (found x).class) (newest_at e.before.heap new))) string_class;
       }
 

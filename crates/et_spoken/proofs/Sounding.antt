@@ -32,7 +32,7 @@ use Rattle.et_event.specs.Sound.{IsSoundFor, returned_of}
 use Rattle.et_event.specs.TextRows.{ends_with_texts, is_fit_text, is_text_like, rewrites, shown, text_done, text_given, text_row}
 use Rattle.et_event.specs.declared.errors.GuestError.{GuestError}
 use Rattle.et_event.specs.declared.errors.GuestError.TheVariants.{NullPointerException, OutOfMemoryError, StringIndexOutOfBoundsException}
-use Rattle.et_event.proofs.Beside.{sound-spoken}
+use Rattle.et_event.proofs.Beside.{sound-spoken, held-spoken}
 use Rattle.et_sound.specs.Outcomes.{KeepsSound}
 use Rattle.et_sound.specs.WellFormed.{IsUnderWayAt, IsWellFormed, StandsAt}
 use Rattle.et_sound.proofs.Arguments.{AreArguments, arguments_are}
@@ -41,12 +41,9 @@ use Rattle.et_sound.proofs.Outcomes.{goes_sound, instance_well, throws_sound}
 use Rattle.et_spoken.proofs.Called.{IsSelected, IsTextCall, is_selected}
 use Rattle.et_spoken.proofs.Rooms.{text_entries, text_fits}
 
-pub held_spoken : (s : Kept) (x : Texts) → IsSound s → IsSound (spoken x s)
-held_spoken s x h = record { room = h.room; none = h.none; roots = h.roots; slots = h.slots; referents = h.referents }
-
 -- where what is referred to is held, the state is sound, also with other texts
 pub sound_with_texts : (p : Linked) (s : Kept) (x : Texts) → (IsSound s → IsSoundFor p s) → IsSound (spoken x s) → IsSoundFor p (spoken x s)
-sound_with_texts p s x h held = sound-spoken p s x (h (held_spoken (spoken x s) s.guest.texts held))
+sound_with_texts p s x h held = sound-spoken p s x (h (held-spoken (spoken x s) s.guest.texts held))
 
 module _ (e : Moment) (at : Site) (here : StandsAt e at) (may : IsRunnable e.program) where
   abbrev p : Linked

@@ -20,6 +20,7 @@ use Rattle.et_event.specs.Sound.{IsSoundFor, IsSoundObject, slots_by}
 use Rattle.et_walk.specs.Records.{AreRecordsOf, IsMadeBefore, IsRecordOf, IsUpdated, next_after, size_by, size_of}
 use Rattle.et_traces.proofs.Lengths.{IsPlain, ArePlain}
 use Rattle.et_traces.proofs.RecordLines.{MayBe, AreTold}
+use Rattle.et_history.proofs.Allocations.{rises}
 
 -- BYTES
 
@@ -121,13 +122,6 @@ module _ (names : Names) (p : Linked) (e t : ℕ) (s : Kept) (from : ℕ) (last 
   record_told next (Unwind event thread method exception) le is =
       let before : IsMadeBefore s.heap next exception = is.2 in
       (is.0, omega (arith, is.1, few_threads), positive exception before.1, before.0, before.1)
-
-  rises : (next : ℕ) (r : Record) → next ≤ next_after next r
-  rises next (Alloc event thread object class size elements) = omega arith
-  rises next (Update event thread object slot old new) = omega arith
-  rises next (Enter event thread method receiver) = omega arith
-  rises next (Exit event thread method) = omega arith
-  rises next (Unwind event thread method exception) = omega arith
 
   pub records_told : (next end : ℕ) (rs : List Record) → from ≤ next → AreRecordsOf p e t s.heap next rs end → All (λ r. naming.IsNamed names r) rs → AreTold names e live last next rs end
   records_told next end [] le are named = are

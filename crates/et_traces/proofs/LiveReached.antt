@@ -28,6 +28,7 @@ use Rattle.et_traces.proofs.DeathLines.{IsListed, told_trace, trace_told, trace_
 use Rattle.et_history.proofs.Reporting.{found_before}
 use Rattle.et_traces.proofs.Reported.{now, made_by, Knows, flushed_out}
 use Rattle.et_traces.proofs.LiveSums.{rest_told, end_none, told_bytes, late_none}
+use Rattle.et_history.proofs.Reached.{last_within}
 
 -- lines only come to the end
 module _ {S : Type 0} (reached : Graph → ℕ → Bool) (given : Setting S) (start : S) (made : List Record) where
@@ -104,15 +105,6 @@ module _ (reached : Graph → ℕ → Bool) (p : Linked) (options : Options) (pi
   last_seen o zero some = absurd (omega (arith, some))
   last_seen o (suc n) some = last_step o n (last_of o n) (reached (graph (state (suc n))) o) refl (last_seen o n) some
 
-  within_step : (b : Bool) (n l : ℕ) → l ≤ n → (if b then suc n else l) ≤ suc n
-  within_step true n l le = omega arith
-  within_step false n l le = omega (arith, le)
-
-  last_within : (o n : ℕ) → last_of o n ≤ n
-  unfolding last_reached
-  last_within o zero = omega arith
-  last_within o (suc n) = within_step (reached (graph (state (suc n))) o) n (last_of o n) (last_within o n)
-
   -- AN EVENT OR A LATER ONE at which it is reached
 
   pub from_seen : (o e n k : ℕ) → e ≤ k → k ≤ e + n → IsNow k o true → from o e n ≡ true
@@ -154,7 +146,7 @@ module _ (reached : Graph → ℕ → Bool) (p : Linked) (options : Options) (pi
       | inl none ↦
           let first : e ≡ 0 = omega (arith, high, none) in
           absurd (out 0 (omega (arith, first)) (omega arith) (knows.first o some (subst (λ (k : ℕ). o ≤ made k) first is)))
-      | inr ne ↦ absurd (out (last_of o f) high (let up = last_within o f in omega (arith, up, within)) (last_seen o f (omega (arith, ne))))
+      | inr ne ↦ absurd (out (last_of o f) high (let up = last_within reached p options pick f o in omega (arith, up, within)) (last_seen o f (omega (arith, ne))))
     ]
   ]
 

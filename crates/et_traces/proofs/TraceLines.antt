@@ -52,6 +52,7 @@ use Rattle.et_traces.proofs.Lengths.{ArePlain, after, event_plain, flushed_plain
 use Rattle.et_traces.proofs.RecordLines.{AreTold, records_stand}
 use Rattle.et_traces.proofs.FlushLines.{Rises, Flushing, deaths_rise, alive_is_unlisted, flush_stands, flush_done, finish_fine, no_flush, carried}
 use Rattle.et_traces.proofs.EventLines.{records_told}
+use Rattle.et_history.proofs.Reached.{last_within}
 
 -- LINES, the newest first
 
@@ -183,22 +184,13 @@ module _ (reached : Graph → ℕ → Bool) (p : Linked) (options : Options) (pi
   abbrev Good : ℕ → Type 0
   Good e = Stands (names_of_program p) version options.interval e (next_number (now e)) (λ o. IsHeld (now e).kept.heap o) (last e) (mentions e) (behind [] (lines e))
 
-  step_within : (b : Bool) (e l : ℕ) → l ≤ e → (if b then suc e else l) ≤ suc e
-  step_within true e l le = omega arith
-  step_within false e l le = omega arith
-
-  last_within : (e o : ℕ) → last e o ≤ e
-  unfolding last_reached
-  last_within zero o = omega arith
-  last_within (suc e) o = step_within (reached (graph (now (suc e))) o) e (last e o) (last_within e o)
-
   step_later : (b : Bool) (e l : ℕ) → l ≤ e → l ≤ (if b then suc e else l)
   step_later true e l le = omega arith
   step_later false e l le = omega arith
 
   last_later : (e o : ℕ) → last e o ≤ last (suc e) o
   unfolding last_reached
-  last_later e o = step_later (reached (graph (now (suc e))) o) e (last e o) (last_within e o)
+  last_later e o = step_later (reached (graph (now (suc e))) o) e (last e o) (last_within reached p options pick e o)
 
   last_now : (e o : ℕ) → reached (graph (now (suc e))) o ≡ true → suc e ≤ last (suc e) o
   unfolding last_reached
@@ -215,7 +207,7 @@ module _ (reached : Graph → ℕ → Bool) (p : Linked) (options : Options) (pi
         made = lt;
         here = still_held (now e).kept.heap o some lt (or_second (reached (graph (now e)) o) (is_gone (graph (now e)) o) out);
         born = omega arith;
-        within = last_within e o;
+        within = last_within reached p options pick e o;
       })
     where
       or_second : (a b : Bool) → (a || b) ≡ false → b ≡ false

@@ -36,7 +36,7 @@ use Rattle.et_program.specs.Resolution.{resolve_class, resolve_method, select, s
 use Rattle.et_program.specs.declared.errors.LinkError.{LinkError}
 use Rattle.et_program.specs.declared.info.MethodInfo.{MethodInfo}
 use Rattle.et_program.specs.Referring.{pool_of_class}
-use Rattle.et_sound.proofs.Calling.{IsCall, IsCalled, not_initializing, typed_as}
+use Rattle.et_sound.proofs.Calling.{IsCall, IsCalled, not_initializing, typed_as, either}
 use Rattle.et_sound.proofs.Entering.{StandsIn, runs_here, stands_in, thread_now}
 use Rattle.et_sound.proofs.Invoking.{as_wanted}
 use Rattle.et_sound.proofs.Resolving.{resolved_method, selected_method, selected_special}
@@ -119,10 +119,6 @@ pub some_threads : (e : Moment) (lock : Option Lock) (d : Doing) → (entered_so
 some_threads e None d = refl
 some_threads e (Some (OfObject o)) d = refl
 some_threads e (Some (OfClass c)) d = refl
-
-either : (a b c : Bool) → a ≡ c → b ≡ false → (a || b) ≡ c
-either true b c e h = e
-either false b c e h = h ∙ e
 
 -- A METHOD BEGINS with the arguments that it takes
 pub begins_typed : (e : Moment) (typings : Typings) (k : ℕ) (body : Body) (type : MethodType) (static : Bool) (kinds : List Operand) (arguments : List Value) (all : AreTypings e.program typings) → k < length e.program.methods → (method_at e.program k).code ≡ Some body

@@ -316,16 +316,12 @@ module _ (e : Moment) (typings : Typings) (m : ℕ) (at : Site) (r : HeapRow) (t
           class_resolved h.name _ (λ class found.
           thrown errors.ClassCastException (passes e.program (object_class (begins e) o) class) _ (λ passed. done (value.Ref o ∷ below) (k (value.Ref o) refl)))
 
-  truth_int : (b : Bool) → type_of (truth b) ≡ entry.Int
-  truth_int true = refl
-  truth_int false = refl
-
   tested_typed : NamesClass (class_operand at) (giving (operand.Reference ∷ []) operand.Int) ts.operands us.operands → P (instance_of e at)
   tested_typed h =
       let g : Gives (operand.Reference ∷ []) operand.Int ts.operands us.operands = gives (operand.Reference ∷ []) operand.Int ts.operands us.operands h.moves in
       where_class (class_operand at) h.name _ h.named
       (reference_taken P (ill_typed e) [] ops ts.operands g.left _ here.operands g.taken (λ z below rest stands are last.
-      by z below (λ b. on_left (truth b ∷ []) below operand.Int rest (g.given ∙ ap (λ (xs : List EntryType). entry.Int ∷ xs) (sym (same_Some rest g.left last))) (ap (λ (t : EntryType). t ∷ []) (truth_int b)) are)))
+      by z below (λ b. on_left (truth b ∷ []) below operand.Int rest (g.given ∙ ap (λ (xs : List EntryType). entry.Int ∷ xs) (sym (same_Some rest g.left last))) (ap (λ (t : EntryType). t ∷ []) (truth_type b)) are)))
     where
       by : (z : Reference) (below : List Value) → ((b : Bool) → AreOperandsOf (truth b ∷ below) us.operands) → P (type_tested e at h.name below z)
       by None below k = done (truth false ∷ below) (k false)

@@ -1,5 +1,5 @@
 -- What the steps of an event keep: the other threads, and the message and the cause of each Throwable.
-use Rattle.std.proofs.Common.{◌-◌, ◌≡◌, ◌⊎◌, ℕ, ◌<◌, ◌≤◌, ◌++◌, true, false, List, [], ◌∷◌, length, Option, Some, None, refl, sym, ◌∙◌, ap, subst, set, inl, inr, arith, replicate, get_or, get_or-set_same, get_or-set_other, zero, suc}
+use Rattle.std.proofs.Common.{◌-◌, ◌≡◌, ◌⊎◌, ℕ, ◌<◌, ◌≤◌, ◌++◌, true, false, List, [], ◌∷◌, length, Option, Some, None, refl, sym, ◌∙◌, ap, subst, set, inl, inr, arith, get_or, get_or-set_same, get_or-set_other}
 use Rattle.std.specs.Prelude.{codes, is_some, slice_index_or}
 use Rattle.std.proofs.lemmas.Bool.{cases_eq, cases_lt}
 use Rattle.std.proofs.lemmas.List.{get_or_append_left, get_or-append_right, get_or_past, length-append, length-set}
@@ -32,6 +32,7 @@ use Rattle.et_state.specs.declared.stage.Stage.{Stage}
 use Rattle.et_state.specs.declared.stage.Stage.TheVariants.{Before, Clinit, Plain}
 use Rattle.et_walk.specs.Steps.{AllObjects, Begins, BeginsClass, Catches, ClassBecomes, Comes, CountsEntered, Drops, Ends, EntersClinit, EntersCode, EntersMonitor, GoesOn, Interns, IsReference, LeavesMonitor, MakesArray, MakesInstance, MayTell, Pends, Phase, Polls, Returns, SetsQueue, SetsReferent, Starts, Unwinds, UnwindsClinit, WritesSlot, WritesStatic}
 use Rattle.et_typed.specs.Typed.{HasTypedSlots, IsTypedThread, Typings}
+use Rattle.et_history.proofs.NewArrays.{unset_at}
 
 -- OBJECTS
 
@@ -41,11 +42,6 @@ AllTyped p heap = (o : ℕ) (x : ObjectState) → at heap o ≡ Some x → HasTy
 -- nothing was written to its slots
 unset_typed : (p : Linked) (x : ObjectState) → ((i : ℕ) → slot_of x i ≡ Unset) → HasTypedSlots p x
 unset_typed p x none below i lt = ap (λ (v : Value). is_of_kind (Some Reference) v) (none i)
-
-unset_slots : (n i : ℕ) → get_or (replicate n Unset) i Unset ≡ Unset
-unset_slots zero i = refl
-unset_slots (suc n) zero = refl
-unset_slots (suc n) (suc i) = unset_slots n i
 
 found_typed : (p : Linked) (heap : Objects) (o : ℕ) → AllTyped p heap → HasTypedSlots p (object_at heap o)
 found_typed p heap o all = by (at heap o) refl
@@ -169,7 +165,7 @@ module _ (e : Moment) (typings : Typings) where
   interned_keeps bytes d h =
       let x : Doing = instance_made e (class_called e.program (codes "java/lang/String")) d in
       if_case KeepsOthers (is_some (object_of d.state.guest.interned bytes)) d (doing_with_guest (with_string x.state.guest bytes (next_object d)) x) h
-      (same_parts x (doing_with_guest (with_string x.state.guest bytes (next_object d)) x) refl refl (made _ _ d (λ i. unset_slots _ i) h))
+      (same_parts x (doing_with_guest (with_string x.state.guest bytes (next_object d)) x) refl refl (made _ _ d (λ i. unset_at _ i) h))
 
   lock_entered : (lock : Lock) (d : Doing) → KeepsOthers d → KeepsOthers (entered e lock d)
   lock_entered (OfObject o) d h = changed o _ d (found_typed e.program d.state.heap o h.objects) h
@@ -223,8 +219,8 @@ module _ (e : Moment) (typings : Typings) where
     steps_keep ph d (ClassBecomes q c y x h) = same_parts x (with_state c y x) refl refl (steps_keep q x h)
     steps_keep ph d (WritesStatic i v x h lt a typed other) = wrote_static i v x (steps_keep _ x h)
     steps_keep ph d (Interns bytes x h) = interned_keeps bytes x (steps_keep _ x h)
-    steps_keep ph d (MakesInstance q class x makes h lt plain) = made _ _ x (λ i. unset_slots _ i) (steps_keep q x h)
-    steps_keep ph d (MakesArray class n x makes h array) = made _ _ x (λ i. unset_slots _ i) (steps_keep _ x h)
+    steps_keep ph d (MakesInstance q class x makes h lt plain) = made _ _ x (λ i. unset_at _ i) (steps_keep q x h)
+    steps_keep ph d (MakesArray class n x makes h array) = made _ _ x (λ i. unset_at _ i) (steps_keep _ x h)
     steps_keep ph d (WritesSlot q o i v x h a tells) = wrote_slot o i v x tells (steps_keep q x h)
     steps_keep ph d (EntersMonitor o x h at held) = lock_entered (OfObject o) x (steps_keep _ x h)
     steps_keep ph d (LeavesMonitor o x h at held) = lock_left (OfObject o) x (steps_keep _ x h)

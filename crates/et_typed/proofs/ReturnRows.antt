@@ -51,6 +51,7 @@ use Rattle.et_typed.proofs.Moves.{takes_all}
 use Rattle.et_typed.proofs.Own.{LeavesTyped, Own, first_typed, thread_own}
 use Rattle.et_typed.proofs.Taking.{value_taken}
 use Rattle.et_typed.proofs.Ways.{unless_thrown}
+use Rattle.et_sound.proofs.Returning.{kind_is}
 
 -- WHAT A RETURN TAKES
 
@@ -72,20 +73,6 @@ AreReturned returned values = (left : List EntryType) (ops : List Value) → Are
 none_returned : (returned : List ℕ) → is_void returned ≡ true → AreReturned returned []
 none_returned returned void left ops are = are ∙ sym (ap (λ (b : Bool). with_given (if b then None else Some (result_kind returned)) left) void)
 
-same_kind : (kind : Operand) (k : Option Operand) → is_kind kind k ≡ true → k ≡ Some kind
-same_kind operand.Int None h = absurd (false≢true h)
-same_kind operand.Int (Some operand.Int) h = refl
-same_kind operand.Int (Some operand.Long) h = absurd (false≢true h)
-same_kind operand.Int (Some operand.Reference) h = absurd (false≢true h)
-same_kind operand.Long None h = absurd (false≢true h)
-same_kind operand.Long (Some operand.Int) h = absurd (false≢true h)
-same_kind operand.Long (Some operand.Long) h = refl
-same_kind operand.Long (Some operand.Reference) h = absurd (false≢true h)
-same_kind operand.Reference None h = absurd (false≢true h)
-same_kind operand.Reference (Some operand.Int) h = absurd (false≢true h)
-same_kind operand.Reference (Some operand.Long) h = absurd (false≢true h)
-same_kind operand.Reference (Some operand.Reference) h = refl
-
 -- what is returned as V is of no kind
 void_none : (returned : List ℕ) → is_void returned ≡ true → (kind : Operand) → operand_kind returned ≡ Some kind → ⊥
 void_none [] void kind e = absurd (false≢true void)
@@ -99,7 +86,7 @@ void_none (a ∷ rest) void kind e = no_kind (subst (λ (n : ℕ). operand_kind 
 
 one_returned : (kind : Operand) (returned : List ℕ) (v : Value) → is_kind kind (operand_kind returned) ≡ true → map type_of (entries_of v) ≡ operand_entries kind → AreReturned returned (entries_of v)
 one_returned kind returned v may is left ops are =
-    let k : operand_kind returned ≡ Some kind = same_kind kind (operand_kind returned) may in
+    let k : operand_kind returned ≡ Some kind = kind_is kind (operand_kind returned) may in
     let given : with_given (returned_kind returned) left ≡ operand_entries kind ++ left = not_void (is_void returned) refl k in
     map-append type_of (entries_of v) ops ∙ (ap (λ (xs : List EntryType). xs ++ map type_of ops) is ∙ (ap (λ (xs : List EntryType). operand_entries kind ++ xs) are ∙ sym given))
   where

@@ -27,7 +27,7 @@ use Rattle.et_event.specs.Sound.{IsSoundFor, is_of_kind}
 use Rattle.et_class.specs.PoolOperands.Operand.TheVariants.{Reference}
 use Rattle.et_base.specs.declared.value.Value.{Value}
 use Rattle.et_base.specs.declared.value.Value.TheVariants.{Unset}
-use Rattle.et_history.proofs.Wholes.{ends_back, next, picked_unended, settled_match}
+use Rattle.et_history.proofs.Wholes.{ends_back, next, picked_unended, settled_match, below_limit}
 use Rattle.et_history.specs.Histories.{moment_at, picked, settled_at, state_at, whole_picked, IsHistory, HistoryComesTo}
 use Rattle.et_history.specs.Settings.{flushed_of, unended_threads}
 use Rattle.et_history.specs.Whole.{whole_start}
@@ -141,9 +141,6 @@ module _ (reached : Graph → ℕ → Bool) (p : Linked) (options : Options) (pi
       let below : e < options.limit = below_limit e options.limit m.1.within (eqb-false e options.limit within) in
       let few : s.guest.clock < 2 ^ 40 = omega (arith, clock, below, runs.options_are.limit) in
       told_typed p typings s thread sound few (picked_unended s (pick (suc e)) some) runs.run.runnable all (settled_typed e typed)
-    where
-      below_limit : (n limit : ℕ) → n ≤ limit → (n ≡ limit → ⊥) → n < limit
-      below_limit n limit le ne = omega arith
 
   next_typed : (e : ℕ) → IsTyped p typings (settled_at reached p options pick e) → KeepsTyped (moment_at reached p options pick e) typings (event_with_texts p (settled_at reached p options pick e) (moment_at reached p options pick e).thread)
       → IsTyped p typings (state_at reached p options pick (suc e))

@@ -8,7 +8,7 @@ use Rattle.et_event.specs.Moments.{Moment, begins, current_frame, thread_of}
 use Rattle.et_event.specs.Runnable.{IsRunnable}
 use Rattle.et_event.specs.Sound.{AreSoundFrames, IsSoundFor, IsStaged}
 use Rattle.et_sound.proofs.Frames.{with_first}
-use Rattle.et_sound.proofs.Turning.{some_frame, no_frame}
+use Rattle.et_sound.proofs.Turning.{no_frame, some_frame}
 use Rattle.et_state.specs.Outcome.{Outcome}
 use Rattle.et_state.specs.State.{Kept}
 use Rattle.et_state.specs.Threads.{FrameState, as_ended, has_frame, is_before_class, rest_of, turn_of}
@@ -23,6 +23,7 @@ use Rattle.et_typed.proofs.Own.{LeavesTyped, thread_own}
 use Rattle.et_typed.proofs.Standing.{instruction_typed}
 use Rattle.et_typed.proofs.Unwinding.{unwinding_typed}
 use Rattle.et_typed.proofs.Ways.{Calm}
+use Rattle.et_walk.proofs.MonitorRows.{none_pending}
 
 -- WHAT IS KNOWN of the moment
 pub record Known (e : Moment) (typings : Typings) : Type 0 where
@@ -35,10 +36,6 @@ pub record Known (e : Moment) (typings : Typings) : Type 0 where
 
 abbrev turn_with : (pends framed before entered : Bool) → Turn
 turn_with pends framed before entered = if pends then (if framed then Unwind else EndThread) else (if framed then (if before then Initialize else Instruction) else (if entered then EndThread else Entry))
-
-none_pends : (o : Option ℕ) → is_some o ≡ false → o ≡ None
-none_pends None q = refl
-none_pends (Some o) q = absurd (true≢false q)
 
 module _ (e : Moment) (typings : Typings) (k : Known e typings) where
   abbrev P : Outcome Kept → Type 0
@@ -94,10 +91,10 @@ module _ (e : Moment) (typings : Typings) (k : Known e typings) where
   by_turn : (pends framed before entered : Bool) → is_some (thread_of e).pending ≡ pends → has_frame (thread_of e).frames ≡ framed → is_before_class (current_frame e).stage ≡ before → (thread_of e).entered ≡ entered → turn_of (thread_of e) ≡ turn_with pends framed before entered → P (does_turn e (turn_with pends framed before entered))
   by_turn true true before entered p f b n turn = unwinds_typed (thread_of e).pending refl p (some_frame (thread_of e).frames f)
   by_turn true false before entered p f b n turn = ended (no_frame (thread_of e).frames f)
-  by_turn false true true entered p f b n turn = initializes_typed (none_pends (thread_of e).pending p) (some_frame (thread_of e).frames f) b
-  by_turn false true false entered p f b n turn = instruction_typed e typings (calm (none_pends (thread_of e).pending p)) turn
+  by_turn false true true entered p f b n turn = initializes_typed (none_pending (thread_of e).pending p) (some_frame (thread_of e).frames f) b
+  by_turn false true false entered p f b n turn = instruction_typed e typings (calm (none_pending (thread_of e).pending p)) turn
   by_turn false false before true p f b n turn = ended (no_frame (thread_of e).frames f)
-  by_turn false false before false p f b n turn = entry_typed e typings (calm (none_pends (thread_of e).pending p)) (no_frame (thread_of e).frames f) turn n k.unended.unended
+  by_turn false false before false p f b n turn = entry_typed e typings (calm (none_pending (thread_of e).pending p)) (no_frame (thread_of e).frames f) turn n k.unended.unended
 
   pub turn_typed : P (does_turn e (turn_of (thread_of e)))
   turn_typed = by_turn (is_some (thread_of e).pending) (has_frame (thread_of e).frames) (is_before_class (current_frame e).stage) (thread_of e).entered refl refl refl refl refl

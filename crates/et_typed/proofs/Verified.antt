@@ -1,5 +1,5 @@
 -- A linked program of which each method of the files has a typing has one for each method with code.
-use Rattle.std.proofs.Common.{◌≡◌, ℕ, ◌+◌, ◌<◌, ◌==◌, ◌&&◌, Bool, true, false, ltb, List, [], ◌∷◌, length, map, Option, Some, None, refl, sym, ◌∙◌, ap, subst, arith, Contains}
+use Rattle.std.proofs.Common.{◌≡◌, ℕ, ◌+◌, ◌<◌, ◌==◌, ◌&&◌, Bool, true, false, ltb, List, [], ◌∷◌, length, map, Option, Some, None, refl, sym, ◌∙◌, subst, arith, Contains}
 use Rattle.std.specs.Prelude.{All, codes, not, nat_lt}
 use Rattle.std.specs.List.{list_all}
 use Rattle.std.specs.Str.{bytes_eq}
@@ -10,7 +10,6 @@ use Rattle.et_boot.specs.Classes.{thread_run}
 use Rattle.et_class.specs.Names.{has}
 use Rattle.et_class.specs.declared.flags.TheConstants.{STATIC}
 use Rattle.et_code.specs.Bodies.{Body}
-use Rattle.et_code.specs.declared.body.TableRow.{TableRow}
 use Rattle.et_event.specs.Programs.{is_initializing}
 use Rattle.et_hierarchy.proofs.Names.{same_name}
 use Rattle.et_hierarchy.specs.Ancestry.{Ancestry}
@@ -30,6 +29,7 @@ use Rattle.et_verify.specs.Typings.{IsTyping, IsVerified}
 use Rattle.et_typed.specs.Typed.{AreTypings, Typings}
 use Rattle.et_typed.proofs.LinkedFields.{initializers_named, linked_operands}
 use Rattle.et_typed.proofs.RunTyping.{run_typed, run_typing}
+use Rattle.et_linked.proofs.Bodies.{body_is}
 
 -- THE BUILT-IN METHODS: the one with code is `run` of Thread
 
@@ -50,20 +50,6 @@ record IsRunMethod (x : MethodInfo) (body : Body) : Type 0 where
   descriptor : x.descriptor ≡ codes "()V"
   instance : has x.flags STATIC ≡ false
   named : bytes_eq x.name (codes "<clinit>") ≡ false
-
-empty : (rs : List TableRow) → length rs ≡ 0 → rs ≡ []
-empty [] e = refl
-empty (r ∷ rs) e = absurd (omega arith)
-
-body_is : (b : Body) → is_run_body b ≡ true → b ≡ boot_body thread_run
-body_is b h =
-    let one = and_parts (b.max_stack == 1) ((b.max_locals == 1) && (bytes_eq b.code thread_run.code && (length b.table == 0))) h in
-    let two = and_parts (b.max_locals == 1) (bytes_eq b.code thread_run.code && (length b.table == 0)) one.1 in
-    let three = and_parts (bytes_eq b.code thread_run.code) (length b.table == 0) two.1 in
-    ap (λ (n : ℕ). record { max_stack = n; max_locals = b.max_locals; code = b.code; table = b.table }) (eqb-true b.max_stack 1 one.0)
-    ∙ (ap (λ (n : ℕ). record { max_stack = 1; max_locals = n; code = b.code; table = b.table }) (eqb-true b.max_locals 1 two.0)
-    ∙ (ap (λ (c : List ℕ). record { max_stack = 1; max_locals = 1; code = c; table = b.table }) (same_name b.code thread_run.code three.0)
-    ∙ ap (λ (t : List TableRow). record { max_stack = 1; max_locals = 1; code = thread_run.code; table = t }) (empty b.table (eqb-true (length b.table) 0 three.1))))
 
 run_method : (x : MethodInfo) (b : Body) → is_run x (Some b) ≡ true → IsRunMethod x b
 run_method x b h =

@@ -21,6 +21,7 @@ use Rattle.et_event.specs.BuiltIns.{argument}
 use Rattle.et_event.specs.Calls.{begin_with, is_empty, are_arguments}
 use Rattle.et_event.specs.PoolOperands.Operand.TheVariants as operand
 use Rattle.et_walk.specs.Steps.{IsReference}
+use Rattle.et_event.proofs.BuiltInRoom.{none_some}
 
 -- THE DESCRIPTORS of those that write arguments to slots
 
@@ -47,9 +48,6 @@ all_described = refl
 
 described_by : (b : BuiltIn) (descriptor type : List ℕ) → option_map_or (λ (t : List ℕ). bytes_eq descriptor t) (type_of b) true ≡ true → type_of b ≡ Some type → descriptor ≡ type
 described_by b descriptor type e is = (bytes_eq-Decides descriptor type).0 (subst (λ (o : Option (List ℕ)). option_map_or (λ (t : List ℕ). bytes_eq descriptor t) o true ≡ true) is e)
-
-none_some : (b : BuiltIn) (o : Option BuiltIn) → o ≡ None → o ≡ Some b → ⊥
-none_some b o none some = cc
 
 module _ (m : MethodInfo) (b : BuiltIn) (type : List ℕ) (is : type_of b ≡ Some type) where
   abbrev third : List ℕ × List ℕ × BuiltIn → BuiltIn

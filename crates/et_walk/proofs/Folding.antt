@@ -11,7 +11,7 @@ use Rattle.et_program.specs.Entries.{class_at}
 use Rattle.et_program.specs.declared.info.Element.{Element}
 use Rattle.et_state.specs.Threads.{as_entered, has_frame}
 use Rattle.et_state.specs.Words.{thread_at}
-use Rattle.et_walk.proofs.Heaps.{new_held}
+use Rattle.et_state.proofs.Steps.{newest_held}
 use Rattle.et_walk.proofs.Held.{Ready, error_plain}
 use Rattle.et_walk.proofs.Recording.{slot_steady}
 use Rattle.et_walk.proofs.Records.{newest_at, steady_itself, steady_push, steady_then}
@@ -101,14 +101,14 @@ module _ (e : Moment) (ready : Ready e) where
   arrays_make : (class n : ℕ) (more : List ℕ) (d : Doing) → HasDimensions e.program (length (n ∷ more)) class → Comes e AllObjects Level d → IsLater d → MakesOne d (arrays_made e class (n ∷ more) d)
   arrays_make class n [] d has h late = record {
     makes = record { comes = MakesArray class n d tt h has; steady = steady_push d.state.heap (new_object class n n); longer = (let one = length_push d.state.heap (Some (new_object class n n)) in omega (arith, one)) };
-    first_held = new_held d.state.heap (new_object class n n);
+    first_held = newest_held d.state.heap (new_object class n n);
   }
   arrays_make class n (m ∷ more) d has h late =
       let inner : ℕ = element_class (class_at e.program class).info.element in
       let dimensions : HasDimensions e.program (length (m ∷ more)) inner = subst (λ (x : Element). HasDimensions e.program (length (m ∷ more)) (element_class x)) (sym has.1.1) has.1.2 in
       let object : ObjectState = new_object class n n in
       let y : Doing = array_made e class n d in
-      let there : IsHeld y.state.heap (next_object d) = new_held d.state.heap object in
+      let there : IsHeld y.state.heap (next_object d) = newest_held d.state.heap object in
       let count : length (object_at y.state.heap (next_object d)).slots ≡ n =
       ap (λ (x : Option ObjectState). length (found x).slots) (newest_at d.state.heap object) ∙ length-replicate n Unset in
       let one = length_push d.state.heap (Some object) in
@@ -134,10 +134,10 @@ module _ (e : Moment) (ready : Ready e) where
   comes_so d (WithInstance at class ops x h framed lt plain f) =
       let y : Doing = instance_made e class x in
       let made : Comes e AllObjects Level y = MakesInstance Level class x tt (eased e Level x h) lt plain in
-      record { phase = Level; comes = on_top e ready framed at.next (Ref (next_object x) ∷ ops) y made (λ u. (new_held x.state.heap (new_object class 0 (class_at e.program class).info.slots), later_fine e ready framed y.state ops u f)) }
+      record { phase = Level; comes = on_top e ready framed at.next (Ref (next_object x) ∷ ops) y made (λ u. (newest_held x.state.heap (new_object class 0 (class_at e.program class).info.slots), later_fine e ready framed y.state ops u f)) }
   comes_so d (WithArray at class n ops framed array f) =
       let y : Doing = array_made e class n (begins e) in
-      record { phase = Level; comes = on_top e ready framed at.next (Ref (next_object (begins e)) ∷ ops) y (MakesArray class n (begins e) tt Begins array) (λ u. (new_held e.before.heap (new_object class n n), later_fine e ready framed y.state ops u f)) }
+      record { phase = Level; comes = on_top e ready framed at.next (Ref (next_object (begins e)) ∷ ops) y (MakesArray class n (begins e) tt Begins array) (λ u. (newest_held e.before.heap (new_object class n n), later_fine e ready framed y.state ops u f)) }
   comes_so d (WithArrays at class n more ops framed has f) =
       let y : Doing = arrays_made e class (n ∷ more) (begins e) in
       let one : MakesOne (begins e) y = arrays_make class n more (begins e) has Begins (omega arith) in
@@ -149,14 +149,14 @@ module _ (e : Moment) (ready : Ready e) where
       let given : Comes e AllObjects Level (entry_given_up e x) = if_case (λ (z : Doing). Comes e AllObjects Level z) (has_frame (thread_at x.state.guest e.thread).frames) x entered (eased e Level x h) (CountsEntered x (eased e Level x h)) in
       let y : Doing = instance_made e class (entry_given_up e x) in
       let held : IsHeld y.state.heap (next_object x) =
-      if_case (λ (z : Doing). IsHeld (instance_made e class z).state.heap (next_object x)) (has_frame (thread_at x.state.guest e.thread).frames) x entered (new_held x.state.heap object) (new_held x.state.heap object) in
+      if_case (λ (z : Doing). IsHeld (instance_made e class z).state.heap (next_object x)) (has_frame (thread_at x.state.guest e.thread).frames) x entered (newest_held x.state.heap object) (newest_held x.state.heap object) in
       record { phase = Level; comes = Pends Level (next_object x) y (MakesInstance Level class (entry_given_up e x) tt given (ready.may.makes.error error).class (error_plain e ready error)) (λ u. held) }
   comes_so d (WithCause ph o x h none held) =
       let class : ℕ = error_class e.program errors.ExceptionInInitializerError in
       let error : ℕ = next_object x in
       let y : Doing = instance_made e class x in
       let z : Doing = slot_written e error 1 (Ref o) y in
-      let new : IsHeld y.state.heap error = new_held x.state.heap (new_object class 0 (class_at e.program class).info.slots) in
+      let new : IsHeld y.state.heap error = newest_held x.state.heap (new_object class 0 (class_at e.program class).info.slots) in
       let made : Comes e AllObjects ph y = MakesInstance ph class x tt (eased e ph x h) (ready.may.makes.error errors.ExceptionInInitializerError).class (error_plain e ready errors.ExceptionInInitializerError) in
       let count : length (object_at y.state.heap error).slots ≡ (class_at e.program class).info.slots =
       ap (λ (x : Option ObjectState). length (found x).slots) (newest_at x.state.heap (new_object class 0 (class_at e.program class).info.slots)) ∙ length-replicate (class_at e.program class).info.slots Unset in

@@ -218,6 +218,3 @@ made_sound s class elements slots sound =
         | inr f ↦ absurd (none-some o (subst (λ (x : Option ObjectState). (found x).referent ≡ Some o) f.1 e))
       ]);
     }
-
-pub new_held : (h : Objects) (y : ObjectState) → IsHeld (h ++ Some y ∷ []) (length h)
-new_held h y = newest_held h y

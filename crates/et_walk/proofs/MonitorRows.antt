@@ -32,7 +32,7 @@ use Rattle.et_walk.specs.Holding.{monitor_row, monitor_row_at, row_decoded, obje
 use Rattle.et_walk.specs.Changing.{KeepsMonitors}
 use Rattle.et_walk.specs.Steps.{AllObjects, Comes, IsFramed, Leads, Phase}
 use Rattle.et_walk.specs.Values.{Fines, FineFrame}
-use Rattle.et_walk.proofs.Heaps.{new_held}
+use Rattle.et_state.proofs.Steps.{newest_held}
 use Rattle.et_walk.proofs.Held.{Ready, frame_fine}
 use Rattle.et_walk.proofs.Monitors.{way, entered_still, left_still}
 use Rattle.et_walk.proofs.MonitorFrames.{Does, Fits, Moved, moved_by, pushed_lock, dropped_lock, beyond_none, level_fits}
@@ -68,7 +68,7 @@ throws_pends e error d h =
     let there : Still e (level e) y.state = instance_still e class x (given_up_still e d h) in
     let held : IsHeld y.state.heap (next_object d) =
     if_case (λ (u : Doing). IsHeld (instance_made e class u).state.heap (next_object d)) (has_frame (thread_at d.state.guest e.thread).frames) d (with_thread_state e (as_entered (thread_at d.state.guest e.thread)) d)
-    (new_held d.state.heap made) (new_held d.state.heap made) in
+    (newest_held d.state.heap made) (newest_held d.state.heap made) in
     let pends : (thread_at z.state.guest e.thread).pending ≡ Some (next_object d) =
     ap (λ (t : ThreadState). t.pending) (thread_now y.state e.thread (with_pending (Some (next_object d)) (thread_at y.state.guest e.thread)) there.thread) in
     if_case (Throws e) (fits_heap z.state.heap) (outcome.Goes z.state z.records) outcome.ObjectLimit (level_fits e z.state (pending_still e (next_object d) y there held), (next_object d, pends)) tt
@@ -192,7 +192,7 @@ quiet_now true true before entered e = cc
 quiet_now true false before entered e = cc
 quiet_now false has before entered e = refl
 
-none_pending : (p : Option ℕ) → is_some p ≡ false → p ≡ None
+pub none_pending : (p : Option ℕ) → is_some p ≡ false → p ≡ None
 none_pending None e = refl
 none_pending (Some o) e = absurd (true≢false e)
 

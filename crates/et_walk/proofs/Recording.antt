@@ -32,7 +32,8 @@ use Rattle.et_walk.specs.Records.{size_by, size_of, IsAlike, IsMadeBefore, IsMad
 use Rattle.et_walk.proofs.Values.{fine_grows, fine_at, fines_set, rest_fine}
 use Rattle.et_walk.specs.Steps.{HasSlot}
 use Rattle.et_walk.specs.Values.{Fine, Fines, FineSome, FineFrame, FineThread, Grows}
-use Rattle.et_walk.proofs.Heaps.{sound_guest, fine_thread, thread_sound, new_thread_sound, string_sound, static_sound, statics_fine, slots_fine, referent_fine, object_sound, made_sound, new_held, AreRestHeld, rest_held, rest_with_queue, rest_without_first}
+use Rattle.et_state.proofs.Steps.{newest_held}
+use Rattle.et_walk.proofs.Heaps.{sound_guest, fine_thread, thread_sound, new_thread_sound, string_sound, static_sound, statics_fine, slots_fine, referent_fine, object_sound, made_sound, AreRestHeld, rest_held, rest_with_queue, rest_without_first}
 use Rattle.et_walk.proofs.Words.{object_in, object_pushed}
 use Rattle.et_walk.proofs.Records.{steady_itself, steady_then, steady_set, steady_push, newest_at, records_grow, records_more}
 use Rattle.et_heap.specs.Queues.{with_waits, without_first_waiting, take_first}
@@ -227,7 +228,7 @@ made_told e class elements slots size d h is bare =
     let here : found (Some y) ≡ object_at now (length heap) = ap (λ (x : Option ObjectState). found x) (sym (newest_at heap y)) in
     let allocation : IsAllocationOf e.program now (length heap) (length heap) class size elements = record {
       number_is = refl;
-      held = new_held heap y;
+      held = newest_held heap y;
       class_is = ap (λ (x : ObjectState). x.class) here;
       length_is = ap (λ (x : ObjectState). x.length) here;
       size_is = is ∙ ap (λ (x : ObjectState). size_of e.program x) here;
@@ -295,9 +296,9 @@ interned_told e bytes d plain h = by (object_of d.state.guest.interned bytes) re
       held = subst (λ (r : Option ℕ). IsHeld d.state.heap (unwrap_or r 0)) (sym is) (h.sound.roots o (string_root d.state.guest o (object_in d.state.guest.interned bytes o is)));
     }
     by None is = record {
-      tells = string_told e bytes n y (instance_told e class d h plain) (new_held d.state.heap object);
+      tells = string_told e bytes n y (instance_told e class d h plain) (newest_held d.state.heap object);
       stays = λ k held. held_push d.state.heap object k held;
-      held = subst (λ (r : Option ℕ). IsHeld x.state.heap (unwrap_or r 0)) (sym (object_pushed d.state.guest.interned bytes n is)) (new_held d.state.heap object);
+      held = subst (λ (r : Option ℕ). IsHeld x.state.heap (unwrap_or r 0)) (sym (object_pushed d.state.guest.interned bytes n is)) (newest_held d.state.heap object);
     }
 
 -- EXCEPTIONS

@@ -35,7 +35,8 @@ use Rattle.et_walk.specs.Changing.{becomes, Changes}
 use Rattle.et_walk.specs.Values.{Fine, Fines, FineSome, FineFrame, FineThread}
 use Rattle.et_walk.proofs.Values.{fines_set, rest_fine}
 use Rattle.et_walk.proofs.WaitingLists.{KeepLists, keep_then, keep_set, keep_push, keep_taken}
-use Rattle.et_walk.proofs.Heaps.{Grown, grown_set, grown_push, sound_guest, fine_thread, thread_sound, new_thread_sound, string_sound, static_sound, slots_fine, referent_fine, object_sound, made_sound, new_held, AreRestHeld, rest_held, rest_with_queue, rest_without_first}
+use Rattle.et_state.proofs.Steps.{newest_held}
+use Rattle.et_walk.proofs.Heaps.{Grown, grown_set, grown_push, sound_guest, fine_thread, thread_sound, new_thread_sound, string_sound, static_sound, slots_fine, referent_fine, object_sound, made_sound, AreRestHeld, rest_held, rest_with_queue, rest_without_first}
 use Rattle.et_heap.specs.Queues.{with_waits, without_first_waiting, take_first}
 use Rattle.et_heap.proofs.HeapLists.{held_set}
 use Rattle.et_state.proofs.UnderWay.{waiting_pair}
@@ -306,9 +307,9 @@ interned_still e {w = w} bytes d h = by (object_of d.state.guest.interned bytes)
       held = subst (λ (r : Option ℕ). IsHeld d.state.heap (unwrap_or r 0)) (sym is) (h.changes.sound.roots o (string_root d.state.guest o (object_in d.state.guest.interned bytes o is)));
     }
     by None is = record {
-      still = string_still e bytes n y.state (instance_still e (class_called e.program (codes "java/lang/String")) d h) (new_held d.state.heap object);
+      still = string_still e bytes n y.state (instance_still e (class_called e.program (codes "java/lang/String")) d h) (newest_held d.state.heap object);
       stays = λ k held. made_held d.state.heap object k refl held;
-      held = subst (λ (r : Option ℕ). IsHeld x.state.heap (unwrap_or r 0)) (sym (object_pushed d.state.guest.interned bytes n is)) (new_held d.state.heap object);
+      held = subst (λ (r : Option ℕ). IsHeld x.state.heap (unwrap_or r 0)) (sym (object_pushed d.state.guest.interned bytes n is)) (newest_held d.state.heap object);
     }
 
 -- EXCEPTIONS
