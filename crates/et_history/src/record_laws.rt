@@ -1,6 +1,6 @@
 //! What records and traces tell of objects. Each law is a function with an empty body: what it promises is its contract.
 
-ghost use Rattle.std.specs.Prelude.{ℕ, ◌<◌, Bool, List, All};
+ghost use Rattle.std.specs.Prelude.{ℕ, Bool, List, All};
 ghost use Rattle.et_graph.specs.Graph.{Graph};
 ghost use Rattle.et_program.specs.Entries.{Linked};
 ghost use Rattle.et_program.specs.Loaded.{LoadedClass};

@@ -1,6 +1,6 @@
 //! Who waits in reference queues. Each law is a function with an empty body: what it promises is its contract.
 
-ghost use Rattle.std.specs.Prelude.{◌≡◌, ◌↔◌, ℕ, ◌<◌, Bool, true};
+ghost use Rattle.std.specs.Prelude.{◌≡◌, ◌↔◌, ℕ, Bool, true};
 ghost use Rattle.et_graph.specs.Graph.{Graph, Decides};
 ghost use Rattle.et_heap.specs.Links.{StandOnce};
 ghost use Rattle.et_program.specs.Entries.{Linked};

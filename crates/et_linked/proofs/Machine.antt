@@ -1,7 +1,7 @@
 -- The slots that the machine itself uses.
 use Rattle.std.proofs.Common.{◌≡◌, ℕ, ◌+◌, ◌<◌, ◌≤◌, ◌⊎◌, ◌==◌, ◌||◌, ◌&&◌, Bool, true, false, not, List, [], ◌∷◌, length, map, replicate, Option, None, Some, refl, sym, ◌∙◌, ap, subst, inl, inr, arith, Contains}
 use mathlib.Core.Logic.{⊎_elim}
-use Rattle.std.specs.Prelude.{All, codes, sum_by, if◌then◌else◌}
+use Rattle.std.specs.Prelude.{All, codes, sum_by}
 use Rattle.std.specs.List.{slice_index_or, list_any, list_all}
 use Rattle.std.specs.Option.{option_and_then}
 use Rattle.std.specs.Str.{bytes_eq}

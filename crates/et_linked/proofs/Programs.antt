@@ -1,6 +1,6 @@
 -- The constants and the initialization of the classes of a program.
 use Rattle.std.proofs.Common.{◌≡◌, ℕ, ◌+◌, ◌<◌, ◌≤◌, Bool, true, false, ◌&&◌, ◌==◌, List, [], length, take, Option, None, Some, IfSome, is_some, refl, sym, ◌∙◌, ap, subst, arith}
-use Rattle.std.specs.Prelude.{All, count_by, codes, if◌then◌else◌}
+use Rattle.std.specs.Prelude.{All, count_by, codes}
 use Rattle.std.specs.List.{slice_index_or, filter}
 use Rattle.std.specs.Option.{option_to_list}
 use Rattle.std.specs.Str.{bytes_eq}

@@ -1,5 +1,5 @@
 -- How far an event has come as it begins, and after quiet classes became done in it.
-use Rattle.std.proofs.Common.{◌≡◌, ℕ, ◌<◌, ◌^◌, Bool, [], length, refl, sym, ◌∙◌, ap}
+use Rattle.std.proofs.Common.{◌≡◌, ℕ, ◌<◌, Bool, [], length, refl, sym, ◌∙◌, ap}
 use Rattle.et_heap.specs.Objects.{Objects, has_room}
 use Rattle.et_state.specs.State.{MachineState, kept_of}
 use Rattle.et_program.specs.Entries.{Linked}

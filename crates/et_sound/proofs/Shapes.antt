@@ -1,6 +1,6 @@
 -- The plain rows by their shapes: what holds where there is no meaning, of an event that changes the topmost frame, of one
 -- that makes a string and of one that throws holds of each.
-use Rattle.std.proofs.Common.{◌≡◌, ℕ, ◌<◌, Bool, true, false, ltb, List, [], ◌∷◌, length, Option, Some, None, refl, sym, subst, arith}
+use Rattle.std.proofs.Common.{◌≡◌, ℕ, ◌<◌, Bool, true, false, ltb, List, ◌∷◌, length, Option, Some, None, refl, sym, subst, arith}
 use Rattle.std.proofs.lemmas.Bool.{ltb-true}
 use Rattle.std.specs.Prelude.{ℤ, IfSome, if◌then◌else◌, is_some, codes}
 use Rattle.std.specs.Int.{w32, w64}

@@ -1,7 +1,7 @@
 -- What a turn leads to.
 use Rattle.std.proofs.Common.{◌≡◌, ℕ, ◌<◌, Bool, true, false, List, [], ◌∷◌, length, Option, Some, None, refl, sym, subst}
 use Rattle.std.specs.Prelude.{if◌then◌else◌, is_some, ◌^◌}
-use Rattle.std.proofs.lemmas.Bool.{false≢true, true≢false}
+use Rattle.std.proofs.lemmas.Bool.{false≢true}
 use Rattle.et_event.specs.Event.{does_turn, initializes}
 use Rattle.et_event.specs.Throw.{unwinding_step}
 use Rattle.et_event.specs.Moments.{Moment, begins, current_frame, thread_of}

@@ -1,5 +1,5 @@
 -- A linked program of which each method of the files has a typing has one for each method with code.
-use Rattle.std.proofs.Common.{◌≡◌, ℕ, ◌+◌, ◌<◌, ◌==◌, ◌&&◌, Bool, true, false, ltb, List, [], ◌∷◌, length, map, Option, Some, None, refl, sym, ◌∙◌, subst, arith, Contains}
+use Rattle.std.proofs.Common.{◌≡◌, ℕ, ◌+◌, ◌<◌, ◌==◌, ◌&&◌, Bool, true, false, ltb, List, length, map, Option, Some, None, refl, sym, ◌∙◌, subst, arith, Contains}
 use Rattle.std.specs.Prelude.{All, codes, not, nat_lt}
 use Rattle.std.specs.List.{list_all}
 use Rattle.std.specs.Str.{bytes_eq}

@@ -1,4 +1,4 @@
-use Rattle.std.proofs.Common.{ℕ, ◌+◌, ◌<◌, ◌≤◌, List, ◌++◌, map, arith}
+use Rattle.std.proofs.Common.{ℕ, ◌+◌, ◌≤◌, List, ◌++◌, map, arith}
 use Rattle.et_base.specs.declared.line.TraceLine.{TraceLine}
 use Rattle.et_program.specs.Loaded.{LoadedClass, loaded_class}
 use Rattle.et_state.specs.History.{deaths, flush_lines, how_of, lines_to}
