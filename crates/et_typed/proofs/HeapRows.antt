@@ -49,7 +49,7 @@ use Rattle.et_typed.specs.Typed.{Typings}
 use Rattle.et_typed.specs.Values.{AreOperandsOf}
 use Rattle.et_typed.proofs.Here.{Here, leaves, never_refused, unless_refused}
 use Rattle.et_typed.proofs.Own.{AsBefore, LeavesTyped, ends_leave, own_by, slot_threads, static_threads}
-use Rattle.et_typed.proofs.Taking.{behind, int_at, int_taken, reference_taken, value_at, value_long, value_taken}
+use Rattle.et_typed.proofs.Taking.{behind, int_at, int_taken, reference_taken, value_at, value_long, value_taken, truth_type}
 use Rattle.et_typed.proofs.Ways.{begun_well, unless_thrown, where_initialized, where_not_null, where_resolved}
 
 module _ (e : Moment) (typings : Typings) (m : ℕ) (at : Site) (r : HeapRow) (ts us : TypesOf) (here : Here e typings m at (rows.Heap r) ts us) where

@@ -1,5 +1,5 @@
 -- Operands of types are operands of kinds: what an instruction takes is there.
-use Rattle.std.proofs.Common.{◌≡◌, List, [], ◌∷◌, ◌++◌, length, Some, None, refl, sym, ap, ◌∙◌}
+use Rattle.std.proofs.Common.{◌≡◌, Bool, true, false, List, [], ◌∷◌, ◌++◌, length, Some, None, refl, sym, ap, ◌∙◌}
 use Rattle.std.specs.Prelude.{ℤ, map, slice_index_or}
 use Rattle.std.proofs.lemmas.List.{length-map}
 use Rattle.et_base.specs.declared.value.Value.{Value}
@@ -7,6 +7,7 @@ use Rattle.et_base.specs.declared.value.Value.TheVariants as value
 use Rattle.et_class.specs.PoolOperands.Operand.{Operand}
 use Rattle.et_class.specs.PoolOperands.Operand.TheVariants as operand
 use Rattle.et_event.specs.Checks.{Reference, with_int, with_long, with_reference, with_value, entries_of}
+use Rattle.et_event.specs.Heap.{truth}
 use Rattle.et_heap.specs.Objects.{referent_value}
 use Rattle.et_flow.specs.declared.types.EntryType.{EntryType}
 use Rattle.et_flow.specs.declared.types.EntryType.TheVariants as entry
@@ -14,6 +15,11 @@ use Rattle.et_flow.specs.Types.{type_of, operand_entries}
 use Rattle.et_verify.specs.Steps.{below_taken}
 use Rattle.et_verify.proofs.Taken.{Takes, takes}
 use Rattle.et_typed.specs.Values.{AreOperandsOf}
+
+-- a test is told by an int
+pub truth_type : (b : Bool) → type_of (truth b) ≡ entry.Int
+truth_type true = refl
+truth_type false = refl
 
 -- .. OF VALUES. P holds of what is done then
 

@@ -44,7 +44,7 @@ use Rattle.et_typed.specs.Typed.{Typings}
 use Rattle.et_typed.proofs.CallRows.{Calls, Resolved, left_operands, passes, selected_called, text_refuses}
 use Rattle.et_typed.proofs.Here.{Here, leaves, unless_refused}
 use Rattle.et_typed.proofs.Own.{AsBefore, LeavesTyped, Own, own_by}
-use Rattle.et_typed.proofs.Taking.{typed_int}
+use Rattle.et_typed.proofs.Taking.{typed_int, truth_type}
 use Rattle.et_typed.proofs.TextCalls.{Chosen, chosen}
 use Rattle.et_typed.proofs.TextTable.{FitsType, answered_as, fits_type, given_as, index_taken, takes_index, text_answer}
 use Rattle.et_typed.proofs.Ways.{unless_thrown, where_not_null}
@@ -66,10 +66,6 @@ kinds_are (operand.Int ∷ []) e = refl
 kinds_are (operand.Int ∷ kind ∷ kinds) e = cc
 kinds_are (operand.Long ∷ kinds) e = cc
 kinds_are (operand.Reference ∷ kinds) e = cc
-
-truth_type : (b : Bool) → type_of (truth b) ≡ entry.Int
-truth_type true = refl
-truth_type false = refl
 
 module _ (e : Moment) (typings : Typings) (m : ℕ) (at : Site) (kind : CallKind) (ts us : TypesOf) (here : Here e typings m at (rows.Call (call.Invoke kind)) ts us) (c : Calls at (is_static_call kind) ts.operands us.operands) where
   abbrev P : Outcome Kept → Type 0
