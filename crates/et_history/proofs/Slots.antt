@@ -122,10 +122,10 @@ flushed_reference here s o i (inl none) = subst (λ (k : ℕ). reference_at (who
 flushed_reference here s o i (inr (inl held)) =
     same_reference s.kept.guest s.kept.heap (flushed_heap here s.kept.heap) o i
     (ap (λ (vs : List Value). number_of_value (slice_index_or vs i Unset)) (flushed_same (λ x. x.slots) (λ x r ws b. refl) here s.kept.heap o (flushed_held here s.kept.heap o held).1))
-flushed_reference here s o i (inr (inr beyond)) =
+flushed_reference here s o i (inr (inr new)) =
     let len : length (flushed_heap here s.kept.heap) ≡ length s.kept.heap = length-flushed here s.kept.heap in
     same_reference s.kept.guest s.kept.heap (flushed_heap here s.kept.heap) o i
-    (ap (λ (x : Option ObjectState). number_in i x) (beyond (flushed_heap here s.kept.heap) o beyond ∙ sym (beyond s.kept.heap o (omega (arith, len, beyond)))))
+    (ap (λ (x : Option ObjectState). number_in i x) (beyond (flushed_heap here s.kept.heap) o new ∙ sym (beyond s.kept.heap o (omega (arith, len, new)))))
 
 -- AN EVENT
 
@@ -139,7 +139,7 @@ records t x = records_of (beside t.reported x)
 was_place : (p : Linked) (t : State) (k : ℕ) (x : Outcome Kept) (o : ℕ) → KeepsMonitors (record { program = p; before = t.kept; thread = k }) x → IsPlace (after t x).kept o → IsPlace t.kept o
 was_place p t k (outcome.Goes next rs) o keeps (inl none) = inl none
 was_place p t k (outcome.Goes next rs) o keeps (inr (inl held)) = elim (keeps.changes.fresh o held) [ inl was ↦ inr (inl was) | inr new ↦ inr (inr new.0) ]
-was_place p t k (outcome.Goes next rs) o keeps (inr (inr beyond)) = let le = keeps.changes.longer in inr (inr (omega (arith, le, beyond)))
+was_place p t k (outcome.Goes next rs) o keeps (inr (inr new)) = let le = keeps.changes.longer in inr (inr (omega (arith, le, new)))
 was_place p t k (outcome.Waits next) o keeps place = subst (λ (s : Kept). IsPlace s o) keeps place
 was_place p t k (outcome.IllTyped method pc) o keeps place = place
 was_place p t k outcome.ObjectLimit o keeps place = place
@@ -237,7 +237,7 @@ module _ (reached : Graph → ℕ → Bool) (p : Linked) (options : Options) (pi
         | inl none ↦ inl none
         | inr more ↦ elim more [
           | inl held ↦ inr (inl (flushed_held here (now e).kept.heap o held).0)
-          | inr beyond ↦ let len : length (flushed_heap here (now e).kept.heap) ≡ length (now e).kept.heap = length-flushed here (now e).kept.heap in inr (inr (omega (arith, len, beyond)))
+          | inr new ↦ let len : length (flushed_heap here (now e).kept.heap) ≡ length (now e).kept.heap = length-flushed here (now e).kept.heap in inr (inr (omega (arith, len, new)))
         ]
       ]) (λ place. place)
 
@@ -282,7 +282,7 @@ module _ (reached : Graph → ℕ → Bool) (p : Linked) (options : Options) (pi
 
   -- what is not reached is not at hand after a flush either
   not_at_hand : (e o : ℕ) → Before e → 0 < o → o < length (now e).kept.heap → reached (graph (now e)) o ≡ false → IsAtHand (settled e).kept o → ⊥
-  not_at_hand e o goes some lt out (inr beyond) = let len = settled_length e in absurd (omega (arith, len, lt, beyond))
+  not_at_hand e o goes some lt out (inr new) = let len = settled_length e in absurd (omega (arith, len, lt, new))
   not_at_hand e o goes some lt out (inl r) =
       let here : ℕ → Bool = reached (graph (now e)) in
       let len = settled_length e in

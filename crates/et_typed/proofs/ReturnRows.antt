@@ -51,7 +51,7 @@ use Rattle.et_typed.proofs.Moves.{takes_all}
 use Rattle.et_typed.proofs.Own.{LeavesTyped, Own, first_typed, thread_own}
 use Rattle.et_typed.proofs.Taking.{value_taken}
 use Rattle.et_typed.proofs.Ways.{unless_thrown}
-use Rattle.et_sound.proofs.Returning.{kind_is}
+use Rattle.et_sound.proofs.Returning.{kind_is as same_kind}
 
 -- WHAT A RETURN TAKES
 
@@ -86,7 +86,7 @@ void_none (a ∷ rest) void kind e = no_kind (subst (λ (n : ℕ). operand_kind 
 
 one_returned : (kind : Operand) (returned : List ℕ) (v : Value) → is_kind kind (operand_kind returned) ≡ true → map type_of (entries_of v) ≡ operand_entries kind → AreReturned returned (entries_of v)
 one_returned kind returned v may is left ops are =
-    let k : operand_kind returned ≡ Some kind = kind_is kind (operand_kind returned) may in
+    let k : operand_kind returned ≡ Some kind = same_kind kind (operand_kind returned) may in
     let given : with_given (returned_kind returned) left ≡ operand_entries kind ++ left = not_void (is_void returned) refl k in
     map-append type_of (entries_of v) ops ∙ (ap (λ (xs : List EntryType). xs ++ map type_of ops) is ∙ (ap (λ (xs : List EntryType). operand_entries kind ++ xs) are ∙ sym given))
   where
