@@ -43,7 +43,7 @@ use Rattle.et_history.specs.Same.{TellsTheSame}
 use Rattle.et_history.specs.Settings.{unended_threads}
 use Rattle.et_walk.specs.Telling.{IsToldOf, names_of_program}
 use Rattle.et_history.specs.Whole.{beside, whole_flushed, whole_start}
-use Rattle.et_history.proofs.Alike.{is_open}
+use Rattle.et_history.proofs.Alike.{Open, is_open}
 use Rattle.et_history.proofs.Wholes.{picked_unended, now_is, is_now}
 use Rattle.et_traces.specs.Good.{AreNamesApart, AreNamesShort}
 use Rattle.et_traces.proofs.Numbering.{AreTellable}
