@@ -1,6 +1,6 @@
 -- What is looked for in a table stands at its place in the order, or nowhere.
-use Rattle.std.proofs.Common.{◌≡◌, ℕ, zero, suc, ◌+◌, ◌-◌, ◌<◌, ◌≤◌, Bool, true, false, cond, not, ◌==◌, ◌&&◌, ◌||◌, nat_lt, inl, inr, ⊎_elim, List, [], ◌∷◌, ◌++◌, length, map, get_or, take, drop, Option, None, Some, All, refl, sym, ◌∙◌, ap, subst, arith, true≢false, Ordering, Less, Equal, Greater, nat_cmp, is_lt, is_eq}
-use Rattle.std.specs.List.{position_from, position_or_len, prefix_len, list_any}
+use Rattle.std.proofs.Common.{◌≡◌, ℕ, zero, suc, ◌+◌, ◌-◌, ◌<◌, ◌≤◌, Bool, true, false, cond, ◌==◌, ◌&&◌, ◌||◌, nat_lt, ⊎_elim, List, [], ◌∷◌, ◌++◌, length, map, get_or, take, drop, None, Some, All, refl, sym, ◌∙◌, ap, subst, arith, true≢false, Ordering, Less, Equal, Greater, nat_cmp, is_lt, is_eq}
+use Rattle.std.specs.List.{position_from, position_or_len, list_any}
 use Rattle.std.specs.List.Sorted.{IsPartitionedBy, IsPartitionPoint, IsPermutation, IsSortedBy}
 use Rattle.std.specs.Ordering.{ordering_then, ordering_reverse}
 use Rattle.std.specs.Cmp.{IsTotalOrder, IsStrictWeakOrder}
@@ -19,17 +19,17 @@ use Rattle.et_program.specs.declared.info.MethodInfo.{MethodInfo}
 use Rattle.et_program.specs.declared.info.FieldInfo.{FieldInfo}
 use Rattle.et_program.specs.Entries.{ClassEntry}
 use Rattle.et_program.specs.Members.{is_method, is_field}
-use Rattle.et_program.specs.Order.{Key, key_cmp, is_key, class_key, method_key, field_key, key_at, entry_cmp, IsOrder, is_before, place_of}
+use Rattle.et_program.specs.Order.{KeyOf, key_cmp, is_key, class_key, method_key, field_key, key_at, entry_cmp, IsOrder, is_before, place_of}
 
 -- TWO KEYS
 
 pub key_total : IsTotalOrder key_cmp
-key_total = then_total (then_total (on_total (λ (x : Key). x.0) nat_list_cmp_total) (on_total (λ (x : Key). x.1) nat_list_cmp_total)) (on_total (λ (x : Key). x.2) nat_cmp_total)
+key_total = then_total (then_total (on_total (λ (x : KeyOf). x.0) nat_list_cmp_total) (on_total (λ (x : KeyOf). x.1) nat_list_cmp_total)) (on_total (λ (x : KeyOf). x.2) nat_cmp_total)
 
-key_weak : IsStrictWeakOrder (λ (x y : Key). is_lt (key_cmp x y))
-key_weak = ranks_by key_total (λ (x : Key). x)
+key_weak : IsStrictWeakOrder (λ (x y : KeyOf). is_lt (key_cmp x y))
+key_weak = ranks_by key_total (λ (x : KeyOf). x)
 
-pub entry_weak : (keys : List Key) → IsStrictWeakOrder (λ (e f : ℕ × ℕ). is_lt (entry_cmp keys e f))
+pub entry_weak : (keys : List KeyOf) → IsStrictWeakOrder (λ (e f : ℕ × ℕ). is_lt (entry_cmp keys e f))
 entry_weak keys = ranks_by (then_total (on_total (λ (e : ℕ × ℕ). key_at keys e.1) key_total) (on_total (λ (e : ℕ × ℕ). e.1) nat_cmp_total)) (λ (e : ℕ × ℕ). e)
 
 eq_then : (r s : Ordering) → is_eq (ordering_then r s) ≡ (is_eq r && is_eq s)
@@ -60,7 +60,7 @@ lt_test false false = refl
 lt_numbers : (a b : ℕ) → is_lt (nat_cmp a b) ≡ nat_lt a b
 lt_numbers a b = lt_test (nat_lt a b) (a == b)
 
-pub eq_keys : (x q : Key) → is_eq (key_cmp x q) ≡ is_key q x
+pub eq_keys : (x q : KeyOf) → is_eq (key_cmp x q) ≡ is_key q x
 eq_keys x q =
     eq_then (ordering_then (slice_cmp nat_cmp x.0 q.0) (slice_cmp nat_cmp x.1 q.1)) (nat_cmp x.2 q.2)
     ∙ (ap (λ b. b && is_eq (nat_cmp x.2 q.2)) (eq_then (slice_cmp nat_cmp x.0 q.0) (slice_cmp nat_cmp x.1 q.1))
@@ -69,7 +69,7 @@ eq_keys x q =
     ∙ (ap (λ b. (bytes_eq x.0 q.0 && bytes_eq x.1 q.1) && b) (eq_numbers x.2 q.2)
     ∙ and_turned (bytes_eq x.0 q.0 && bytes_eq x.1 q.1) (x.2 == q.2)))))
 
-same_key : (q x : Key) → is_key q x ≡ true → x ≡ q
+same_key : (q x : KeyOf) → is_key q x ≡ true → x ≡ q
 same_key q x h =
     let a = and_parts (x.2 == q.2) (bytes_eq x.0 q.0 && bytes_eq x.1 q.1) h in
     let b = and_parts (bytes_eq x.0 q.0) (bytes_eq x.1 q.1) a.1 in
@@ -77,7 +77,7 @@ same_key q x h =
     ∙ (ap (λ (d : List ℕ). (q.0, d, x.2)) ((bytes_eq-Decides x.1 q.1).0 b.1)
     ∙ ap (λ (c : ℕ). (q.0, q.1, c)) (eqb-true x.2 q.2 a.0))
 
-not_below_itself : (q : Key) → is_lt (key_cmp q q) ≡ false
+not_below_itself : (q : KeyOf) → is_lt (key_cmp q q) ≡ false
 not_below_itself q = ap is_lt (tied_itself key_total q)
 
 neither : (r : Ordering) → is_lt r ≡ false → is_lt (ordering_reverse r) ≡ false → is_eq r ≡ true
@@ -86,7 +86,7 @@ neither Equal h k = refl
 neither Greater h k = absurd (true≢false k)
 
 -- of two keys neither of which is below the other
-level : (q x : Key) → is_lt (key_cmp x q) ≡ false → is_lt (key_cmp q x) ≡ false → is_key q x ≡ true
+level : (q x : KeyOf) → is_lt (key_cmp x q) ≡ false → is_lt (key_cmp q x) ≡ false → is_key q x ≡ true
 level q x h k = sym (eq_keys x q) ∙ neither (key_cmp x q) h (ap is_lt (sym (key_total.antisymm q x)) ∙ k)
 
 -- THE FIRST PLACE THAT PASSES
@@ -129,38 +129,38 @@ squeezed Less s t h k = absurd (true≢false h)
 squeezed Equal s t h k = refl
 squeezed Greater s t h k = absurd (true≢false (sym k))
 
-texts_cmp : Key → List ℕ → List ℕ → Ordering
+texts_cmp : KeyOf → List ℕ → List ℕ → Ordering
 texts_cmp x n d = ordering_then (slice_cmp nat_cmp x.0 n) (slice_cmp nat_cmp x.1 d)
 
 texts_level : (n d : List ℕ) → ordering_then (slice_cmp nat_cmp n n) (slice_cmp nat_cmp d d) ≡ Equal
 texts_level n d = ap (λ r. ordering_then r (slice_cmp nat_cmp d d)) (tied_itself nat_list_cmp_total n) ∙ tied_itself nat_list_cmp_total d
 
-module _ (keys : List Key) (entries : List (ℕ × ℕ)) (order : IsOrder keys entries) where
+module _ (keys : List KeyOf) (entries : List (ℕ × ℕ)) (order : IsOrder keys entries) where
   far : (i j : ℕ) (d : ℕ × ℕ) → i ≤ j → j < length entries → is_lt (entry_cmp keys (get_or entries j d) (get_or entries i d)) ≡ false
   far i j d le lt = sorted_far _ (entry_weak keys) entries order.sorted i j d le lt
 
-  pub falls_once : (q : Key) → IsPartitionedBy (is_before keys q) entries
+  pub falls_once : (q : KeyOf) → IsPartitionedBy (is_before keys q) entries
   falls_once q i j d le lt h =
-      let x : Key = key_at keys (get_or entries i d).1 in
-      let y : Key = key_at keys (get_or entries j d).1 in
+      let x : KeyOf = key_at keys (get_or entries i d).1 in
+      let y : KeyOf = key_at keys (get_or entries j d).1 in
       true_from_ne_false (is_lt (key_cmp x q)) (λ f. true≢false (sym h ∙ key_weak.chain y x q (then_not_lt (key_cmp y x) _ (far i j d le lt)) f))
 
   -- where a search by halves ends
-  pub place_is : (q : Key) (k : ℕ) → k ≤ length entries → IsPartitionPoint (λ e. is_before keys q e ≡ true) (λ e. is_before keys q e ≡ false) entries k → k ≡ place_of keys entries q
+  pub place_is : (q : KeyOf) (k : ℕ) → k ≤ length entries → IsPartitionPoint (λ e. is_before keys q e ≡ true) (λ e. is_before keys q e ≡ false) entries k → k ≡ place_of keys entries q
   place_is q k le point =
       sym (prefix_len_is (is_before keys q) entries k (0, 0) le (λ i lt. point.0 i (0, 0) (omega arith) lt) (λ lt. point.1 k (0, 0) (omega arith) lt))
 
-  below_place : (q : Key) (i : ℕ) → i < place_of keys entries q → is_before keys q (get_or entries i (0, 0)) ≡ true
+  below_place : (q : KeyOf) (i : ℕ) → i < place_of keys entries q → is_before keys q (get_or entries i (0, 0)) ≡ true
   below_place q i lt = prefix_len_passes (is_before keys q) entries i (0, 0) lt
 
-  from_place : (q : Key) (i : ℕ) → place_of keys entries q ≤ i → i < length entries → is_before keys q (get_or entries i (0, 0)) ≡ false
+  from_place : (q : KeyOf) (i : ℕ) → place_of keys entries q ≤ i → i < length entries → is_before keys q (get_or entries i (0, 0)) ≡ false
   from_place q i le lt =
       let k : ℕ = place_of keys entries q in
       let stop : is_before keys q (get_or entries k (0, 0)) ≡ false = prefix_len_stops (is_before keys q) entries (0, 0) (omega arith) in
       false_from_ne_true (is_before keys q (get_or entries i (0, 0))) (λ t. true≢false (sym (falls_once q k i (0, 0) le lt t) ∙ stop))
 
   -- an element with a key stands at the place of the key or behind it
-  stands : (q : Key) (n : ℕ) → n < length keys → is_key q (key_at keys n) ≡ true → (i : ℕ) × (place_of keys entries q ≤ i) × (i < length entries) × ((get_or entries i (0, 0)).1 ≡ n)
+  stands : (q : KeyOf) (n : ℕ) → n < length keys → is_key q (key_at keys n) ≡ true → (i : ℕ) × (place_of keys entries q ≤ i) × (i < length entries) × ((get_or entries i (0, 0)).1 ≡ n)
   stands q n lt has =
       let r = any_at (λ (e : ℕ × ℕ). e.1 == n) entries (0, 0) (order.whole n lt) in
       let i : ℕ = r.0 in
@@ -172,7 +172,7 @@ module _ (keys : List Key) (entries : List (ℕ × ℕ)) (order : IsOrder keys e
       (i, behind, r.1, number)
 
   -- the entry at the place has the key: it is the first
-  pub found_here : (q : Key) (k : ℕ) (e : ℕ × ℕ) → k ≡ place_of keys entries q → k < length entries → e ≡ get_or entries k (0, 0) → is_key q (key_at keys e.1) ≡ true → position_from (is_key q) 0 keys ≡ Some e.1
+  pub found_here : (q : KeyOf) (k : ℕ) (e : ℕ × ℕ) → k ≡ place_of keys entries q → k < length entries → e ≡ get_or entries k (0, 0) → is_key q (key_at keys e.1) ≡ true → position_from (is_key q) 0 keys ≡ Some e.1
   found_here q k e at lt is has =
       let within : e.1 < length keys = subst (λ (f : ℕ × ℕ). f.1 < length keys) (sym is) (order.within k (0, 0) lt).0 in
       first_at (is_key q) keys e.1 ([], [], 0) within has
@@ -190,13 +190,13 @@ module _ (keys : List Key) (entries : List (ℕ × ℕ)) (order : IsOrder keys e
       true≢false (sym (lt-ltb j e.1 less) ∙ no')))
 
   -- it has another: no element has the key
-  pub found_other : (q : Key) (k : ℕ) (e : ℕ × ℕ) → k ≡ place_of keys entries q → k < length entries → e ≡ get_or entries k (0, 0) → is_key q (key_at keys e.1) ≡ false → position_from (is_key q) 0 keys ≡ None
+  pub found_other : (q : KeyOf) (k : ℕ) (e : ℕ × ℕ) → k ≡ place_of keys entries q → k < length entries → e ≡ get_or entries k (0, 0) → is_key q (key_at keys e.1) ≡ false → position_from (is_key q) 0 keys ≡ None
   found_other q k e at lt is other =
       first_nowhere (is_key q) keys ([], [], 0)
       (λ j within. false_from_ne_true (is_key q (key_at keys j)) (λ t.
       let s = stands q j within t in
       let le : place_of keys entries q ≤ s.0 = s.1 in
-      let x : Key = key_at keys (get_or entries k (0, 0)).1 in
+      let x : KeyOf = key_at keys (get_or entries k (0, 0)).1 in
       let one : key_at keys (get_or entries s.0 (0, 0)).1 ≡ q = ap (key_at keys) s.3 ∙ same_key q (key_at keys j) t in
       let above : is_lt (key_cmp q x) ≡ false =
       ap (λ y. is_lt (key_cmp y x)) (sym one) ∙ then_not_lt (key_cmp (key_at keys (get_or entries s.0 (0, 0)).1) x) _ (far k s.0 (0, 0) (omega arith) s.2) in
@@ -205,7 +205,7 @@ module _ (keys : List Key) (entries : List (ℕ × ℕ)) (order : IsOrder keys e
       true≢false (sym has ∙ other)))
 
   -- it is the end
-  pub found_end : (q : Key) (k : ℕ) → k ≡ place_of keys entries q → length entries ≤ k → position_from (is_key q) 0 keys ≡ None
+  pub found_end : (q : KeyOf) (k : ℕ) → k ≡ place_of keys entries q → length entries ≤ k → position_from (is_key q) 0 keys ≡ None
   found_end q k at le =
       first_nowhere (is_key q) keys ([], [], 0)
       (λ j within. false_from_ne_true (is_key q (key_at keys j)) (λ t.
@@ -216,11 +216,11 @@ module _ (keys : List Key) (entries : List (ℕ × ℕ)) (order : IsOrder keys e
 
 -- HOW IT IS MADE: an entry for each element in turn, and then sorted
 
-pub record IsListed (keys : List Key) (entries : List (ℕ × ℕ)) (n : ℕ) : Type 0 where
+pub record IsListed (keys : List KeyOf) (entries : List (ℕ × ℕ)) (n : ℕ) : Type 0 where
   pub long : length entries ≡ n
   pub each : (k : ℕ) → k < n → get_or entries k (0, 0) ≡ ((key_at keys k).2, k)
 
-pub listed_more : (keys : List Key) (old new : List (ℕ × ℕ)) (c n : ℕ) → IsListed keys old n → c ≡ (key_at keys n).2 → new ≡ old ++ (c, n) ∷ [] → IsListed keys new (n + 1)
+pub listed_more : (keys : List KeyOf) (old new : List (ℕ × ℕ)) (c n : ℕ) → IsListed keys old n → c ≡ (key_at keys n).2 → new ≡ old ++ (c, n) ∷ [] → IsListed keys new (n + 1)
 listed_more keys old new c n listed class is =
     let long : length old ≡ n = listed.long in
     record {
@@ -240,7 +240,7 @@ any_there t [] i d lt h = absurd (omega arith)
 any_there t (x ∷ xs) zero d lt h = ap (λ b. b || list_any t xs) h
 any_there t (x ∷ xs) (suc i) d lt h = or_right (t x) (list_any t xs) (any_there t xs i d (omega arith) h)
 
-pub sorted_order : (keys : List Key) (old new : List (ℕ × ℕ)) → IsListed keys old (length keys) → IsPermutation old new → IsSortedBy (λ e f. is_lt (entry_cmp keys e f)) new → IsOrder keys new
+pub sorted_order : (keys : List KeyOf) (old new : List (ℕ × ℕ)) → IsListed keys old (length keys) → IsPermutation old new → IsSortedBy (λ e f. is_lt (entry_cmp keys e f)) new → IsOrder keys new
 sorted_order keys old new listed moved up =
     let long : length old ≡ length keys = listed.long in
     record {
@@ -258,14 +258,14 @@ sorted_order keys old new listed moved up =
 -- THE ELEMENTS OF ONE NAME AND DESCRIPTOR, which stand side by side in the order of their classes, all of which have numbers
 -- below a count
 
-module _ (keys : List Key) (entries : List (ℕ × ℕ)) (order : IsOrder keys entries) (n d : List ℕ) (count : ℕ) (few : All (λ (x : Key). x.2 < count) keys) where
+module _ (keys : List KeyOf) (entries : List (ℕ × ℕ)) (order : IsOrder keys entries) (n d : List ℕ) (count : ℕ) (few : All (λ (x : KeyOf). x.2 < count) keys) where
   abbrev pub start : ℕ
   start = place_of keys entries (n, d, 0)
 
   abbrev pub end : ℕ
   end = place_of keys entries (n, d, count)
 
-  abbrev key_of : ℕ → Key
+  abbrev key_of : ℕ → KeyOf
   key_of i = key_at keys (get_or entries i (0, 0)).1
 
   of_class : (i : ℕ) → i < length entries → (get_or entries i (0, 0)).0 ≡ (key_of i).2

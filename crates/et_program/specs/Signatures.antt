@@ -8,10 +8,10 @@ use Rattle.et_program.specs.declared.signatures.Sought.{Sought}
 use Rattle.et_program.specs.declared.signatures.Sought.TheVariants.{Named, Like}
 use Rattle.et_program.specs.Entries.{ClassEntry, Linked, method_at}
 use Rattle.et_program.specs.BuiltIns.{built_in_of, is_deferred_in, text_method_in}
-use Rattle.et_program.specs.Order.{Key, method_key, place_of}
+use Rattle.et_program.specs.Order.{KeyOf, method_key, place_of}
 
 -- where the methods of the name and of the descriptor of a method stand, and what a call reads off the two
-abbrev pub signature_of : List Key → List (ℕ × ℕ) → List ClassEntry → MethodInfo → Signature
+abbrev pub signature_of : List KeyOf → List (ℕ × ℕ) → List ClassEntry → MethodInfo → Signature
 signature_of keys entries classes m = record {
   start = place_of keys entries (m.name, m.descriptor, 0);
   end = place_of keys entries (m.name, m.descriptor, length classes);

@@ -3,7 +3,7 @@
 ghost use Rattle.std.specs.Prelude.{◌≡◌, ℕ, ◌<◌, ◌≤◌, ◌^◌, nat_lt, true, false, List, length, All, IfOk};
 ghost use Rattle.std.specs.List.{position_from};
 ghost use Rattle.std.specs.List.Sorted.{IsPartitionedBy, IsPartitionPoint};
-ghost use Rattle.et_program.specs.Order.{Key as Text, key_cmp, is_key, keys_of, shown_key, key_at, entry_cmp, is_before, place_of, IsOrder};
+ghost use Rattle.et_program.specs.Order.{KeyOf, key_cmp, is_key, keys_of, shown_key, key_at, entry_cmp, is_before, place_of, IsOrder};
 
 use crate::class::Class;
 use crate::info::{FieldInfo, MethodInfo};
@@ -140,7 +140,8 @@ impl Order {
         ensures { result ≡ place_of (keys_of table.entry) self.now.entries.items
             (shown_key key.entry) }
     {
-        self.entries.partition_point(|entry| is_before(table, key, *entry))
+        self.entries
+            .partition_point(|entry| is_before(table, key, *entry))
     }
 
     /// The number of the first element that has this key.
@@ -162,18 +163,14 @@ impl Order {
     pub fn find_among(&self, start: usize, end: usize, class: u32) -> Option<u32>
         requires start { start ≤ end }
         requires end { end ≤ length self.now.entries.items }
-        ensures { (keys : List Text) (name descriptor : List ℕ) (count : ℕ) →
-            IsOrder keys self.now.entries.items → All (λ (x : Text). x.2 < count) keys →
+        ensures { (keys : List KeyOf) (name descriptor : List ℕ) (count : ℕ) →
+            IsOrder keys self.now.entries.items → All (λ (x : KeyOf). x.2 < count) keys →
             start ≡ place_of keys self.now.entries.items (name, descriptor, 0) →
             end ≡ place_of keys self.now.entries.items (name, descriptor, count) →
             result ≡ position_from (is_key (name, descriptor, class)) 0 keys }
     {
         let among = &self.entries[start..end];
         let (other, number) = *among.get(count_below(among, class))?;
-        if other == class {
-            Some(number)
-        } else {
-            None
-        }
+        if other == class { Some(number) } else { None }
     }
 }

@@ -1,11 +1,11 @@
 use Rattle.std.proofs.Common.{◌≡◌, ◌∙◌, ℕ, ◌<◌, ◌≤◌, Bool, List, length, get_or, Ordering, is_eq, sym, ap, subst, ltb-true, ltb-false}
 use Rattle.std.proofs.lemmas.List.{get_or_default}
-use Rattle.et_program.specs.Order.{Key, key_cmp, is_key, keys_of, shown_key}
+use Rattle.et_program.specs.Order.{KeyOf, key_cmp, is_key, keys_of, shown_key}
 use Rattle.et_program.proofs.OrderLemmas.{eq_keys, found_here, found_other, found_end}
 use Rattle.et_program.proofs.order.Order.find.Goals as goal
 
 -- what is compared, by what is found of it
-told : (q x y : Key) (r : Ordering) (b : Bool) → y ≡ x → r ≡ key_cmp y q → b ≡ is_eq r → is_key q x ≡ b
+told : (q x y : KeyOf) (r : Ordering) (b : Bool) → y ≡ x → r ≡ key_cmp y q → b ≡ is_eq r → is_key q x ≡ b
 told q x y r b shown by says = sym (eq_keys x q) ∙ (ap (λ k. is_eq (key_cmp k q)) (sym shown) ∙ (ap is_eq (sym by) ∙ sym says))
 
 -- what is read, in the entries

@@ -1,7 +1,6 @@
-use Rattle.std.proofs.Common.{◌≡◌, ◌∙◌, ℕ, ◌-◌, ◌<◌, ◌≤◌, ◌==◌, nat_lt, true, false, List, length, take, drop, All, sym, ap, eq-eqb, ne_eqb, ltb-true, ltb-false}
-use Rattle.std.specs.List.Sorted.{IsPartitionedBy, IsPartitionPoint}
-use Rattle.et_program.specs.Order.{Key, IsOrder, place_of}
-use Rattle.et_program.proofs.OrderLemmas.{start, end, classes_fall_once, class_found, class_other, class_end}
+use Rattle.std.proofs.Common.{◌≡◌, ◌∙◌, ℕ, ◌-◌, List, take, drop, sym, ap, eq-eqb, ne_eqb, ltb-true, ltb-false}
+use Rattle.et_program.specs.Order.{place_of}
+use Rattle.et_program.proofs.OrderLemmas.{classes_fall_once, class_found, class_other, class_end}
 use Rattle.et_program.proofs.order.Order.find_among.Goals as goal
 
 -- the part of the entries that is searched

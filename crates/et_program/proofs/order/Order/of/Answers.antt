@@ -1,12 +1,12 @@
 use Rattle.std.proofs.Common.{◌≡◌, ℕ, length, is_lt, ap, subst, rules, arith}
 use Rattle.std.proofs.lemmas.Fn.{always_returns_same}
-use Rattle.et_program.specs.Order.{Key, keys_of, entry_cmp}
+use Rattle.et_program.specs.Order.{KeyOf, keys_of, entry_cmp}
 use Rattle.et_program.proofs.OrderLemmas.{IsListed, listed_more, entry_weak, sorted_order}
 use Rattle.et_program.proofs.order.Order.of.Goals as goal
 
 pub loop-number-preserved : goal.loop-number-preserved
 loop-number-preserved c =
-    listed_more (keys_of c.args.table) c.loop-number.entries.items c.push.new.self.items c.key.result.class c.loop-number.number c.loop-number.invariant (ap (λ (k : Key). k.2) c.key.ensures) c.in_ok-push.ensures.items
+    listed_more (keys_of c.args.table) c.loop-number.entries.items c.push.new.self.items c.key.result.class c.loop-number.number c.loop-number.invariant (ap (λ (k : KeyOf). k.2) c.key.ensures) c.in_ok-push.ensures.items
 
 pub returns : goal.returns
 returns c =

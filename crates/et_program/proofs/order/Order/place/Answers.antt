@@ -1,11 +1,11 @@
 use Rattle.std.proofs.Common.{◌≡◌, ◌∙◌, ℕ, List, sym, ap, subst, rules}
 use Rattle.std.proofs.lemmas.List.Sorted.{IsPartitionPoint-from_clause}
-use Rattle.et_program.specs.Order.{Key, keys_of, shown_key, IsOrder, is_before, place_of}
+use Rattle.et_program.specs.Order.{KeyOf, keys_of, shown_key, IsOrder, is_before, place_of}
 use Rattle.et_program.proofs.OrderLemmas.{falls_once, place_is}
 use Rattle.et_program.proofs.order.Order.place.Goals as goal
 
 -- the entries that are searched are those of the order
-order_of : (keys : List Key) (entries seen : List (ℕ × ℕ)) → seen ≡ entries → IsOrder keys entries → IsOrder keys seen
+order_of : (keys : List KeyOf) (entries seen : List (ℕ × ℕ)) → seen ≡ entries → IsOrder keys entries → IsOrder keys seen
 order_of keys entries seen same order = subst (λ (l : List (ℕ × ℕ)). IsOrder keys l) (sym same) order
 
 pub returns : goal.returns

@@ -1,4 +1,4 @@
-use Rattle.std.proofs.Common.{◌≡◌, ℕ, ◌<◌, ◌^◌, List, length, map, subst, ap, ◌∙◌, sym}
+use Rattle.std.proofs.Common.{List, map, subst, ap, ◌∙◌}
 use Rattle.std.specs.List.{position_from}
 use Rattle.et_program.specs.declared.info.MethodInfo.{MethodInfo}
 use Rattle.et_program.specs.declared.info.FieldInfo.{FieldInfo}
@@ -39,8 +39,8 @@ invariant_of-result c = (
     program = c.requires.linked.program;
   },
   c.in_ok-signatures.ensures
-  ∙ (ap (λ (xs : List MethodInfo). map (signature_of (map method_key xs) c.in_ok-method_order.method_order.entries.items c.as_slice-4.result.now) xs) c.as_slice-methods.ensures.value
-  ∙ ap (λ (cs : List ClassEntry). map (signature_of (map method_key c.args.tables.methods.items) c.in_ok-method_order.method_order.entries.items cs) c.args.tables.methods.items) c.as_slice-4.ensures.value),
+      ∙ (ap (λ (xs : List MethodInfo). map (signature_of (map method_key xs) c.in_ok-method_order.method_order.entries.items c.as_slice-4.result.now) xs) c.as_slice-methods.ensures.value
+      ∙ ap (λ (cs : List ClassEntry). map (signature_of (map method_key c.args.tables.methods.items) c.in_ok-method_order.method_order.entries.items cs) c.args.tables.methods.items) c.as_slice-4.ensures.value),
   subst (λ (xs : List Constants). AreShaped xs c.in_ok-shapes.shapes.items) c.as_slice-5.ensures.value c.in_ok-shapes.ensures,
   nothing_kept _ _ c.new.ensures.items,
 )
