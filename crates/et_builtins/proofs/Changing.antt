@@ -27,8 +27,8 @@ use Rattle.et_event.specs.BuiltIns.{answering, with_referent_of, with_thread_for
 use Rattle.et_event.specs.Calls.{arguments_of}
 use Rattle.et_event.specs.Moments.{Moment, moment, Doing, begins, goes, slot_written, updated}
 use Rattle.et_event.specs.Sites.{Site}
-use Rattle.et_parts.specs.Tops.{IsIn}
-use Rattle.et_parts.proofs.Taking.{replaced, moves_replaced}
+use Rattle.et_event.specs.Tops.{IsIn}
+use Rattle.et_event.proofs.Taking.{replaced, moves_replaced}
 use Rattle.et_builtins.proofs.Standing.{length_arguments}
 
 -- THE ARGUMENTS ARE TAKEN

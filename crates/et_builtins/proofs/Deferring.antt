@@ -19,8 +19,8 @@ use Rattle.et_event.specs.declared.rows.Row.{Row}
 use Rattle.et_event.specs.Families.{row_at}
 use Rattle.et_event.specs.Moments.{Moment, current_frame, moment}
 use Rattle.et_event.specs.Sites.{Site, decoded_at, site_of}
-use Rattle.et_parts.specs.Places.{IsPlace, site_at}
-use Rattle.et_parts.specs.declared.places.Place.{Place}
+use Rattle.et_event.specs.Places.{IsPlace, site_at}
+use Rattle.et_event.specs.declared.places.Place.{Place}
 use Rattle.et_event.specs.Selected.{deferred_at, deferred_by, deferred_call, deferred_in}
 
 -- WHICH TURN IT IS

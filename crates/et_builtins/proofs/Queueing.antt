@@ -27,8 +27,8 @@ use Rattle.et_event.specs.BuiltIns.{answering, with_first_taken, with_reference_
 use Rattle.et_event.specs.Calls.{arguments_of}
 use Rattle.et_event.specs.Moments.{Doing, moment, begins, goes}
 use Rattle.et_event.specs.Sites.{Site}
-use Rattle.et_parts.specs.Tops.{IsIn}
-use Rattle.et_parts.proofs.Taking.{replaced, has_after}
+use Rattle.et_event.specs.Tops.{IsIn}
+use Rattle.et_event.proofs.Taking.{replaced, has_after}
 use Rattle.et_builtins.proofs.Changing.{passed_by, did_pass, begun_has, answering_is, referent_refs, object_set}
 
 -- nothing is lost

@@ -12,7 +12,7 @@ use Rattle.et_state.specs.Sound.{IsSound}
 use Rattle.et_state.specs.Words.{HasFrame, top}
 use Rattle.et_state.proofs.Places.{top_root}
 use Rattle.et_event.specs.Frames.{first_reference}
-use Rattle.et_parts.specs.Tops.{IsIn}
+use Rattle.et_event.specs.Tops.{IsIn}
 
 length_taken : (xs : List Value) (n : ℕ) → n ≤ length xs → length (take n xs) ≡ n
 length_taken xs zero le = refl

@@ -10,14 +10,14 @@ ghost use Rattle.et_state.specs.State.{kept_of};
 ghost use Rattle.et_state.specs.Sound.{IsSound};
 ghost use Rattle.et_state.specs.Words.{HasFrame, top};
 ghost use Rattle.et_program.specs.Entries.{Linked};
-ghost use Rattle.et_parts.specs.Tops.{IsIn};
+ghost use Rattle.et_event.specs.Tops.{IsIn};
 ghost use Rattle.et_event.specs.Frames.{first_reference};
 ghost use Rattle.et_event.specs.Moments.{moment};
 ghost use Rattle.et_event.specs.Calls.{are_of as are_of_kinds, are_passed};
 ghost use Rattle.et_builtins.specs.Arguments.{arguments_in, entries_in as entries_among, fitting, is_passing};
 
 use et_base::{ObjectId, ThreadId, Value};
-use et_parts::operand_at;
+use et_event::operand_at;
 use et_pool::{CallShape, Operand};
 use et_state::Machine;
 
@@ -33,7 +33,7 @@ pub fn operands_are_few(machine: &Machine, thread: ThreadId)
 }
 
 /// The entry of the arguments that stands so far behind the first of them; `Unset` behind the last.
-#[tactic(auto, using(crate::proofs::Standing::argument_there, crate::proofs::Standing::argument_past, et_parts::proofs::Groups::unset_is_in))]
+#[tactic(auto, using(crate::proofs::Standing::argument_there, crate::proofs::Standing::argument_past, et_event::proofs::Groups::unset_is_in))]
 #[inline(always)]
 pub fn argument_at(machine: &Machine, thread: ThreadId, count: u32, j: u32) -> Value
     requires frame { HasFrame machine.now.guest thread }

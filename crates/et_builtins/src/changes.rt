@@ -16,10 +16,10 @@ ghost use Rattle.et_event.specs.BuiltIns.{answering, with_first_taken, with_refe
 ghost use Rattle.et_event.specs.Calls.{arguments_of};
 ghost use Rattle.et_event.specs.Moments.{moment, begins, goes, number_of_value as number_in, slot_written, updated};
 ghost use Rattle.et_event.specs.Sites.{Site};
-ghost use Rattle.et_parts.specs.Tops.{IsIn};
+ghost use Rattle.et_event.specs.Tops.{IsIn};
 
 use et_base::{NoMemory, ObjectId, Steps, ThreadId, Value};
-use et_parts::take;
+use et_event::take;
 use et_state::{EventEnd, Lines, Machine, Record};
 use std::sync::ledger::Ledger;
 

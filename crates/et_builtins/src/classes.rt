@@ -14,7 +14,7 @@ ghost use Rattle.et_builtins.specs.Classes.{named};
 
 use crate::arguments::argument_at;
 use et_base::{ClassId, MethodId, ObjectId, Steps, ThreadId, Value};
-use et_parts::class_called;
+use et_event::class_called;
 use et_program::{BuiltIn, BuiltInClass, Program, Shown, TextMethod};
 use et_state::Machine;
 use std::sync::ledger::Ledger;

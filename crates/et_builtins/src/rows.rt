@@ -30,8 +30,7 @@ use crate::changes::{
 };
 use crate::classes::is_of;
 use et_base::{NoMemory, ObjectId, Steps, Value};
-use et_event::GuestError;
-use et_parts::{ill_typed, throw_error};
+use et_event::{GuestError, ill_typed, throw_error};
 use et_program::{BuiltIn, BuiltInClass, Program};
 use et_state::{EventEnd, Lines, Machine};
 use std::sync::ledger::Ledger;

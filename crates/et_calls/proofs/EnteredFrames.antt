@@ -36,11 +36,11 @@ use Rattle.et_event.specs.Frames.{frame_entered, lock_slot, method_frame, receiv
 use Rattle.et_event.specs.Moments.{Moment, moment, Doing, begins, told, with_thread_state, fits_heap, throws, waits, ends_event as ending}
 use Rattle.et_event.specs.Monitors.{Lock, OfObject, OfClass, entered_some, is_open_to, lock_for, may_enter_some, monitor_of}
 use Rattle.et_event.specs.Sound.{IsSoundFor}
-use Rattle.et_parts.specs.Locks.{HasMonitor, HasSome, IsSomeFewTimes, entering_some, may_enter_some_at, monitor_at}
-use Rattle.et_parts.proofs.Keeping.{entered_is, monitor_on_way}
-use Rattle.et_parts.proofs.Entering.{commutes, entered_clock, entered_records, fits_locked, frame_holds}
-use Rattle.et_parts.proofs.There.{few_times, method_lock_there, there_later}
-use Rattle.et_parts.proofs.Throwing.{ends_fit, ends_full}
+use Rattle.et_event.specs.Locks.{HasMonitor, HasSome, IsSomeFewTimes, entering_some, may_enter_some_at, monitor_at}
+use Rattle.et_event.proofs.Keeping.{entered_is, monitor_on_way}
+use Rattle.et_event.proofs.Entering.{commutes, entered_clock, entered_records, fits_locked, frame_holds}
+use Rattle.et_event.proofs.There.{few_times, method_lock_there, there_later}
+use Rattle.et_event.proofs.Throwing.{ends_fit, ends_full}
 use Rattle.et_event.specs.InitializationOrder.{IsInOrder}
 use Rattle.et_initialize.proofs.Beginning.{strings_led}
 use Rattle.et_initialize.proofs.Preparing.{grown_prepared}

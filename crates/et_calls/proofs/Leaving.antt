@@ -12,10 +12,10 @@ use Rattle.et_state.specs.Sound.{IsSound}
 use Rattle.et_state.specs.Moves.{IsOnWay}
 use Rattle.et_state.proofs.Calls.{on_begin_event}
 use Rattle.et_heap.specs.Objects.{object_at, with_monitor}
-use Rattle.et_parts.specs.Locks.{HasMonitor, HasSome, leaving_some, monitor_at, owns_some_at}
-use Rattle.et_parts.proofs.Keeping.{monitor_on_way}
-use Rattle.et_parts.proofs.There.{there_later}
-use Rattle.et_parts.proofs.Answering.{ill_typed_answers, ill_typed_end}
+use Rattle.et_event.specs.Locks.{HasMonitor, HasSome, leaving_some, monitor_at, owns_some_at}
+use Rattle.et_event.proofs.Keeping.{monitor_on_way}
+use Rattle.et_event.proofs.There.{there_later}
+use Rattle.et_event.proofs.Answering.{ill_typed_answers, ill_typed_end}
 use Rattle.std.proofs.lemmas.List.{length-set}
 use Rattle.et_state.proofs.Steps.{led_plain}
 use Rattle.et_program.specs.Entries.{Linked}

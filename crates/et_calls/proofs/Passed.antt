@@ -19,8 +19,8 @@ use Rattle.et_state.proofs.Places.{ended_root, refs_reversed, top_root}
 use Rattle.et_event.specs.Calls.{entry_arguments}
 use Rattle.et_event.specs.Frames.{first_reference}
 use Rattle.et_event.specs.Monitors.{Lock}
-use Rattle.et_parts.specs.Locks.{HasSome, IsSomeFewTimes}
-use Rattle.et_parts.proofs.There.{there_later, few_later}
+use Rattle.et_event.specs.Locks.{HasSome, IsSomeFewTimes}
+use Rattle.et_event.proofs.There.{there_later, few_later}
 use Rattle.et_initialize.proofs.Stepping.{has_frame_on, top_on}
 use Rattle.et_builtins.specs.Arguments.{arguments_in}
 use Rattle.et_calls.specs.declared.new_frames.Passed.{Passed}

@@ -24,8 +24,8 @@ use Rattle.et_event.specs.declared.errors.GuestError.{GuestError}
 use Rattle.et_event.specs.Errors.{error_class}
 use Rattle.et_event.specs.Moments.{Moment, moment, Doing, with_thread_state, begins, instance_made, pending_now, entry_given_up, next_object, ends_event as ending, throws}
 use Rattle.et_event.specs.Answered.{EventAnswers}
-use Rattle.et_parts.specs.Making.{MakesObject}
-use Rattle.et_parts.proofs.Throwing.{ends_fit, ends_full}
+use Rattle.et_event.specs.Making.{MakesObject}
+use Rattle.et_event.proofs.Throwing.{ends_fit, ends_full}
 use Rattle.et_calls.specs.Entering.{given_up}
 use Rattle.et_calls.specs.Fresh.{IsFresh}
 

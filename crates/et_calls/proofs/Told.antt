@@ -14,8 +14,8 @@ use Rattle.et_state.specs.declared.ends.EventEnd.{EventEnd}
 use Rattle.et_state.specs.declared.ends.EventEnd.TheVariants as ends
 use Rattle.et_event.specs.Event.{does, event}
 use Rattle.et_event.specs.Moments.{Moment, moment}
-use Rattle.et_parts.specs.Places.{IsPlace, site_at}
-use Rattle.et_parts.specs.declared.places.Place.{Place}
+use Rattle.et_event.specs.Places.{IsPlace, site_at}
+use Rattle.et_event.specs.declared.places.Place.{Place}
 use Rattle.et_event.specs.Selected.{deferred_at, deferred_call}
 use Rattle.et_event.specs.Answered.{DefersOrAnswers, EventAnswers}
 use Rattle.et_event.proofs.Deferrals.{native_exactly}

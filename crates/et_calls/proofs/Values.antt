@@ -25,7 +25,7 @@ use Rattle.et_event.specs.Moments.{Moment, begins, current_frame, goes, ill_type
 use Rattle.et_event.specs.Monitors.{lock_in, owns_some}
 use Rattle.et_event.specs.Sites.{running_method}
 use Rattle.et_event.specs.Operands.{operand_kind, kind_of_letter, is_kind, may_return, returned_width}
-use Rattle.et_parts.specs.Tops.{IsIn}
+use Rattle.et_event.specs.Tops.{IsIn}
 use Rattle.et_calls.specs.Returned.{IsValueIn, returned_value, value_in, values_of, returned_entries, returned_values, returning_frame}
 
 pub value_on_top : (kind : Operand) (ops : List Value) → value_in kind (get_or ops 0 Unset) (get_or ops 1 Unset) ≡ returned_value kind ops

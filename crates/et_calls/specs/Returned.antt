@@ -16,7 +16,7 @@ use Rattle.et_event.specs.Moments.{Moment, begins, current_frame, goes}
 use Rattle.et_event.specs.Monitors.{lock_in, owns_some}
 use Rattle.et_event.specs.Sites.{running_method}
 use Rattle.et_event.specs.Operands.{may_return}
-use Rattle.et_parts.specs.Tops.{IsIn}
+use Rattle.et_event.specs.Tops.{IsIn}
 
 -- the value of a kind that stands on top
 abbrev pub returned_value : Operand → List Value → Option Value

@@ -7,7 +7,7 @@ ghost use Rattle.et_state.specs.Words.{thread_at, top};
 ghost use Rattle.et_event.specs.Answered.{EventAnswers};
 ghost use Rattle.et_event.specs.Moments.{fits_heap, moment};
 ghost use Rattle.et_event.specs.Sound.{IsSoundFor};
-ghost use Rattle.et_parts.specs.Locks.{HasSome, IsSomeFewTimes, entering_some, locks_of};
+ghost use Rattle.et_event.specs.Locks.{HasSome, IsSomeFewTimes, entering_some, locks_of};
 ghost use Rattle.et_event.specs.InitializationOrder.{IsInOrder};
 ghost use Rattle.et_calls.specs.Entering.{ArePassedTo, IsEntered, arguments_passed, entering_event, fitting_event, prepared_for, pushed_by, pushed_event};
 
@@ -15,9 +15,8 @@ use crate::new_frames::{
     Entered, Passed, new_head, number_of, passed_count, put_frame, receiver_of,
 };
 use et_base::{NoMemory, Steps, ThreadId};
-use et_event::GuestError;
+use et_event::{GuestError, Lock, enter_some, lock_for, may_enter_some, wait_event};
 use et_initialize::{MOST_FRAMES, begin_prepared, prepared_fit, throw_after};
-use et_parts::{Lock, enter_some, lock_for, may_enter_some, wait_event};
 use et_program::Program;
 use et_state::{EventEnd, Lines, Machine, NewHead, Record};
 use std::alloc::Global;

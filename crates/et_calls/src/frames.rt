@@ -11,7 +11,7 @@ use et_base::numbers::u8_at;
 use et_base::{MethodId, ThreadId, Value};
 use et_code::decode;
 use et_code::opcode::{INVOKEINTERFACE, INVOKESPECIAL, INVOKESTATIC, INVOKEVIRTUAL};
-use et_parts::{code_of, give};
+use et_event::{code_of, give};
 use et_program::Program;
 use et_state::Machine;
 
@@ -39,7 +39,7 @@ fn call_size(opcode: u8) -> usize
 }
 
 /// The pc behind the instruction at a pc; where there is none, that pc. How long a call is, its opcode says.
-#[tactic(auto, using(et_parts::proofs::Constants::at_end))]
+#[tactic(auto, using(et_event::proofs::Constants::at_end))]
 fn behind_at(code: &[u8], pc: u32) -> u32
     requires { length code.now < 2 ^ 16 }
     ensures { result ≡ behind_or pc (instruction_at code.now pc) }

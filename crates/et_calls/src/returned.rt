@@ -3,12 +3,12 @@ ghost use Rattle.std.specs.Prelude.{◌≡◌, option_map};
 ghost use Rattle.et_pool.specs.Operands.{shape_in};
 ghost use Rattle.et_state.specs.Words.{HasFrame, top};
 ghost use Rattle.et_event.specs.Sites.{running_method};
-ghost use Rattle.et_parts.specs.Places.{Runs};
+ghost use Rattle.et_event.specs.Places.{Runs};
 ghost use Rattle.et_calls.specs.Returned.{AreValuesIn, IsValueIn, value_in as value_among, returned_value, values_of, returned_values as values};
 ghost use Rattle.et_builtins.specs.Types.{returned_in};
 
 use et_base::{MethodId, ThreadId, Value};
-use et_parts::operand_at;
+use et_event::operand_at;
 use et_pool::{Operand, Returned};
 use et_program::Program;
 use et_state::Machine;

@@ -12,8 +12,8 @@ ghost use Rattle.et_event.specs.Calls.{class_done_by, frame_returned, return as 
 ghost use Rattle.et_event.specs.Moments.{Doing, Moment, begins, goes, moment};
 ghost use Rattle.et_event.specs.Monitors.{left_some, lock_in as lock_in_frame};
 ghost use Rattle.et_event.specs.Sound.{IsSoundFor};
-ghost use Rattle.et_parts.specs.Places.{Runs};
-ghost use Rattle.et_parts.specs.Locks.{HasSome, locks_of};
+ghost use Rattle.et_event.specs.Places.{Runs};
+ghost use Rattle.et_event.specs.Locks.{HasSome, locks_of};
 ghost use Rattle.et_event.specs.Sites.{running_method as method_in};
 ghost use Rattle.et_state.specs.declared.ends.EventEnd.TheVariants as ends;
 ghost use Rattle.et_calls.specs.Returned.{FitsBelow, IsValueIn, returned_entries, returning_frame};
@@ -24,8 +24,9 @@ use crate::frames::resume;
 use crate::returned::returned_values;
 use et_base::{MethodId, NoMemory, Steps, ThreadId, Value};
 use et_builtins::operands_are_few;
-use et_event::{GuestError, Operand};
-use et_parts::{Lock, ill_typed, leave_some, lock_in, method_of, owns_some, throw_error};
+use et_event::{
+    GuestError, Lock, Operand, ill_typed, leave_some, lock_in, method_of, owns_some, throw_error,
+};
 use et_program::{MethodInfo, Program};
 use et_state::{ClassState, EventEnd, Lines, Machine, Record, Stage};
 use std::sync::ledger::Ledger;
@@ -196,7 +197,7 @@ fn leave_frame<L: Ledger>(
 
 /// The event in which a value, or nothing, is returned that the method returns and that stands on top. It visits three
 /// objects at most.
-#[tactic(auto, using(crate::proofs::Leaving::class_is_in, et_parts::proofs::There::frame_lock_there, crate::proofs::Leaving::unowned_answers))]
+#[tactic(auto, using(crate::proofs::Leaving::class_is_in, et_event::proofs::There::frame_lock_there, crate::proofs::Leaving::unowned_answers))]
 fn return_value<L: Ledger>(
     program: &Program,
     machine: &mut Machine,

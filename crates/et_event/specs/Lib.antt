@@ -33,3 +33,8 @@ pub mod FrameSteps
 pub mod Beginning
 pub use Rattle.et_class.specs.Operands
 pub use Rattle.et_class.specs.PoolOperands
+pub mod Tops
+pub mod Making
+pub mod Places
+pub mod Pools
+pub mod Locks

@@ -2,16 +2,41 @@
 //! definitions are in `specs/`, beginning with `Event.antt`; the code here is the row of each opcode.
 #![tactic(auto)]
 
+mod answers;
+mod codes;
 mod errors;
 mod families;
+mod locks;
+mod members;
+pub mod monitor_laws;
+mod monitors;
+mod objects;
+mod operands;
+pub mod place_laws;
+mod places;
 mod rows;
 mod table;
+mod throws;
+mod tops;
 
+pub use answers::{ill_typed, wait_event};
+pub use codes::{code_of, method_of};
 pub use errors::GuestError;
 pub use et_class::Operand;
 pub use families::Family;
+pub use locks::{Lock, lock_for, lock_in};
+pub use members::{class_operand, index_of, member_at};
+pub use monitors::{
+    enter_monitor, enter_some, leave_monitor, leave_some, may_enter, may_enter_some, owns,
+    owns_some,
+};
+pub use objects::{class_called, make_instance, slots_of};
+pub use operands::{give, put, replace, take};
+pub use places::{Place, place_of};
 pub use rows::{
     Arithmetic, CallKind, CallRow, Comparison, Condition, Conversion, Division, Elements, FrameRow,
     HeapRow, Local, MonitorRow, Number, Rearrangement, Row, Shift,
 };
 pub use table::row_of;
+pub use throws::throw_error;
+pub use tops::{int_at, long_at, operand_at, reference_at};

@@ -22,7 +22,7 @@ use Rattle.et_event.specs.Moments.{Moment, moment, Doing, begins, fits_heap, end
 use Rattle.et_event.specs.Answered.{EventAnswers}
 use Rattle.et_event.specs.Sound.{IsSoundFor}
 use Rattle.et_event.specs.Initialization.{with_state, constants_set, begun_by, begins_class, initializer_frame}
-use Rattle.et_parts.proofs.Throwing.{ends_fit, ends_full}
+use Rattle.et_event.proofs.Throwing.{ends_fit, ends_full}
 use Rattle.et_event.specs.InitializationOrder.{IsInOrder}
 use Rattle.et_initialize.specs.Under.{so_far, with_kept, InitializesTo, IsInitializing, HasMadeStrings}
 use Rattle.et_initialize.proofs.Setting.{follows_each}

@@ -35,7 +35,7 @@ use Rattle.et_event.specs.Answered.{EventAnswers}
 use Rattle.et_event.specs.Sound.{IsSoundFor, AreSoundFrames, IsStaged}
 use Rattle.et_event.specs.Sites.{present_body}
 use Rattle.et_event.specs.Initialization.{with_state, prepared, constants_set, begun_by, begins_class, initializer_frame, enters_clinit}
-use Rattle.et_parts.proofs.Throwing.{ends_fit, ends_full, framed}
+use Rattle.et_event.proofs.Throwing.{ends_fit, ends_full, framed}
 use Rattle.et_event.specs.InitializationOrder.{IsInOrder}
 use Rattle.et_initialize.specs.Under.{so_far, with_kept, InitializesTo, IsInitializing, HasMadeStrings}
 use Rattle.et_initialize.proofs.Setting.{fits_grown, follows_each}

@@ -15,8 +15,8 @@ ghost use Rattle.et_event.specs.Initialization.{constant_set, field_set};
 ghost use Rattle.et_initialize.specs.Under.{so_far, with_kept, InitializesTo};
 
 use et_base::{ClassId, FieldId, NoMemory, ObjectId, ThreadId, Value, to_byte, to_char, to_short};
+use et_event::{class_called, slots_of};
 use et_heap::MakeFault;
-use et_parts::{class_called, slots_of};
 use et_pool::Pool;
 use et_program::{BuiltInClass, FieldInfo, Program};
 use et_state::{Lines, Machine, Record};

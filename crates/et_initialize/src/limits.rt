@@ -14,8 +14,8 @@ ghost use Rattle.et_event.specs.Initialization.{state_of, field_set, constants_s
 ghost use Rattle.et_initialize.specs.Texts.{constant_text as text_in, has_text, string_slots as slots_of_string, has_room_for as room_for, Counted, CountedAll};
 
 use et_base::{ClassId, FieldId, NoMemory};
+use et_event::{class_called, slots_of};
 use et_heap::{MOST_OBJECTS, MOST_SLOTS};
-use et_parts::{class_called, slots_of};
 use et_program::{BuiltInClass, Program};
 use et_state::{ClassState, Machine};
 use std::alloc::Global;

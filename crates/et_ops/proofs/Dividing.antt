@@ -23,7 +23,7 @@ use Rattle.et_event.specs.Sites.{Site}
 use Rattle.et_event.specs.Plain.{put, on_frame, divided, divides, quotient}
 use Rattle.et_ops.specs.declared.divisions.Divided.TheVariants as ends
 use Rattle.et_ops.specs.Divisions.{DividesFrame, quotients}
-use Rattle.et_parts.proofs.Answering.{ill_typed_end, steps_done, steps_refused, steps_same, ill_typed_answers}
+use Rattle.et_event.proofs.Answering.{ill_typed_end, steps_done, steps_refused, steps_same, ill_typed_answers}
 
 -- the outcome for the operands after a division
 abbrev outcome_of : Moment → Site → Option (Option (List Value)) → Outcome Kept

@@ -10,7 +10,7 @@ use Rattle.et_state.specs.Running.{RunningState, MovesInFrame, steps_running}
 use Rattle.et_state.specs.Moves.{Moves}
 use Rattle.et_state.proofs.Places.{moves_none, moves_then, moves_more, moves_left, moves_right, frame_pop, frame_pops, frame_set_local}
 use Rattle.et_event.specs.FrameSteps.{StepsRunning}
-use Rattle.et_parts.proofs.Taking.{replaced, taken_in_frame}
+use Rattle.et_event.proofs.Taking.{replaced, taken_in_frame}
 
 -- CALL BY CALL
 

@@ -10,7 +10,7 @@ use Rattle.et_state.specs.Sound.{IsSound}
 use Rattle.et_state.proofs.Steps.{with_top-itself}
 use Rattle.et_event.specs.Answered.{StepsFrame}
 use Rattle.et_event.specs.FrameSteps.{StepsRunning}
-use Rattle.et_parts.proofs.FrameEvents.{frame_led}
+use Rattle.et_event.proofs.FrameEvents.{frame_led}
 use Rattle.et_ops.proofs.Stepping.{done_step}
 
 -- without the frames of the thread

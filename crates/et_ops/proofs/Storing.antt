@@ -13,8 +13,8 @@ use Rattle.et_state.specs.Moves.{Moves}
 use Rattle.et_state.proofs.Places.{moves_none, moves_left, moves_right, part_contained, frame_pops}
 use Rattle.et_event.specs.FrameSteps.{StepsRunning}
 use Rattle.et_event.specs.Plain.{freed, one_stored, long_stored, other_half_unset}
-use Rattle.et_parts.proofs.Groups.{operand_is_in, local_is_in}
-use Rattle.et_parts.proofs.Taking.{taken_in_frame}
+use Rattle.et_event.proofs.Groups.{operand_is_in, local_is_in}
+use Rattle.et_event.proofs.Taking.{taken_in_frame}
 use Rattle.et_ops.specs.Tops.{half_beside, half_of, unset_at, refs_at}
 use Rattle.et_ops.proofs.InFrame.{ran, did_begin, did_pop, did_step, did_set_local, did_set_pc, did_steps}
 

@@ -5,7 +5,7 @@ use Rattle.et_base.specs.declared.value.Value.{Value}
 use Rattle.et_base.specs.declared.value.Value.TheVariants.{Unset, Int, Long, LongHigh, Null, Ref}
 use Rattle.et_state.specs.Threads.{FrameState}
 use Rattle.et_event.specs.Checks.{with_int}
-use Rattle.et_parts.specs.Tops.{int_of}
+use Rattle.et_event.specs.Tops.{int_of}
 
 pub int_on_top : (ops : List Value) (k : ℤ) (go : ℤ → List Value → Option FrameState) → int_of (get_or ops 0 Unset) ≡ Some k → with_int None ops go ≡ go k (drop 1 ops)
 int_on_top [] k go e = cc

@@ -37,9 +37,9 @@ use Rattle.et_event.specs.Sites.{Site, AString}
 use Rattle.et_event.specs.Strings.{interned, string_object}
 use Rattle.et_event.specs.Plain.{constant}
 use Rattle.et_event.specs.Answered.{EventAnswers}
-use Rattle.et_parts.specs.Making.{MakesObject}
-use Rattle.et_parts.proofs.Answering.{ill_typed_end, ill_typed_answers}
-use Rattle.et_parts.proofs.Throwing.{ends_fit, ends_full}
+use Rattle.et_event.specs.Making.{MakesObject}
+use Rattle.et_event.proofs.Answering.{ill_typed_end, ill_typed_answers}
+use Rattle.et_event.proofs.Throwing.{ends_fit, ends_full}
 
 abbrev Strings : Type 0
 Strings = List (List ℕ × ℕ)

@@ -15,13 +15,13 @@ ghost use Rattle.et_event.specs.Sites.{constant_at};
 
 use crate::strings::string_event;
 use et_base::{NoMemory, ThreadId, Value};
-use et_parts::{ill_typed, replace};
+use et_event::{ill_typed, replace};
 use et_pool::Pool;
 use et_program::Program;
 use et_state::{EventEnd, Lines, Machine};
 
 /// The event of an int of the pool.
-#[tactic(auto, using(et_parts::proofs::Answering::steps_done, et_parts::proofs::Answering::steps_refused, et_parts::proofs::Answering::steps_same))]
+#[tactic(auto, using(et_event::proofs::Answering::steps_done, et_event::proofs::Answering::steps_refused, et_event::proofs::Answering::steps_same))]
 fn int_event(machine: &mut Machine, thread: ThreadId, n: i32, next: u32) -> EventEnd
     requires frame { HasFrame machine.old.guest thread }
     requires sound { IsSound (kept_of machine.old) }
@@ -38,7 +38,7 @@ fn int_event(machine: &mut Machine, thread: ThreadId, n: i32, next: u32) -> Even
 }
 
 /// The event of a long of the pool.
-#[tactic(auto, using(et_parts::proofs::Answering::steps_done, et_parts::proofs::Answering::steps_refused, et_parts::proofs::Answering::steps_same))]
+#[tactic(auto, using(et_event::proofs::Answering::steps_done, et_event::proofs::Answering::steps_refused, et_event::proofs::Answering::steps_same))]
 fn long_event(machine: &mut Machine, thread: ThreadId, n: i64, next: u32) -> EventEnd
     requires frame { HasFrame machine.old.guest thread }
     requires sound { IsSound (kept_of machine.old) }

@@ -13,8 +13,7 @@ ghost use Rattle.et_event.specs.Plain.{divided, divides};
 ghost use Rattle.et_ops.specs.Divisions.{DividesFrame, quotients};
 
 use et_base::{NoMemory, ThreadId, Value, div32, div64, rem32, rem64};
-use et_event::{Division, GuestError, Number};
-use et_parts::{ill_typed, int_at, long_at, replace, throw_error};
+use et_event::{Division, GuestError, Number, ill_typed, int_at, long_at, replace, throw_error};
 use et_program::Program;
 use et_state::{EventEnd, Lines, Machine};
 

@@ -9,7 +9,7 @@ ghost use Rattle.et_event.specs.Families.{family_of};
 
 use crate::plain::plain_event;
 use et_base::{NoMemory, Steps, ThreadId};
-use et_parts::{ill_typed, place_of};
+use et_event::{ill_typed, place_of};
 use et_program::Program;
 use et_state::{EventEnd, Lines, Machine};
 use std::alloc::Global;

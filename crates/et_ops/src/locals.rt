@@ -4,7 +4,7 @@ ghost use Rattle.et_state.specs.Threads.{local_of};
 ghost use Rattle.et_event.specs.FrameSteps.{StepsRunning};
 ghost use Rattle.et_event.specs.Plain.{loaded, put_some};
 ghost use Rattle.et_event.specs.PoolOperands.Operand.TheVariants as operand;
-ghost use Rattle.et_parts.specs.Tops.{IsIn};
+ghost use Rattle.et_event.specs.Tops.{IsIn};
 
 use crate::operands::replace;
 use et_base::Value;
@@ -12,7 +12,7 @@ use et_event::Operand;
 use et_state::Running;
 
 /// What a local variable holds; `Unset` where there is none of that index.
-#[tactic(auto, using(et_parts::proofs::Groups::unset_is_in))]
+#[tactic(auto, using(et_event::proofs::Groups::unset_is_in))]
 #[inline(always)]
 pub(crate) fn local_at(running: &Running, i: u32) -> Value
     ensures value { result ≡ local_of running.now.frame i }

@@ -5,14 +5,14 @@ ghost use Rattle.et_state.specs.Running.{most_lost, steps_running};
 ghost use Rattle.et_state.specs.Threads.{operand_of, popped};
 ghost use Rattle.et_event.specs.FrameSteps.{StepsRunning};
 ghost use Rattle.et_event.specs.Plain.{is_one_value, is_single as single, is_value_pair, put as put_operands};
-ghost use Rattle.et_parts.specs.Tops.{AreIn, IsIn, entry_reference, int_of, long_of};
+ghost use Rattle.et_event.specs.Tops.{AreIn, IsIn, entry_reference, int_of, long_of};
 ghost use Rattle.et_ops.specs.Tops.{are_pair};
 
 use et_base::{ObjectId, Value};
 use et_state::Running;
 
 /// The operand so far below the topmost one; `Unset` where there is none.
-#[tactic(auto, using(et_parts::proofs::Groups::unset_is_in))]
+#[tactic(auto, using(et_event::proofs::Groups::unset_is_in))]
 #[inline(always)]
 pub(crate) fn operand_at(running: &Running, k: u32) -> Value
     ensures value { result ≡ operand_of running.now.frame k }

@@ -13,9 +13,8 @@ ghost use Rattle.et_event.specs.Sound.{IsSoundFor};
 use crate::frames::frame_event;
 use et_base::ThreadId;
 use et_code::decode;
-use et_event::{Row, row_of};
+use et_event::{Row, code_of, method_of, row_of};
 use et_graph::{Stamps, stamp_each};
-use et_parts::{code_of, method_of};
 use et_program::Program;
 use et_state::{Machine, Running};
 

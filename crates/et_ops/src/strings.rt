@@ -15,7 +15,7 @@ ghost use Rattle.et_event.specs.Plain.{constant};
 ghost use Rattle.et_event.specs.Sites.{AString};
 
 use et_base::{NoMemory, ObjectId, ThreadId, Value};
-use et_parts::{class_called, ill_typed, make_instance};
+use et_event::{class_called, ill_typed, make_instance};
 use et_program::{BuiltInClass, Program};
 use et_state::{EventEnd, Lines, Machine};
 

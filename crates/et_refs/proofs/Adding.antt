@@ -28,8 +28,8 @@ use Rattle.et_event.specs.Answered.{EventAnswers}
 use Rattle.et_event.specs.Heap.{arrays_made, naturals}
 use Rattle.et_event.specs.Moments.{Moment, moment, Doing, begins, with_frame, next_object, fits_heap}
 use Rattle.et_event.specs.Sites.{natural_of}
-use Rattle.et_parts.proofs.Taking.{replaced, length_dropped}
-use Rattle.et_parts.proofs.Throwing.{ends_fit, ends_full}
+use Rattle.et_event.proofs.Taking.{replaced, length_dropped}
+use Rattle.et_event.proofs.Throwing.{ends_fit, ends_full}
 use Rattle.et_refs.proofs.Leading.{moves_held}
 use Rattle.et_refs.specs.Events.{new_arrays_outcome}
 use Rattle.et_refs.specs.Filling.{doing_of}

@@ -12,8 +12,8 @@ use Rattle.et_state.specs.Words.{HasFrame, top}
 use Rattle.et_state.specs.Sound.{IsSound}
 use Rattle.et_state.proofs.Places.{top_root}
 use Rattle.et_event.specs.Checks.{Reference, with_int, with_long, with_reference}
-use Rattle.et_parts.specs.Tops.{int_of, long_of, entry_reference}
-use Rattle.et_parts.proofs.Groups.{operand_is_in}
+use Rattle.et_event.specs.Tops.{int_of, long_of, entry_reference}
+use Rattle.et_event.proofs.Groups.{operand_is_in}
 use Rattle.et_refs.specs.Changes.{IsNamedReference}
 
 int_first : {A : Type 0} (v : Value) (ops : List Value) (n : ℤ) (refused : A) (go : ℤ → List Value → A) → int_of v ≡ Some n → with_int refused (v ∷ ops) go ≡ go n ops

@@ -32,8 +32,8 @@ use Rattle.et_event.specs.Moments.{Moment, moment, Doing, current_frame, fits_he
 use Rattle.et_event.specs.Sites.{Site}
 use Rattle.et_event.specs.Sound.{is_of_kind}
 use Rattle.et_event.specs.PoolOperands.Operand.{Operand}
-use Rattle.et_parts.proofs.Taking.{replaced}
-use Rattle.et_parts.proofs.Throwing.{ends_fit, ends_full}
+use Rattle.et_event.proofs.Taking.{replaced}
+use Rattle.et_event.proofs.Throwing.{ends_fit, ends_full}
 use Rattle.et_refs.proofs.Leading.{moves_held, entries_refer}
 use Rattle.et_refs.proofs.Reading.{read_refers}
 use Rattle.et_initialize.specs.Under.{HasMadeStrings, base}

@@ -12,7 +12,7 @@ use Rattle.et_event.specs.Checks.{entries_of}
 use Rattle.et_event.specs.Kinds.{or_zero, narrowed}
 use Rattle.et_event.specs.Operands.{operand_kind}
 use Rattle.et_event.specs.Sound.{is_of_kind}
-use Rattle.et_parts.specs.Tops.{IsIn}
+use Rattle.et_event.specs.Tops.{IsIn}
 use Rattle.et_refs.proofs.Reading.{kept_refers}
 use Rattle.et_event.specs.Programs.{HasSlots}
 use Rattle.et_event.proofs.Values.{read_width}

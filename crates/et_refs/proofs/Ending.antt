@@ -16,9 +16,9 @@ use Rattle.et_event.specs.Answered.{EventAnswers}
 use Rattle.et_event.specs.Heap.{leaving_values}
 use Rattle.et_event.specs.Moments.{Moment, moment, Doing, begins, next_object, array_made, slot_written, updated, goes, ends_event}
 use Rattle.et_event.specs.Sites.{Site}
-use Rattle.et_parts.specs.Making.{MakesObject}
-use Rattle.et_parts.proofs.Taking.{replaced}
-use Rattle.et_parts.proofs.Throwing.{ends_fit}
+use Rattle.et_event.specs.Making.{MakesObject}
+use Rattle.et_event.proofs.Taking.{replaced}
+use Rattle.et_event.proofs.Throwing.{ends_fit}
 use Rattle.et_refs.proofs.Leading.{make_led}
 use Rattle.et_event.proofs.Values.{updated_state}
 

@@ -17,7 +17,7 @@ use Rattle.et_state.proofs.Places.{top_root, leads-new}
 use Rattle.et_state.proofs.UnderWay.{root_is_reached}
 use Rattle.et_state.proofs.Calls.{on_begin_event, on_set_slot}
 use Rattle.et_state.proofs.Steps.{then_top, MayEnter, MayBeLost, did_led, did_make, did_on_way, led_plain, root_there, slot_there, newest_held}
-use Rattle.et_parts.proofs.Taking.{replaced}
+use Rattle.et_event.proofs.Taking.{replaced}
 use Rattle.et_event.specs.Checks.{entries_of}
 
 -- THE FRAME

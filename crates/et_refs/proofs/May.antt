@@ -6,7 +6,7 @@ use Rattle.et_state.specs.Threads.{FrameState}
 use Rattle.et_state.specs.State.{MachineState}
 use Rattle.et_state.specs.Moves.{AreInHeap}
 use Rattle.et_event.specs.Checks.{entries_of}
-use Rattle.et_parts.proofs.Taking.{length_dropped}
+use Rattle.et_event.proofs.Taking.{length_dropped}
 use Rattle.et_refs.specs.Changes.{MayExchange}
 
 -- no more entries than are taken

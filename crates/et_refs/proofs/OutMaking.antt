@@ -23,8 +23,8 @@ use Rattle.et_event.specs.Heap.{leaving_values}
 use Rattle.et_event.specs.Moments.{Moment, Doing, begins, current_frame, doing_with_guest, ends_event, fits_heap, instance_made, moment, next_object}
 use Rattle.et_event.specs.Sites.{Site}
 use Rattle.et_event.specs.Sound.{IsSoundFor}
-use Rattle.et_parts.proofs.Taking.{replaced}
-use Rattle.et_parts.proofs.Throwing.{ends_fit}
+use Rattle.et_event.proofs.Taking.{replaced}
+use Rattle.et_event.proofs.Throwing.{ends_fit}
 use Rattle.et_refs.proofs.Leading.{moves_held}
 use Rattle.et_initialize.proofs.Beginning.{strings_led}
 use Rattle.et_initialize.proofs.Stepping.{has_frame_on, one_fits}

@@ -22,9 +22,9 @@ use Rattle.et_event.specs.Out.{OutRead, out_at, out_by, out_method, out_turn}
 use Rattle.et_event.specs.Sites.{Site, site_of}
 use Rattle.et_event.proofs.Deferrals.{answered, native_exactly}
 use Rattle.et_event.proofs.OutTurns.{out_at_turn}
-use Rattle.et_parts.proofs.Answering.{if_ok}
-use Rattle.et_parts.specs.Places.{IsPlace, site_at}
-use Rattle.et_parts.specs.declared.places.Place.{Place}
+use Rattle.et_event.proofs.Answering.{if_ok}
+use Rattle.et_event.specs.Places.{IsPlace, site_at}
+use Rattle.et_event.specs.declared.places.Place.{Place}
 use Rattle.et_refs.specs.Rows.{is_get_static}
 
 pub out_at_place : (p : Linked) (m : MachineState) (t : ℕ) (place : Place) → turn_of (thread_at m.guest t) ≡ Instruction → IsPlace p (top m.guest t) place → out_turn p (kept_of m) t ≡ out_at (moment p m t) (site_at place) place.row

@@ -19,8 +19,8 @@ use Rattle.et_event.specs.Kinds.{or_zero}
 use Rattle.et_event.specs.Moments.{Moment, begins, current_frame, ends_event, moment}
 use Rattle.et_event.specs.Out.{OutRead, field_read, out_at, out_made, out_of, out_read, out_row, out_turn}
 use Rattle.et_event.specs.Sites.{Site, site_member}
-use Rattle.et_parts.specs.Places.{IsPlace, site_at}
-use Rattle.et_parts.specs.declared.places.Place.{Place}
+use Rattle.et_event.specs.Places.{IsPlace, site_at}
+use Rattle.et_event.specs.declared.places.Place.{Place}
 use Rattle.et_refs.specs.declared.refusals.Refusal.{Refusal}
 use Rattle.et_refs.specs.declared.static_fields.StaticRead.{StaticRead}
 use Rattle.et_refs.specs.Accesses.{access_outcome}

@@ -17,10 +17,10 @@ use Rattle.et_event.specs.declared.rows.HeapRow.TheVariants.{NewMultiArray}
 use Rattle.et_event.specs.Sites.{Site, class_operand, pool_of_class, natural_of}
 use Rattle.et_event.specs.Sound.{IsSoundFor}
 use Rattle.et_event.specs.Table.{row_of}
-use Rattle.et_parts.specs.declared.places.Place.{Place}
-use Rattle.et_parts.specs.Places.{Runs, IsPlace, site_at}
-use Rattle.et_parts.proofs.Placing.{method_runs, body_runs}
-use Rattle.et_parts.proofs.Running.{runs_there, starts_there}
+use Rattle.et_event.specs.declared.places.Place.{Place}
+use Rattle.et_event.specs.Places.{Runs, IsPlace, site_at}
+use Rattle.et_event.proofs.Placing.{method_runs, body_runs}
+use Rattle.et_event.proofs.Running.{runs_there, starts_there}
 use Rattle.et_event.specs.Programs.{IsInstruction, NamesClass, HasArrays}
 
 pub some_dimension : (p : Linked) (m : MachineState) (t : ℕ) (place : Place) (name : List ℕ) (c : ℕ) → IsSoundFor p (kept_of m) → HasArrays p → turn_of (thread_at m.guest t) ≡ Instruction → IsPlace p (top m.guest t) place

@@ -22,7 +22,7 @@ use Rattle.et_event.specs.Operands.{operand_kind}
 use Rattle.et_event.specs.Moments.{Moment, Doing, current_frame, begins, next_object, instance_made, static_written, updated, ends_event}
 use Rattle.et_event.specs.Sites.{Site}
 use Rattle.et_event.specs.Sound.{is_of_kind}
-use Rattle.et_parts.specs.Tops.{IsIn}
+use Rattle.et_event.specs.Tops.{IsIn}
 use Rattle.et_refs.specs.declared.accesses.Read.{Read}
 use Rattle.et_refs.specs.declared.accesses.Write.{Write}
 use Rattle.et_refs.specs.declared.accesses.Access.{Access}

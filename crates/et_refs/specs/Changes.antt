@@ -14,7 +14,7 @@ use Rattle.et_event.specs.Moments.{Moment, current_frame, begins, next_object, a
 use Rattle.et_event.specs.Checks.{Reference, entries_of}
 use Rattle.et_event.specs.Heap.{leaving_values}
 use Rattle.et_event.specs.Sites.{Site}
-use Rattle.et_parts.specs.Tops.{IsIn}
+use Rattle.et_event.specs.Tops.{IsIn}
 use Rattle.et_refs.specs.declared.changes.Exchange.{Exchange}
 use Rattle.et_refs.specs.declared.changes.Store.{Store}
 use Rattle.et_refs.specs.declared.changes.NewArray.{NewArray}

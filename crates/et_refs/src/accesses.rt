@@ -10,9 +10,8 @@ ghost use Rattle.et_refs.specs.Accesses.{CanRead, CanWrite, CanMake, CanAccess, 
 use crate::changes::{number_of, replace_top};
 use crate::kinds::or_zero;
 use et_base::{ClassId, NoMemory, ObjectId, ThreadId, Value};
-use et_event::Operand;
+use et_event::{Operand, Place, slots_of, take};
 use et_heap::MakeFault;
-use et_parts::{Place, slots_of, take};
 use et_program::Program;
 use et_state::{Lines, Machine, Record};
 

@@ -7,7 +7,7 @@ ghost use Rattle.et_event.specs.Heap.{new_array_of, new_array as base_type_array
 ghost use Rattle.et_event.specs.Moments.{Moment, moment, current_frame};
 ghost use Rattle.et_event.specs.Sites.{Site, natural_of};
 ghost use Rattle.et_event.specs.Sound.{IsSoundFor};
-ghost use Rattle.et_parts.specs.Places.{site_at};
+ghost use Rattle.et_event.specs.Places.{site_at};
 ghost use Rattle.et_refs.specs.Changes.{MayMake, new_array_outcome};
 ghost use Rattle.et_program.specs.Members.{base_array};
 ghost use Rattle.et_program.specs.Referring.{pool_of_class};
@@ -21,8 +21,7 @@ use crate::kinds::{is_length, natural};
 use crate::operands::{operands_fit, take_int};
 use crate::refusals::Refusal;
 use et_base::{ClassId, ThreadId};
-use et_event::GuestError;
-use et_parts::Place;
+use et_event::{GuestError, Place};
 use et_program::Program;
 use et_state::Machine;
 

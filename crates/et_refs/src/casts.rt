@@ -16,7 +16,7 @@ ghost use Rattle.et_event.specs.Heap.{leaving_values, with_class, check_cast as 
 ghost use Rattle.et_event.specs.Moments.{Moment, moment, begins, goes};
 ghost use Rattle.et_event.specs.Sites.{Site, class_operand as operand_class, natural_of};
 ghost use Rattle.et_event.specs.Sound.{IsSoundFor};
-ghost use Rattle.et_parts.specs.Places.{site_at};
+ghost use Rattle.et_event.specs.Places.{site_at};
 ghost use Rattle.et_refs.specs.Changes.{IsNamedReference, MayExchange, exchange_outcome, put_outcome};
 ghost use Rattle.et_refs.specs.NamedClasses.{IsNamedAt};
 ghost use Rattle.et_refs.specs.Refusals.{outcome_of};
@@ -26,8 +26,7 @@ use crate::checks::{resolve_named, throws_unless};
 use crate::operands::{operands_fit, take_reference};
 use crate::refusals::Refusal;
 use et_base::{ClassId, ObjectId, Steps, ThreadId, Value};
-use et_event::GuestError;
-use et_parts::{Place, class_operand, index_of};
+use et_event::{GuestError, Place, class_operand, index_of};
 use et_program::Program;
 use et_state::Machine;
 use std::sync::ledger::Ledger;

@@ -12,15 +12,15 @@ ghost use Rattle.et_program.specs.Entries.{class_at, Linked};
 ghost use Rattle.et_event.specs.Answered.{EventAnswers};
 ghost use Rattle.et_event.specs.Checks.{entries_of};
 ghost use Rattle.et_event.specs.Moments.{Moment, moment, begins, array_made, array_size as bytes_of, element_width as width_of_element, number_of_value as number_in, updated};
-ghost use Rattle.et_parts.specs.Making.{MakesObject};
-ghost use Rattle.et_parts.specs.Places.{site_at};
+ghost use Rattle.et_event.specs.Making.{MakesObject};
+ghost use Rattle.et_event.specs.Places.{site_at};
 ghost use Rattle.et_refs.specs.Changes.{change_outcome, store_outcome, new_array_outcome, MayExchange, MayStore, MayMake, MayChange};
 
 use crate::kinds::element_width;
 use crate::slots::{SlotAt, slot_value};
 use et_base::{ClassId, NoMemory, ObjectId, Steps, ThreadId, Value};
+use et_event::{Place, give, take};
 use et_heap::MakeFault;
-use et_parts::{Place, give, take};
 use et_program::Program;
 use et_state::{EventEnd, Lines, Machine, Record};
 use std::sync::ledger::Ledger;

@@ -7,7 +7,7 @@ ghost use Rattle.et_event.specs.Answered.{EventAnswers};
 ghost use Rattle.et_event.specs.Initialization.{quietly_done};
 ghost use Rattle.et_event.specs.Moments.{moment, begins, fits_heap};
 ghost use Rattle.et_event.specs.Sound.{IsSoundFor};
-ghost use Rattle.et_parts.specs.Places.{site_at};
+ghost use Rattle.et_event.specs.Places.{site_at};
 ghost use Rattle.et_event.specs.Programs.{HasInitializers, MakesSound};
 ghost use Rattle.et_event.specs.InitializationOrder.{IsInOrder};
 ghost use Rattle.et_initialize.specs.Under.{base};
@@ -15,10 +15,9 @@ ghost use Rattle.et_refs.specs.Accesses.{MayWant, objects_in, slots_accessed, ac
 
 use crate::accesses::{Wanted, carry_out, objects_made, slots_made};
 use et_base::{NoMemory, ThreadId};
-use et_event::GuestError;
+use et_event::{GuestError, Place, throw_error, wait_event};
 use et_heap::{MOST_OBJECTS, MOST_SLOTS};
 use et_initialize::{Need, begin_class_event, need_of, quiet_fits, set_quietly};
-use et_parts::{Place, throw_error, wait_event};
 use et_program::Program;
 use et_state::{EventEnd, Lines, Machine};
 use std::alloc::Global;

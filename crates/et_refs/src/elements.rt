@@ -14,7 +14,7 @@ ghost use Rattle.et_event.specs.Heap.{with_element, load_element, store_element,
 ghost use Rattle.et_event.specs.Kinds.{kind_of_elements as elements_kind, or_zero as zero_or, is_array_element as is_such};
 ghost use Rattle.et_event.specs.Sites.{Site, natural_of};
 ghost use Rattle.et_event.specs.Sound.{IsSoundFor};
-ghost use Rattle.et_parts.specs.Places.{site_at};
+ghost use Rattle.et_event.specs.Places.{site_at};
 ghost use Rattle.et_refs.specs.Changes.{IsNamedReference, MayExchange, MayStore, exchange_outcome, store_outcome};
 ghost use Rattle.et_event.specs.Moments.{moment};
 ghost use Rattle.et_refs.specs.Refusals.{outcome_of};
@@ -29,8 +29,7 @@ use crate::operands::{operands_fit, take_element, take_int, take_reference};
 use crate::refusals::Refusal;
 use crate::slots::{SlotAt, read_slot};
 use et_base::{ObjectId, Steps, ThreadId, Value};
-use et_event::{Elements, GuestError};
-use et_parts::Place;
+use et_event::{Elements, GuestError, Place};
 use et_program::{Element, Program};
 use et_state::Machine;
 use std::sync::ledger::Ledger;

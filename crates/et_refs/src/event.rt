@@ -16,7 +16,7 @@ ghost use Rattle.et_state.specs.Outcome.{state_after};
 ghost use Rattle.et_state.specs.State.{kept_of};
 ghost use Rattle.et_state.specs.Threads.{turn_of};
 ghost use Rattle.et_state.specs.Words.{HasFrame, thread_at, top};
-ghost use Rattle.et_parts.specs.Places.{IsPlace, site_at};
+ghost use Rattle.et_event.specs.Places.{IsPlace, site_at};
 
 use crate::changes::carry_out;
 use crate::class_events::access_event;
@@ -25,8 +25,7 @@ use crate::refusals::refuse;
 use crate::rows::{Plan, is_static_read, plan_of};
 use crate::static_fields::{is_out_class, read_field};
 use et_base::{MethodId, NoMemory, Steps, ThreadId};
-use et_event::{HeapRow, Row};
-use et_parts::{Place, ill_typed, place_of};
+use et_event::{HeapRow, Place, Row, ill_typed, place_of};
 use et_program::Program;
 use et_state::{EventEnd, Lines, Machine};
 use std::alloc::Global;

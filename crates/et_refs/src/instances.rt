@@ -3,7 +3,7 @@ ghost use Rattle.std.specs.Prelude.{◌≡◌, ◌<◌, ◌^◌, length, IfOk};
 ghost use Rattle.et_state.specs.Words.{HasFrame, top};
 ghost use Rattle.et_event.specs.Heap.{may_be_made as may_make, new_instance};
 ghost use Rattle.et_event.specs.Sites.{natural_of};
-ghost use Rattle.et_parts.specs.Places.{site_at};
+ghost use Rattle.et_event.specs.Places.{site_at};
 ghost use Rattle.et_event.specs.Moments.{moment};
 ghost use Rattle.et_program.specs.Referring.{pool_of_class};
 ghost use Rattle.et_refs.specs.Refusals.{outcome_of};
@@ -16,8 +16,7 @@ use crate::refusals::Refusal;
 use crate::static_fields::width_fits;
 use et_base::{ClassId, ThreadId};
 use et_class::flags::{ABSTRACT, INTERFACE, has};
-use et_event::GuestError;
-use et_parts::Place;
+use et_event::{GuestError, Place};
 use et_program::Program;
 use et_state::Machine;
 

@@ -9,7 +9,7 @@ ghost use Rattle.et_state.specs.Words.{HasFrame, top};
 ghost use Rattle.et_state.specs.Outcome.{Outcome};
 ghost use Rattle.et_event.specs.Moments.{Moment, ill_typed};
 ghost use Rattle.et_event.specs.Checks.{Reference, with_int, with_long, with_reference, with_value, ill_typed_unless as ill_unless};
-ghost use Rattle.et_parts.specs.Tops.{IsIn};
+ghost use Rattle.et_event.specs.Tops.{IsIn};
 ghost use Rattle.et_refs.specs.Refusals.{outcome_of};
 ghost use Rattle.et_refs.specs.Changes.{IsNamedReference};
 
@@ -17,9 +17,8 @@ use crate::checks::ill_typed_unless;
 use crate::kinds::{kind_of_elements, width_of};
 use crate::refusals::Refusal;
 use et_base::{ObjectId, ThreadId, Value};
-use et_event::{Elements, Operand};
+use et_event::{Elements, Operand, int_at, long_at, reference_at};
 use et_heap::value_of_reference;
-use et_parts::{int_at, long_at, reference_at};
 use et_pool::kind_of;
 use et_state::Machine;
 

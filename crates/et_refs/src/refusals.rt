@@ -8,8 +8,7 @@ ghost use Rattle.et_event.specs.Moments.{moment};
 ghost use Rattle.et_refs.specs.Refusals.{refusal_outcome};
 
 use et_base::{NoMemory, ThreadId};
-use et_event::GuestError;
-use et_parts::{ill_typed, throw_error};
+use et_event::{GuestError, ill_typed, throw_error};
 use et_program::Program;
 use et_state::{EventEnd, Lines, Machine};
 

@@ -11,14 +11,14 @@ ghost use Rattle.et_event.specs.Moments.{begins, moment};
 ghost use Rattle.et_event.specs.Out.{OutRead, out_made, out_row, out_turn};
 ghost use Rattle.et_event.specs.Sites.{Site};
 ghost use Rattle.et_event.specs.Sound.{IsSoundFor};
-ghost use Rattle.et_parts.specs.Places.{IsPlace};
+ghost use Rattle.et_event.specs.Places.{IsPlace};
 
 use crate::accesses::make_object;
 use crate::changes::replace_top;
 use crate::class_events::{has_room, ready_event};
 use crate::static_fields::read_field;
 use et_base::{NoMemory, ObjectId, ThreadId, Value};
-use et_parts::{Place, class_called, place_of, slots_of};
+use et_event::{Place, class_called, place_of, slots_of};
 use et_program::{BuiltInClass, Program};
 use et_state::{EventEnd, Lines, Machine};
 

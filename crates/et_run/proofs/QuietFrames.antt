@@ -33,8 +33,8 @@ use Rattle.et_event.specs.TextRows.{said_in}
 use Rattle.et_event.specs.Told.{event_with_texts, keeping, said_by}
 use Rattle.et_event.proofs.OutTurns.{out_at_turn}
 use Rattle.et_event.proofs.Told.{of-table}
-use Rattle.et_parts.proofs.FrameEvents.{frame_event, frame_led}
-use Rattle.et_parts.proofs.Running.{has_frame_there}
+use Rattle.et_event.proofs.FrameEvents.{frame_event, frame_led}
+use Rattle.et_event.proofs.Running.{has_frame_there}
 use Rattle.et_walk.specs.Changing.{LeadsToSound}
 use Rattle.et_spoken.specs.Texts.{LeadsToSoundTexts}
 use Rattle.et_history.specs.Settings.{IsSoundRun, unended_threads}

@@ -32,10 +32,10 @@ use Rattle.et_event.specs.declared.families.Family.TheVariants.{Ops}
 use Rattle.et_event.specs.declared.rows.Row.{Row}
 use Rattle.et_event.specs.declared.rows.Row.TheVariants as row
 use Rattle.et_event.proofs.FamilyTurns.{family_here}
-use Rattle.et_parts.specs.Places.{Runs}
-use Rattle.et_parts.proofs.Placing.{body_runs}
-use Rattle.et_parts.proofs.RowsAmong.{among}
-use Rattle.et_parts.proofs.Running.{runs_there}
+use Rattle.et_event.specs.Places.{Runs}
+use Rattle.et_event.proofs.Placing.{body_runs}
+use Rattle.et_event.proofs.RowsAmong.{among}
+use Rattle.et_event.proofs.Running.{runs_there}
 use Rattle.et_run.proofs.Opcodes.{Follows, IsWidened, OneOperand, TwoOperands, decoded_behind}
 
 -- `wide` HAS NO ROW, and what may stand behind it has a plain one

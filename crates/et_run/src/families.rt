@@ -10,8 +10,7 @@ ghost use Rattle.et_state.specs.Words.{thread_at};
 
 use et_base::ThreadId;
 use et_base::numbers::u8_at;
-use et_event::{Family, Row, row_of};
-use et_parts::{code_of, method_of};
+use et_event::{Family, Row, code_of, method_of, row_of};
 use et_program::Program;
 use et_state::{Machine, Turn};
 

@@ -13,8 +13,7 @@ ghost use Rattle.et_state.specs.Words.{IsUnended};
 
 use crate::with_texts::MachineWithTexts;
 use et_base::ThreadId;
-use et_event::{MonitorRow, Row};
-use et_parts::place_of;
+use et_event::{MonitorRow, Row, place_of};
 use et_program::Program;
 use et_spoken::laws::{events_lead_to_sound_states, texts_stay_sound};
 use et_state::{EventEnd, Machine, Turn};

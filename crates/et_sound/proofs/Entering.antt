@@ -17,13 +17,13 @@ use Rattle.et_event.specs.Moments.{Moment, Doing, current_frame, thread_of, begi
 use Rattle.et_event.specs.Monitors.{Lock, OfObject, OfClass, monitor_of, lock_for, may_enter_some}
 use Rattle.et_event.specs.Sites.{Site, running_method, decoded_at}
 use Rattle.et_event.specs.Sound.{AreSoundFrames, IsSoundFor}
-use Rattle.et_parts.specs.Places.{Runs}
-use Rattle.et_parts.proofs.Placing.{method_runs, body_runs}
+use Rattle.et_event.specs.Places.{Runs}
+use Rattle.et_event.proofs.Placing.{method_runs, body_runs}
 use Rattle.et_sound.specs.Outcomes.{KeepsSound}
 use Rattle.et_event.specs.Programs.{MakesSound, IsInstruction}
 use Rattle.et_sound.specs.WellFormed.{IsWellFormed, IsUnderWayAt, KeepsFrame, MayEnter, StandsAt}
 use Rattle.et_sound.proofs.Calls.{frame_entered_well}
-use Rattle.et_parts.proofs.Running.{starts_there}
+use Rattle.et_event.proofs.Running.{starts_there}
 use Rattle.et_sound.proofs.Frames.{RunsSome, runs_some, frames_still, popped_keeps, with_first, top_well}
 use Rattle.et_sound.proofs.Monitors.{monitor_count}
 use Rattle.et_sound.proofs.Outcomes.{ends_sound, unless_waiting, where_frame_fits}

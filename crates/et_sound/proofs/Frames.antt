@@ -26,7 +26,7 @@ use Rattle.et_event.specs.Sound.{IsPc, RunsMethod, IsVoid, returned_of, IsStaged
 use Rattle.et_event.specs.Operands.{returned_width}
 use Rattle.et_sound.specs.WellFormed.{IsWellFormed, KeepsFrame, MayTake}
 use Rattle.et_sound.proofs.Threads.{guest_now, with_thread_well, may_have_frames}
-use Rattle.et_parts.proofs.Running.{starts_there}
+use Rattle.et_event.proofs.Running.{starts_there}
 
 -- THE PC
 

@@ -24,8 +24,8 @@ use Rattle.et_event.specs.Sound.{IsPc}
 use Rattle.et_event.specs.Table.{rows as all_rows, row_of}
 use Rattle.et_sound.proofs.Frames.{behind_pc}
 use Rattle.et_sound.proofs.Keeping.{MayGo}
-use Rattle.et_parts.proofs.Rows.{opcode_of_switch}
-use Rattle.et_parts.proofs.RowsAmong.{among}
+use Rattle.et_event.proofs.FrameRows.{opcode_of_switch}
+use Rattle.et_event.proofs.RowsAmong.{among}
 
 -- THE OPCODES of branches
 

@@ -22,8 +22,8 @@ use Rattle.et_event.specs.Heap.{heap_event}
 use Rattle.et_event.specs.Moments.{Moment, current_frame}
 use Rattle.et_event.specs.Sites.{Site, site_of, running_method, code_of_frame, decoded_at}
 use Rattle.et_event.specs.Table.{row_of}
-use Rattle.et_parts.specs.Places.{Runs}
-use Rattle.et_parts.proofs.Placing.{method_runs, rules_found}
+use Rattle.et_event.specs.Places.{Runs}
+use Rattle.et_event.proofs.Placing.{method_runs, rules_found}
 use Rattle.et_event.specs.PlainRows.{is_plain}
 use Rattle.et_sound.proofs.Going.{may_go}
 use Rattle.et_sound.proofs.Sounding.{Begins, does_sound}
@@ -31,7 +31,7 @@ use Rattle.et_sound.specs.Outcomes.{KeepsSound}
 use Rattle.et_sound.specs.WellFormed.{StandsAt}
 use Rattle.et_sound.proofs.Classes.{get_static_sound, put_static_sound, new_sound}
 use Rattle.et_sound.proofs.Fields.{get_field_sound, put_field_sound, load_element_sound, store_element_sound}
-use Rattle.et_parts.proofs.Running.{starts_there}
+use Rattle.et_event.proofs.Running.{starts_there}
 use Rattle.et_sound.proofs.Frames.{RunsSome, pc_there}
 use Rattle.et_sound.proofs.Steps.{array_length_sound, check_cast_sound, instance_of_sound, monitor_sound, throw_sound}
 use Rattle.et_sound.specs.Places.{IsAtRow}

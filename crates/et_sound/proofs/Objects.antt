@@ -15,7 +15,7 @@ use Rattle.et_event.specs.Errors.{class_called}
 use Rattle.et_event.specs.Sound.{HasThreadObject, IsSoundObject, IsSoundMonitor}
 use Rattle.et_sound.specs.WellFormed.{IsWellFormed}
 use Rattle.et_sound.proofs.Growing.{free_is_sound}
-use Rattle.et_parts.proofs.There.{there_is}
+use Rattle.et_event.proofs.There.{there_is}
 
 abbrev pub heap_now : Kept → Objects → Kept
 heap_now s heap = record { heap = heap; guest = s.guest }

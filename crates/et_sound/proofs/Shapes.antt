@@ -27,10 +27,10 @@ use Rattle.et_event.specs.Plain.{put, frame_after, on_frame, constant, divided, 
 use Rattle.et_event.specs.Sites.{Site, constant_at, pool_index, LoadedConstant, AnInt, ALong, AString}
 use Rattle.et_event.specs.Strings.{interned, string_object}
 use Rattle.et_event.specs.PlainRows.{is_plain}
-use Rattle.et_parts.proofs.SiteAnswers.{moment}
+use Rattle.et_event.proofs.SiteAnswers.{moment}
 use Rattle.et_event.proofs.Taken.{taken_int, taken_long}
 use Rattle.et_sound.proofs.Outcomes.{if_case}
-use Rattle.et_parts.proofs.Throwing.{framed}
+use Rattle.et_event.proofs.Throwing.{framed}
 
 -- an ArithmeticException is thrown
 abbrev pub error_thrown : Linked → Kept → ℕ → Doing

@@ -22,7 +22,7 @@ use Rattle.et_sound.specs.WellFormed.{IsWellFormed, KeepsFrame}
 use Rattle.et_sound.proofs.Frames.{top_well}
 use Rattle.et_sound.proofs.Monitors.{string_well}
 use Rattle.et_sound.proofs.Outcomes.{begins_well, goes_sound, ends_sound, pending_well, instance_well}
-use Rattle.et_parts.proofs.SiteAnswers.{moment}
+use Rattle.et_event.proofs.SiteAnswers.{moment}
 use Rattle.et_sound.proofs.Keeping.{Keeps, MayGo, kept_put, kept_after}
 use Rattle.et_sound.proofs.Shapes.{HoldsOfShapes, error_thrown, string_made, by_shape}
 

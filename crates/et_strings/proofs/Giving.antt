@@ -14,7 +14,7 @@ use Rattle.et_state.specs.Threads.{FrameState, at_pc, popped, pushed}
 use Rattle.et_state.specs.Words.{HasFrame, begun, steps_top, ticked, top, with_new_object, with_top}
 use Rattle.et_state.proofs.Places.{leads-new, top_root}
 use Rattle.et_state.proofs.Steps.{Did, MayBeLost, MayEnter, did_make, did_push, newest_held, root_there, then_top}
-use Rattle.et_parts.proofs.Taking.{moves_replaced, replaced, taken_in_frame}
+use Rattle.et_event.proofs.Taking.{moves_replaced, replaced, taken_in_frame}
 
 -- the arguments that are taken are lost, and stood in the frame before the object was made
 moves_made : (m : MachineState) (t n pc : ℕ) (y : ObjectState) → HasFrame m.guest t

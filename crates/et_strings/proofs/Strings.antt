@@ -13,7 +13,7 @@ use Rattle.et_event.specs.Sites.{Site}
 use Rattle.et_event.specs.TextRows.{rewrites, text_given}
 use Rattle.et_heap.specs.Objects.{IsHeld, Objects, new_object}
 use Rattle.et_heap.proofs.HeapLists.{held_within}
-use Rattle.et_parts.specs.Making.{MakesObject}
+use Rattle.et_event.specs.Making.{MakesObject}
 use Rattle.et_program.specs.Entries.{Linked, class_at}
 use Rattle.et_state.specs.Moves.{Led}
 use Rattle.et_state.specs.Outcome.{Outcome}

@@ -19,8 +19,8 @@ use Rattle.et_event.specs.declared.rows.Row.{Row}
 use Rattle.et_event.specs.declared.rows.Row.TheVariants as row
 use Rattle.et_event.proofs.OutTurns.{out_at_no_row, out_at_turn, out_instructs}
 use Rattle.et_event.proofs.Told.{call-blind, out_no_call}
-use Rattle.et_parts.specs.Places.{IsPlace, site_at}
-use Rattle.et_parts.specs.declared.places.Place.{Place}
+use Rattle.et_event.specs.Places.{IsPlace, site_at}
+use Rattle.et_event.specs.declared.places.Place.{Place}
 use Rattle.et_program.specs.Entries.{Linked}
 use Rattle.et_state.specs.Spoken.{spoken}
 use Rattle.et_state.specs.State.{Kept, MachineState, kept_of}

@@ -11,7 +11,7 @@ use Rattle.et_event.specs.Selected.{TextCall}
 use Rattle.et_event.specs.Sites.{Site}
 use Rattle.et_event.specs.TextRows.{said_in, text_done, text_row}
 use Rattle.et_heap.specs.Objects.{IsHeld}
-use Rattle.et_parts.specs.Tops.{IsIn}
+use Rattle.et_event.specs.Tops.{IsIn}
 use Rattle.et_program.specs.BootTexts.TextMethod.{TextMethod}
 use Rattle.et_program.specs.BootTexts.TextMethod.TheVariants.{Length, CharAt, Equals, ToString, Append}
 use Rattle.et_program.specs.Entries.{Linked}

@@ -7,14 +7,13 @@ ghost use Rattle.et_event.specs.Moments.{moment};
 ghost use Rattle.et_event.specs.Selected.{text_call_at};
 ghost use Rattle.et_event.specs.declared.rows.CallRow.TheVariants as calls;
 ghost use Rattle.et_event.specs.declared.rows.Row.TheVariants as rows;
-ghost use Rattle.et_parts.specs.Places.{IsPlace, site_at};
+ghost use Rattle.et_event.specs.Places.{IsPlace, site_at};
 ghost use Rattle.et_state.specs.Words.{HasFrame, top};
 ghost use Rattle.et_strings.specs.Calls.{HasRoomFor, IsCalled, entries_given};
 
 use et_base::{ObjectId, Steps, ThreadId, Value};
 use et_builtins::{CallPlan, Called, argument_at, invoke_plan, operands_are_few, receiver};
-use et_event::CallKind;
-use et_parts::Place;
+use et_event::{CallKind, Place};
 use et_program::{Program, TextMethod};
 use et_state::Machine;
 use std::sync::ledger::Ledger;

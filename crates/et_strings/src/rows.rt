@@ -15,7 +15,7 @@ use crate::texts::Texts;
 use crate::writing::{end_line_event, print_event, print_line_event};
 use et_base::{NoMemory, Steps};
 use et_builtins::{Called, is_of, takes_text};
-use et_parts::ill_typed;
+use et_event::ill_typed;
 use et_program::{BuiltInClass, Program, TextMethod};
 use et_state::{EventEnd, Machine, Output};
 use std::alloc::Global;

@@ -20,8 +20,8 @@ use Rattle.et_event.specs.Families.{family_of, family_of_row, family_of_turn, ro
 use Rattle.et_event.specs.Moments.{Moment, begins, current_frame, moment}
 use Rattle.et_event.specs.Sites.{Site, decoded_at}
 use Rattle.et_event.proofs.FamilyTurns.{family_at}
-use Rattle.et_parts.specs.Places.{IsPlace, site_at}
-use Rattle.et_parts.specs.declared.places.Place.{Place}
+use Rattle.et_event.specs.Places.{IsPlace, site_at}
+use Rattle.et_event.specs.declared.places.Place.{Place}
 use Rattle.et_event.specs.Selected.{deferred_at, deferred_call, selected_method}
 use Rattle.et_builtins.specs.Plans.{method_entered, call_planned}
 use Rattle.et_builtins.specs.declared.plans.CallPlan.{CallPlan}

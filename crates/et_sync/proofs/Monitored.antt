@@ -31,11 +31,11 @@ use Rattle.et_event.specs.Monitors.{OfObject, owns, may_enter, entered, left, le
 use Rattle.et_event.specs.Sites.{Site}
 use Rattle.et_event.specs.Sound.{IsSoundFor}
 use Rattle.et_event.specs.Sync.{monitor_event}
-use Rattle.et_parts.specs.Locks.{monitor_at, with_monitor_at, owns_at, may_enter_at}
-use Rattle.et_parts.proofs.Keeping.{monitor_on_way}
-use Rattle.et_parts.proofs.There.{few_times}
-use Rattle.et_parts.specs.Tops.{entry_reference}
-use Rattle.et_parts.proofs.Answering.{ill_typed_answers, ill_typed_end}
+use Rattle.et_event.specs.Locks.{monitor_at, with_monitor_at, owns_at, may_enter_at}
+use Rattle.et_event.proofs.Keeping.{monitor_on_way}
+use Rattle.et_event.proofs.There.{few_times}
+use Rattle.et_event.specs.Tops.{entry_reference}
+use Rattle.et_event.proofs.Answering.{ill_typed_answers, ill_typed_end}
 
 -- THE REFERENCE ON TOP
 

@@ -7,13 +7,12 @@ ghost use Rattle.et_event.specs.Answered.{EventAnswers};
 ghost use Rattle.et_event.specs.Beginning.{BeginsEvent};
 ghost use Rattle.et_event.specs.Calls.{invoke};
 ghost use Rattle.et_event.specs.Moments.{moment};
-ghost use Rattle.et_parts.specs.Places.{IsPlace, site_at};
+ghost use Rattle.et_event.specs.Places.{IsPlace, site_at};
 ghost use Rattle.et_event.specs.Selected.{deferred_at};
 
 use et_base::{NoMemory, Steps, ThreadId};
 use et_builtins::{Call, CallPlan, built_in_method_event, invoke_plan};
-use et_event::CallKind;
-use et_parts::Place;
+use et_event::{CallKind, Place};
 use et_program::Program;
 use et_state::{EventEnd, Lines, Machine};
 use std::sync::ledger::Ledger;

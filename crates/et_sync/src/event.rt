@@ -10,15 +10,14 @@ ghost use Rattle.et_event.specs.Beginning.{BeginsEvent};
 ghost use Rattle.et_event.specs.Event.{does, event};
 ghost use Rattle.et_event.specs.Families.{family_of, family_of_row};
 ghost use Rattle.et_event.specs.Moments.{moment};
-ghost use Rattle.et_parts.specs.Places.{IsPlace, site_at};
+ghost use Rattle.et_event.specs.Places.{IsPlace, site_at};
 ghost use Rattle.et_event.specs.Selected.{deferred_at, deferred_call};
 
 use crate::deferred::deferred_event;
 use crate::ending::end_event;
 use crate::monitoring::monitor_row_event;
 use et_base::{NoMemory, Steps, ThreadId};
-use et_event::{CallRow, Row};
-use et_parts::{Place, ill_typed, place_of};
+use et_event::{CallRow, Place, Row, ill_typed, place_of};
 use et_program::Program;
 use et_state::{EventEnd, Lines, Machine, Turn};
 use std::alloc::Global;

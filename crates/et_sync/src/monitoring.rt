@@ -13,14 +13,13 @@ ghost use Rattle.et_event.specs.Sites.{Site};
 ghost use Rattle.et_event.specs.Sound.{IsSoundFor};
 ghost use Rattle.et_event.specs.Sync.{monitor_event};
 ghost use Rattle.et_event.specs.declared.rows.MonitorRow.TheVariants as rows;
-ghost use Rattle.et_parts.specs.Tops.{entry_reference};
+ghost use Rattle.et_event.specs.Tops.{entry_reference};
 ghost use Rattle.et_event.specs.Moments.{moment};
 
 use et_base::{NoMemory, ObjectId, Steps, ThreadId};
-use et_event::{GuestError, MonitorRow};
-use et_parts::{
-    Lock, enter_monitor, ill_typed, leave_monitor, may_enter, owns, reference_at, throw_error,
-    wait_event,
+use et_event::{
+    GuestError, Lock, MonitorRow, enter_monitor, ill_typed, leave_monitor, may_enter, owns,
+    reference_at, throw_error, wait_event,
 };
 use et_program::Program;
 use et_state::{EventEnd, Lines, Machine};

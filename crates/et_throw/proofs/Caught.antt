@@ -25,7 +25,7 @@ use Rattle.et_event.specs.Answered.{EventAnswers}
 use Rattle.et_event.specs.Moments.{moment, begins, with_thread_state, goes}
 use Rattle.et_event.specs.Checks.{ill_typed_unless}
 use Rattle.et_event.specs.Throw.{handled, caught}
-use Rattle.et_parts.proofs.Answering.{ill_typed_answers, ill_typed_end}
+use Rattle.et_event.proofs.Answering.{ill_typed_answers, ill_typed_end}
 use Rattle.et_throw.specs.Unwinding.{handled_state}
 use Rattle.et_throw.proofs.Turning.{pending_held}
 

@@ -20,9 +20,9 @@ use Rattle.et_event.specs.Moments.{Moment, moment, Doing, begins, told, goes}
 use Rattle.et_event.specs.Monitors.{Lock, OfObject, OfClass, left, lock_in}
 use Rattle.et_event.specs.Sites.{running_method}
 use Rattle.et_event.specs.Throw.{left_if_owned, dropped, unwound}
-use Rattle.et_parts.specs.Locks.{HasSome, doing, owns_at, leaving_lock}
-use Rattle.et_parts.proofs.Keeping.{monitor_on_way, left_is}
-use Rattle.et_parts.proofs.There.{there_later}
+use Rattle.et_event.specs.Locks.{HasSome, doing, owns_at, leaving_lock}
+use Rattle.et_event.proofs.Keeping.{monitor_on_way, left_is}
+use Rattle.et_event.proofs.There.{there_later}
 use Rattle.et_throw.specs.Unwinding.{leaving_if_owned}
 
 -- THE MONITOR

@@ -35,7 +35,7 @@ use Rattle.et_event.specs.Errors.{error_class}
 use Rattle.et_event.specs.Initialization.{with_state}
 use Rattle.et_event.specs.Moments.{moment, Doing, fits_heap, number_of_value, ends_event as ending}
 use Rattle.et_event.specs.Throw.{replaced}
-use Rattle.et_parts.proofs.Throwing.{ends_fit, ends_full}
+use Rattle.et_event.proofs.Throwing.{ends_fit, ends_full}
 use Rattle.et_throw.specs.Unwinding.{initializer_left, initializer_dropped, unwind_records, IsThrowMade}
 use Rattle.et_throw.proofs.Caught.{roots_are_few}
 use Rattle.et_throw.proofs.Turning.{pending_held}

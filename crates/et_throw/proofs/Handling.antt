@@ -8,8 +8,8 @@ use Rattle.et_program.specs.Members.{is_above, is_subclass}
 use Rattle.et_state.specs.Threads.{FrameState}
 use Rattle.et_event.specs.Sites.{code_of_frame, running_method, pool_of_class}
 use Rattle.et_event.specs.Throw.{is_above_or_same, catches, handler_of}
-use Rattle.et_parts.specs.Places.{Runs}
-use Rattle.et_parts.proofs.Placing.{locals_found}
+use Rattle.et_event.specs.Places.{Runs}
+use Rattle.et_event.proofs.Placing.{locals_found}
 use Rattle.et_event.specs.Interfaces.{KnowsInterfaces}
 
 -- a class above is a superclass exactly where it is no interface

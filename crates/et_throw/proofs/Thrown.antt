@@ -24,8 +24,8 @@ use Rattle.et_event.specs.Answered.{EventAnswers}
 use Rattle.et_event.specs.Checks.{Reference, with_reference, not_null, ill_typed_unless}
 use Rattle.et_event.specs.Moments.{Moment, moment, begins, ill_typed, goes, pending_now, throws}
 use Rattle.et_event.specs.Throw.{throw, is_throwable}
-use Rattle.et_parts.specs.Tops.{entry_reference}
-use Rattle.et_parts.proofs.Answering.{ill_typed_answers, ill_typed_end}
+use Rattle.et_event.specs.Tops.{entry_reference}
+use Rattle.et_event.proofs.Answering.{ill_typed_answers, ill_typed_end}
 
 -- THE REFERENCE ON TOP
 

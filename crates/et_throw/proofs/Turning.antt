@@ -14,7 +14,7 @@ use Rattle.et_state.specs.Words.{thread_at, top, HasFrame}
 use Rattle.et_state.specs.Sound.{IsSound}
 use Rattle.et_state.proofs.Places.{pending_root}
 use Rattle.et_event.specs.Sound.{IsSoundFor, IsStaged, AreSoundFrames}
-use Rattle.et_parts.specs.Places.{Runs}
+use Rattle.et_event.specs.Places.{Runs}
 use Rattle.et_throw.specs.Unwinding.{Unwinds}
 
 -- THE FRAME

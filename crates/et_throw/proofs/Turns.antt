@@ -16,7 +16,7 @@ use Rattle.et_event.specs.Answered.{EventAnswers}
 use Rattle.et_event.specs.Event.{event, does_turn}
 use Rattle.et_event.specs.Moments.{Moment, moment}
 use Rattle.et_event.specs.Throw.{by_handler, caught, unwinding_step, unwinds}
-use Rattle.et_parts.proofs.Answering.{ill_typed_answers, ill_typed_end}
+use Rattle.et_event.proofs.Answering.{ill_typed_answers, ill_typed_end}
 
 -- A HANDLER OR NONE
 

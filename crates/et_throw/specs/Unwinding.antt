@@ -13,7 +13,7 @@ use Rattle.et_event.specs.Moments.{Moment, Doing, current_frame, begins, told}
 use Rattle.et_event.specs.Monitors as table
 use Rattle.et_event.specs.Sound.{IsSoundFor}
 use Rattle.et_event.specs.Throw.{dropped, handled}
-use Rattle.et_parts.specs.Locks.{owns_at, leaving_lock}
+use Rattle.et_event.specs.Locks.{owns_at, leaving_lock}
 
 -- a thread with a frame in which an exception is to be unwound, in a sound state
 pub record Unwinds (p : Linked) (m : MachineState) (t o : ℕ) : Type 0 where

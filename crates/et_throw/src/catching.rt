@@ -12,7 +12,7 @@ ghost use Rattle.et_event.specs.Moments.{moment};
 ghost use Rattle.et_throw.specs.Unwinding.{handled_state};
 
 use et_base::{ObjectId, ThreadId, Value};
-use et_parts::ill_typed;
+use et_event::ill_typed;
 use et_state::{EventEnd, Machine};
 
 /// The operands give way to an exception, which is pending no longer, and the pc is that of its handler.

@@ -17,9 +17,8 @@ ghost use Rattle.et_throw.specs.Unwinding.{Unwinds, IsThrowMade, initializer_lef
 
 use crate::records::{tell_error, tell_unwind};
 use et_base::{ClassId, NoMemory, ObjectId, Steps, ThreadId, Value};
-use et_event::GuestError;
+use et_event::{GuestError, class_called, slots_of};
 use et_heap::MakeFault;
-use et_parts::{class_called, slots_of};
 use et_program::{BuiltInClass, Program};
 use et_state::{ClassState, EventEnd, Lines, Machine};
 use std::sync::ledger::Ledger;

@@ -2,11 +2,11 @@
 ghost use Rattle.std.specs.Prelude.{◌≡◌, ◌+◌, ◌<◌, ◌^◌, length};
 ghost use Rattle.et_state.specs.Words.{HasFrame, top};
 ghost use Rattle.et_event.specs.Sites.{present_body};
-ghost use Rattle.et_parts.specs.Places.{Runs};
+ghost use Rattle.et_event.specs.Places.{Runs};
 
 use et_base::ThreadId;
 use et_code::{Code, TableRow};
-use et_parts::method_of;
+use et_event::method_of;
 use et_program::{MethodInfo, Program};
 use et_state::Machine;
 

@@ -5,14 +5,14 @@ ghost use Rattle.et_code.specs.declared.body.TableRow.{TableRow as Row};
 ghost use Rattle.et_program.specs.Referring.{pool_of_class};
 ghost use Rattle.et_state.specs.Words.{HasFrame, top};
 ghost use Rattle.et_event.specs.Throw.{is_above_or_same, catches_name, catches as catches_there, handler_of};
-ghost use Rattle.et_parts.specs.Places.{Runs};
+ghost use Rattle.et_event.specs.Places.{Runs};
 ghost use Rattle.et_event.specs.Interfaces.{KnowsInterfaces};
 
 use crate::frames::table_of;
 use et_base::{ClassId, ThreadId};
 use et_class::flags::{INTERFACE, has};
 use et_code::TableRow;
-use et_parts::method_of;
+use et_event::method_of;
 use et_program::Program;
 use et_state::Machine;
 

@@ -14,8 +14,7 @@ ghost use Rattle.et_event.specs.Throw.{throw};
 ghost use Rattle.et_event.specs.Moments.{moment};
 
 use et_base::{NoMemory, ObjectId, Steps, ThreadId};
-use et_event::GuestError;
-use et_parts::{class_called, ill_typed, reference_at, throw_error};
+use et_event::{GuestError, class_called, ill_typed, reference_at, throw_error};
 use et_program::{BuiltInClass, Program};
 use et_state::{EventEnd, Lines, Machine};
 use std::sync::ledger::Ledger;

@@ -13,8 +13,8 @@ ghost use Rattle.et_event.specs.Sites.{running_method as method_in};
 ghost use Rattle.et_event.specs.Sound.{IsSoundFor};
 ghost use Rattle.et_event.specs.Throw.{unwound, unwinds};
 ghost use Rattle.et_event.specs.Monitors.{lock_in as lock_in_frame};
-ghost use Rattle.et_parts.specs.Locks.{locks_of, HasSome};
-ghost use Rattle.et_parts.specs.Places.{Runs};
+ghost use Rattle.et_event.specs.Locks.{locks_of, HasSome};
+ghost use Rattle.et_event.specs.Places.{Runs};
 ghost use Rattle.et_event.specs.Interfaces.{KnowsInterfaces};
 ghost use Rattle.et_event.specs.Moments.{moment};
 ghost use Rattle.et_throw.specs.Unwinding.{Unwinds, leaving_if_owned};
@@ -25,7 +25,7 @@ use crate::frames::frame_is_small;
 use crate::handlers::handler;
 use crate::records::unwind_record;
 use et_base::{ClassId, NoMemory, ObjectId, Steps, ThreadId};
-use et_parts::{Lock, ill_typed, leave_monitor, lock_in, method_of, owns};
+use et_event::{Lock, ill_typed, leave_monitor, lock_in, method_of, owns};
 use et_program::Program;
 use et_state::{EventEnd, Lines, Machine, Stage};
 use std::sync::ledger::Ledger;
@@ -79,7 +79,7 @@ fn unwind_frame<L: Ledger>(
 }
 
 /// The lock that the frame of a method holds.
-#[tactic(auto, using(et_parts::proofs::There::frame_lock_there))]
+#[tactic(auto, using(et_event::proofs::There::frame_lock_there))]
 fn lock_of_frame(program: &Program, machine: &Machine, thread: ThreadId) -> Option<Lock>
     requires sound { IsSoundFor program.now (kept_of machine.now) }
     requires frame { HasFrame machine.now.guest thread }

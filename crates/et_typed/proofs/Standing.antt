@@ -13,8 +13,8 @@ use Rattle.et_event.specs.Sound.{IsPc, RunsMethod, returned_of}
 use Rattle.et_event.specs.declared.rows.CallRow.TheVariants as call
 use Rattle.et_event.specs.declared.rows.Row.{Row}
 use Rattle.et_event.specs.declared.rows.Row.TheVariants as rows
-use Rattle.et_parts.proofs.Running.{has_frame_there, runs_there}
-use Rattle.et_parts.specs.Places.{Runs}
+use Rattle.et_event.proofs.Running.{has_frame_there, runs_there}
+use Rattle.et_event.specs.Places.{Runs}
 use Rattle.et_program.specs.Entries.{Linked, method_at}
 use Rattle.et_sound.proofs.Frames.{next_pc, pc_there}
 use Rattle.et_sound.specs.Places.{IsAtRow}

@@ -14,8 +14,8 @@ use Rattle.et_event.specs.Sites.{Site, pool_of_class, target}
 use Rattle.et_event.specs.Table.{row_of}
 use Rattle.et_event.specs.declared.rows.Row.{Row}
 use Rattle.et_event.specs.Sound.{returned_of}
-use Rattle.et_parts.specs.Places.{site_at}
-use Rattle.et_parts.specs.declared.places.Place.{Place}
+use Rattle.et_event.specs.Places.{site_at}
+use Rattle.et_event.specs.declared.places.Place.{Place}
 use Rattle.et_flow.specs.Types.{TypesOf}
 use Rattle.et_verify.specs.Steps.{types_after}
 use Rattle.et_flow.specs.Types.{caught}

@@ -12,8 +12,8 @@ use Rattle.et_pool.specs.Operands.{return_of}
 use Rattle.et_event.specs.Sites.{natural_of, pool_of_class}
 use Rattle.et_event.specs.Sound.{returned_of}
 use Rattle.et_event.specs.Table.{row_of}
-use Rattle.et_parts.specs.Places.{site_at, is_frame}
-use Rattle.et_parts.specs.declared.places.Place.{Place}
+use Rattle.et_event.specs.Places.{site_at, is_frame}
+use Rattle.et_event.specs.declared.places.Place.{Place}
 use Rattle.et_verify.specs.Leads.{may_catch, site_in}
 use Rattle.et_verify.specs.Targets.{HasTargets}
 

@@ -2,7 +2,7 @@
 ghost use Rattle.std.specs.Prelude.{◌≡◌, ◌<◌, ◌^◌, [], ◌∷◌, true, false, Some, None, IfOk};
 ghost use Rattle.et_event.specs.Calls.{is_static_call as calls_static};
 ghost use Rattle.et_event.specs.Sites.{natural_of, pool_of_class};
-ghost use Rattle.et_parts.specs.Places.{site_at};
+ghost use Rattle.et_event.specs.Places.{site_at};
 ghost use Rattle.et_verify.specs.Calling.{arguments_taken, call_taken, called};
 ghost use Rattle.et_verify.specs.Effects.{call_effect};
 ghost use Rattle.et_verify.specs.Steps.{moved_where};
@@ -10,9 +10,8 @@ ghost use Rattle.et_verify.specs.Steps.{moved_where};
 use crate::effects::kind_given;
 use crate::operands::{give_some, take};
 use et_base::NoMemory;
-use et_event::{CallKind, Operand};
+use et_event::{CallKind, Operand, Place, index_of};
 use et_flow::Types;
-use et_parts::{Place, index_of};
 use et_pool::CallShape;
 use et_program::Program;
 

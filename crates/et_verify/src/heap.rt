@@ -3,7 +3,7 @@ ghost use Rattle.std.specs.Prelude.{◌≡◌, ◌<◌, ◌^◌, List, ◌∷◌
 ghost use Rattle.et_event.specs.PoolOperands.Operand.TheVariants as kinds;
 ghost use Rattle.et_event.specs.Sites.{natural_of, constant_at};
 ghost use Rattle.et_event.specs.declared.rows.HeapRow.TheVariants as heap;
-ghost use Rattle.et_parts.specs.Places.{site_at};
+ghost use Rattle.et_event.specs.Places.{site_at};
 ghost use Rattle.et_verify.specs.Effects.{constant_effect, field_read, field_type as type_of_field, field_written, heap_effect, kind_of_constant, naming_class as where_class};
 ghost use Rattle.et_verify.specs.Steps.{below_taken, moved_by, moved_where};
 
@@ -13,9 +13,8 @@ use crate::effects::{
 };
 use crate::operands::{exchange, give, take};
 use et_base::NoMemory;
-use et_event::{HeapRow, Operand};
+use et_event::{HeapRow, Operand, Place, class_operand, index_of, member_at};
 use et_flow::Types;
-use et_parts::{Place, class_operand, index_of, member_at};
 use et_pool::descriptor::is_field_descriptor;
 use et_pool::{Pool, kind_of};
 

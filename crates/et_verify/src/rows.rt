@@ -2,7 +2,7 @@
 ghost use Rattle.std.specs.Prelude.{◌≡◌, ℕ, List, ◌<◌, ◌^◌, ◌⊎◌, true, false, Some, None, IfOk};
 ghost use Rattle.et_event.specs.Sites.{Site, natural_of, pool_of_class};
 ghost use Rattle.et_event.specs.declared.rows.Row.TheVariants as rows;
-ghost use Rattle.et_parts.specs.Places.{is_frame, site_at};
+ghost use Rattle.et_event.specs.Places.{is_frame, site_at};
 ghost use Rattle.et_pool.specs.Operands.{return_of};
 ghost use Rattle.et_verify.specs.Calling.{returned_taken};
 ghost use Rattle.et_verify.specs.Steps.{locals_by, locals_after, operands_after, types_after};
@@ -15,9 +15,8 @@ use crate::stack::rearrange;
 use crate::steps::step_plain;
 use et_base::NoMemory;
 use et_code::Instr;
-use et_event::{CallRow, FrameRow, Operand, Row};
+use et_event::{CallRow, FrameRow, Operand, Place, Row};
 use et_flow::Types;
-use et_parts::Place;
 use et_pool::Returned;
 use et_program::Program;
 

@@ -7,8 +7,7 @@ ghost use Rattle.et_event.specs.Moments.{moment, begins, throws};
 ghost use Rattle.et_calls.specs.Fresh.{IsFresh};
 
 use et_base::{NoMemory, ThreadId};
-use et_event::GuestError;
-use et_parts::{class_called, make_instance};
+use et_event::{GuestError, class_called, make_instance};
 use et_program::Program;
 use et_state::{EventEnd, Lines, Machine};
 

@@ -1,7 +1,7 @@
 use Rattle.std.proofs.Common.{sym, ◌∙◌, ap, subst}
 use Rattle.et_base.specs.declared.value.Value.{Value}
 use Rattle.et_state.specs.Words.{top}
-use Rattle.et_parts.specs.Tops.{IsIn}
+use Rattle.et_event.specs.Tops.{IsIn}
 use Rattle.et_builtins.specs.Arguments.{arguments_in}
 use Rattle.et_builtins.proofs.Standing.{first_is, reference_in, reference_held, reference_there}
 use Rattle.et_builtins.proofs.arguments.receiver.Goals as goal

@@ -1,6 +1,6 @@
 use Rattle.std.proofs.Common.{◌≡◌, ℕ, Option, Some, None, refl, sym, ◌∙◌, ap}
 use Rattle.std.specs.Prelude.{Result}
-use Rattle.et_parts.specs.Places.{site_at}
+use Rattle.et_event.specs.Places.{site_at}
 use Rattle.et_event.specs.declared.errors.GuestError.{GuestError}
 use Rattle.et_program.specs.BuiltIns.{is_deferred}
 use Rattle.et_program.specs.Members.{kept}
@@ -10,7 +10,7 @@ use Rattle.et_builtins.specs.Plans.{resolving}
 use Rattle.et_builtins.proofs.Planning.{checks, fitted, fitted_method, found_by, invoke_is, selected_is}
 use Rattle.et_builtins.proofs.Choosing.{resolved_room}
 use Rattle.et_builtins.proofs.Shaping.{HasShape, passed_is, passing, shaped, typed_fitting, ill_called, none_selected}
-use Rattle.et_parts.proofs.SiteAnswers.{place_pool}
+use Rattle.et_event.proofs.SiteAnswers.{place_pool}
 use Rattle.et_builtins.proofs.plans.invoke_plan.Goals as goal
 use Rattle.et_event.specs.Moments.{moment}
 

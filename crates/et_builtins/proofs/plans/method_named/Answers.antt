@@ -1,4 +1,4 @@
-use Rattle.et_parts.specs.Places.{site_at}
+use Rattle.et_event.specs.Places.{site_at}
 use Rattle.et_builtins.proofs.Referred.{method_found, method_there}
 use Rattle.et_builtins.proofs.plans.method_named.Goals as goal
 

@@ -6,7 +6,7 @@ use Rattle.et_program.specs.declared.referring.NamedMethod.{NamedMethod}
 use Rattle.et_event.specs.declared.errors.GuestError.{GuestError}
 use Rattle.et_event.specs.Moments.{begins, throws}
 use Rattle.et_event.specs.Sites.{names_interface}
-use Rattle.et_parts.specs.Places.{site_at}
+use Rattle.et_event.specs.Places.{site_at}
 use Rattle.et_builtins.proofs.Referred.{going, finding, method_resolves, method_finds, method_same}
 use Rattle.et_builtins.proofs.plans.resolve.Goals as goal
 

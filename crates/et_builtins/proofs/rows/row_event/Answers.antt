@@ -1,6 +1,6 @@
 use Rattle.std.proofs.Common.{refl, sym, ◌∙◌}
 use Rattle.et_event.specs.Calls.{arguments_of}
-use Rattle.et_parts.proofs.Answering.{if_ok, ill_typed_answers}
+use Rattle.et_event.proofs.Answering.{if_ok, ill_typed_answers}
 use Rattle.et_event.specs.Moments.{moment}
 use Rattle.et_builtins.proofs.Selected.{fit_answers, unfit_answers}
 use Rattle.et_builtins.proofs.rows.row_event.Goals as goal

@@ -3,7 +3,7 @@ use Rattle.et_state.specs.Threads.{most_threads, thread_with}
 use Rattle.et_event.specs.BuiltIns.{answering, with_thread_for}
 use Rattle.et_event.specs.Calls.{arguments_of}
 use Rattle.et_event.specs.Moments.{moment, begins, goes}
-use Rattle.et_parts.proofs.Answering.{if_ok}
+use Rattle.et_event.proofs.Answering.{if_ok}
 use Rattle.et_builtins.proofs.Selected.{none_is, started_answers}
 use Rattle.et_builtins.proofs.rows.start_event.Goals as goal
 

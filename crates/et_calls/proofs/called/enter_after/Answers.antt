@@ -12,7 +12,7 @@ use Rattle.et_event.specs.Calls.{arguments_of, taking}
 use Rattle.et_event.specs.Frames.{enters_code}
 use Rattle.et_event.specs.Initialization.{is_ready, prepared}
 use Rattle.et_event.specs.Moments.{moment, begins, throws}
-use Rattle.et_parts.proofs.Answering.{if_ok}
+use Rattle.et_event.proofs.Answering.{if_ok}
 use Rattle.et_builtins.proofs.ByCode.{code_called}
 use Rattle.et_calls.proofs.CalledByCode.{error_by, none_called, one_ready, one_within}
 use Rattle.et_calls.proofs.Initial.{quiet_answers}

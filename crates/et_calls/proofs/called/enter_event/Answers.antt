@@ -5,7 +5,7 @@ use Rattle.et_state.specs.Outcome.{Outcome}
 use Rattle.et_state.specs.State.{Kept}
 use Rattle.et_event.specs.Answered.{EventAnswers}
 use Rattle.et_event.specs.Moments.{moment, begins}
-use Rattle.et_parts.proofs.Answering.{if_ok}
+use Rattle.et_event.proofs.Answering.{if_ok}
 use Rattle.et_builtins.proofs.ByCode.{code_called}
 use Rattle.et_calls.proofs.CalledByCode.{none_within}
 use Rattle.et_calls.proofs.Calling.{no_code_answers}

@@ -1,6 +1,6 @@
 use Rattle.std.proofs.Common.{sym, ◌∙◌}
 use Rattle.et_event.specs.Moments.{moment}
-use Rattle.et_parts.specs.Locks.{locks_of}
+use Rattle.et_event.specs.Locks.{locks_of}
 use Rattle.et_calls.specs.Entering.{entering_event, fitting_event}
 use Rattle.et_calls.proofs.FirstMethods.{alike, answers_alike}
 use Rattle.et_calls.proofs.EnteredFrames.{entered_lock, open_is, waits_is}

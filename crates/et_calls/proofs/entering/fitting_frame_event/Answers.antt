@@ -3,7 +3,7 @@ use Rattle.et_state.specs.Threads.{most_frames}
 use Rattle.et_state.specs.Words.{thread_at}
 use Rattle.et_state.specs.declared.ends.EventEnd.TheVariants as ends
 use Rattle.et_event.specs.Moments.{moment}
-use Rattle.et_parts.proofs.Answering.{if_ok}
+use Rattle.et_event.proofs.Answering.{if_ok}
 use Rattle.et_calls.specs.Entering.{pushed_event}
 use Rattle.et_calls.proofs.EnteredFrames.{fits_few, fits_full, full_frame, unfit}
 use Rattle.et_calls.proofs.entering.fitting_frame_event.Goals as goal

@@ -6,7 +6,7 @@ use Rattle.et_state.specs.Threads.{FrameState}
 use Rattle.et_state.specs.Words.{top}
 use Rattle.et_state.specs.declared.records.Record.TheVariants.{Enter}
 use Rattle.et_event.specs.Frames.{method_frame, receiver_of}
-use Rattle.et_parts.specs.Locks.{entering_some, locks_of}
+use Rattle.et_event.specs.Locks.{entering_some, locks_of}
 use Rattle.et_calls.specs.Entering.{arguments_passed, pushed_by}
 use Rattle.et_calls.proofs.EnteredFrames.{base_arguments, base_few, base_lock, base_passed, entered_lock, method_entered}
 use Rattle.et_calls.proofs.entering.push_event.Goals as goal

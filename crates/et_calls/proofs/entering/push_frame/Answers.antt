@@ -2,7 +2,7 @@ use Rattle.std.proofs.Common.{◌∙◌, ap}
 use Rattle.et_state.specs.NewFrames.{frame_with}
 use Rattle.et_state.specs.State.{MachineState}
 use Rattle.et_state.specs.Words.{top}
-use Rattle.et_parts.specs.Locks.{entering_some, locks_of}
+use Rattle.et_event.specs.Locks.{entering_some, locks_of}
 use Rattle.et_calls.specs.Entering.{arguments_passed}
 use Rattle.et_calls.proofs.Passed.{pushed_lock}
 use Rattle.et_calls.proofs.entering.push_frame.Goals as goal

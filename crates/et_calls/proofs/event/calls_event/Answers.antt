@@ -2,7 +2,7 @@ use Rattle.std.proofs.Common.{◌≡◌, None, ◌∙◌, sym}
 use Rattle.et_state.specs.declared.stage.Turn.TheVariants.{Entry, Initialize}
 use Rattle.et_state.specs.State.{kept_of}
 use Rattle.et_event.specs.Event.{event}
-use Rattle.et_parts.proofs.Answering.{if_ok}
+use Rattle.et_event.proofs.Answering.{if_ok}
 use Rattle.et_event.specs.Selected.{deferred_call}
 use Rattle.et_event.proofs.Deferrals.{answered, native_exactly, none_deferred}
 use Rattle.et_builtins.proofs.Deferring.{at_turn}

@@ -1,6 +1,6 @@
 use Rattle.std.proofs.Common.{ℕ, Option, subst}
 use Rattle.std.specs.Prelude.{IsSome}
-use Rattle.et_parts.proofs.Answering.{if_ok}
+use Rattle.et_event.proofs.Answering.{if_ok}
 use Rattle.et_builtins.proofs.Deferring.{at_place}
 use Rattle.et_calls.proofs.Told.{turn_answers}
 use Rattle.et_calls.proofs.event.instruction_event.Goals as goal

@@ -1,7 +1,7 @@
 use Rattle.et_event.specs.Moments.{begins}
 use Rattle.et_event.specs.Monitors.{left_some}
 use Rattle.et_state.specs.State.{kept_of}
-use Rattle.et_parts.specs.Locks.{locks_of}
+use Rattle.et_event.specs.Locks.{locks_of}
 use Rattle.et_calls.proofs.Leaving.{begun_left}
 use Rattle.et_calls.proofs.returns.begin_return.Goals as goal
 

@@ -8,7 +8,7 @@ use Rattle.et_state.specs.declared.records.Record.TheVariants.{Exit}
 use Rattle.et_event.specs.Calls.{class_done_by}
 use Rattle.et_event.specs.Moments.{moment, begins}
 use Rattle.et_event.specs.Monitors.{left_some}
-use Rattle.et_parts.specs.Locks.{locks_of}
+use Rattle.et_event.specs.Locks.{locks_of}
 use Rattle.et_calls.specs.Ways.{Came}
 use Rattle.et_calls.proofs.Leaving.{frame_left}
 use Rattle.et_calls.proofs.returns.leave_frame.Goals as goal

@@ -2,7 +2,7 @@ use Rattle.std.proofs.Common.{◌≡◌, Some, None, sym}
 use Rattle.et_state.specs.State.{kept_of}
 use Rattle.et_state.specs.Words.{top}
 use Rattle.et_event.specs.Sites.{running_method}
-use Rattle.et_parts.proofs.Answering.{if_ok}
+use Rattle.et_event.proofs.Answering.{if_ok}
 use Rattle.et_calls.specs.Returned.{returned_values}
 use Rattle.et_builtins.specs.Types.{returned_in}
 use Rattle.et_calls.proofs.Leaving.{fits_returned, refused_answers, returned_answers}

@@ -1,7 +1,7 @@
 use Rattle.std.proofs.Common.{ℕ, ◌<◌, length, subst}
 use Rattle.et_event.specs.Calls.{return as return_in_table}
 use Rattle.et_event.specs.Moments.{moment}
-use Rattle.et_parts.proofs.Answering.{if_ok}
+use Rattle.et_event.proofs.Answering.{if_ok}
 use Rattle.et_calls.proofs.Told.{named_within, never_native, same_native}
 use Rattle.et_calls.proofs.rows.call_event.Goals as goal
 

@@ -6,7 +6,7 @@ use Rattle.et_program.specs.declared.info.MethodInfo.{MethodInfo}
 use Rattle.et_event.specs.Initialization.{state_of}
 use Rattle.et_event.specs.Moments.{moment, begins}
 use Rattle.et_initialize.specs.Needs.{need_of}
-use Rattle.et_parts.proofs.Answering.{if_ok}
+use Rattle.et_event.proofs.Answering.{if_ok}
 use Rattle.et_calls.proofs.Initial.{begins_answers, loud_need, quiet_need}
 use Rattle.et_calls.proofs.rows.initialize_event.Goals as goal
 

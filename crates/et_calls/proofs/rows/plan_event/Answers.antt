@@ -1,6 +1,6 @@
 use Rattle.et_builtins.specs.declared.plans.CallPlan.TheVariants.{Waits, Initializes, Enters}
 use Rattle.et_event.specs.Moments.{moment}
-use Rattle.et_parts.proofs.Answering.{if_ok}
+use Rattle.et_event.proofs.Answering.{if_ok}
 use Rattle.et_calls.proofs.Initial.{plan_answers}
 use Rattle.et_calls.proofs.rows.plan_event.Goals as goal
 

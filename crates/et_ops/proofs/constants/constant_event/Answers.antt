@@ -4,7 +4,7 @@ use Rattle.et_state.specs.State.{kept_of}
 use Rattle.et_event.specs.Answered.{EventAnswers}
 use Rattle.et_event.specs.Plain.{constant}
 use Rattle.et_event.specs.Sites.{LoadedConstant}
-use Rattle.et_parts.proofs.Answering.{if_ok}
+use Rattle.et_event.proofs.Answering.{if_ok}
 use Rattle.et_ops.proofs.Loading.{at_string}
 use Rattle.et_ops.proofs.constants.constant_event.Goals as goal
 

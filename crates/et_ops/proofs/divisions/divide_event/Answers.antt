@@ -1,4 +1,4 @@
-use Rattle.et_parts.proofs.Answering.{if_ok}
+use Rattle.et_event.proofs.Answering.{if_ok}
 use Rattle.et_ops.proofs.Dividing.{division_refused, division_throws}
 use Rattle.et_ops.proofs.divisions.divide_event.Goals as goal
 

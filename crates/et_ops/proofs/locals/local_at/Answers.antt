@@ -1,7 +1,7 @@
 use Rattle.std.proofs.Common.{◌<◌, length, subst, rules, Contains}
 use Rattle.et_base.specs.declared.value.Value.{Value}
 use Rattle.et_heap.specs.Refs.{refs_of_value}
-use Rattle.et_parts.proofs.Groups.{local_is_in}
+use Rattle.et_event.proofs.Groups.{local_is_in}
 use Rattle.et_ops.proofs.locals.local_at.Goals as goal
 
 pub returns-then-i-locals-clause-there : goal.returns-then-i-locals-clause-there

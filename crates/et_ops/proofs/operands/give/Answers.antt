@@ -1,7 +1,7 @@
 use Rattle.std.proofs.Common.{◌≡◌, ◌+◌, ◌-◌, ◌<◌, ◌++◌, length, drop, ◌∙◌, ap, arith}
 use Rattle.std.proofs.lemmas.List.{length-append}
 use Rattle.et_state.specs.Running.{RunningState}
-use Rattle.et_parts.proofs.Taking.{length_dropped}
+use Rattle.et_event.proofs.Taking.{length_dropped}
 use Rattle.et_ops.proofs.InFrame.{given_one}
 use Rattle.et_ops.proofs.operands.give.Goals as goal
 

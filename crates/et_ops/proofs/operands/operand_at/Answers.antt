@@ -1,7 +1,7 @@
 use Rattle.std.proofs.Common.{◌<◌, length, subst, rules, Contains}
 use Rattle.et_base.specs.declared.value.Value.{Value}
 use Rattle.et_heap.specs.Refs.{refs_of_value}
-use Rattle.et_parts.proofs.Groups.{operand_is_in}
+use Rattle.et_event.proofs.Groups.{operand_is_in}
 use Rattle.et_ops.proofs.operands.operand_at.Goals as goal
 
 pub returns-then-k-depth-clause-there : goal.returns-then-k-depth-clause-there

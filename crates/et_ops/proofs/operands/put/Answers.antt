@@ -1,4 +1,4 @@
-use Rattle.et_parts.proofs.Taking.{are_in}
+use Rattle.et_event.proofs.Taking.{are_in}
 use Rattle.et_ops.proofs.InFrame.{replaced_steps}
 use Rattle.et_ops.proofs.operands.put.Goals as goal
 

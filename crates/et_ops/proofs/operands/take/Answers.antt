@@ -1,6 +1,6 @@
 use Rattle.std.proofs.Common.{◌≡◌, ◌+◌, ◌<◌, length, drop, ◌∙◌, ap, arith}
 use Rattle.et_state.specs.Running.{RunningState}
-use Rattle.et_parts.proofs.Taking.{length_dropped}
+use Rattle.et_event.proofs.Taking.{length_dropped}
 use Rattle.et_ops.proofs.InFrame.{taken_one}
 use Rattle.et_ops.proofs.operands.take.Goals as goal
 

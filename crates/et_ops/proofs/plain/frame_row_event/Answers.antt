@@ -1,7 +1,7 @@
 use Rattle.std.proofs.Common.{[], sym, subst}
 use Rattle.et_state.specs.State.{MachineState}
 use Rattle.et_state.specs.Words.{HasFrame}
-use Rattle.et_parts.proofs.Answering.{steps_same}
+use Rattle.et_event.proofs.Answering.{steps_same}
 use Rattle.et_ops.proofs.plain.frame_row_event.Goals as goal
 
 pub ill_typed-requires : goal.ill_typed-requires

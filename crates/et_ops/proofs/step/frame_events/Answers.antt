@@ -6,7 +6,7 @@ use Rattle.et_state.specs.Threads.{FrameState}
 use Rattle.et_state.specs.Words.{top}
 use Rattle.et_event.specs.FrameSteps.{AreFrameSteps}
 use Rattle.et_event.specs.Sites.{code_of_frame, present_body}
-use Rattle.et_parts.proofs.Running.{has_frame_there}
+use Rattle.et_event.proofs.Running.{has_frame_there}
 use Rattle.et_ops.proofs.Lifting.{passed_landed}
 use Rattle.et_ops.proofs.step.frame_events.Goals as goal
 

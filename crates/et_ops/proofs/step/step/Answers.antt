@@ -5,8 +5,8 @@ use Rattle.et_code.specs.Decoding.{instruction_at}
 use Rattle.et_event.specs.declared.rows.Row.TheVariants as row
 use Rattle.et_event.specs.declared.rows.FrameRow.{FrameRow}
 use Rattle.et_event.specs.Table.{row_of}
-use Rattle.et_parts.proofs.Constants.{at_end}
-use Rattle.et_parts.proofs.Rows.{switch}
+use Rattle.et_event.proofs.Constants.{at_end}
+use Rattle.et_event.proofs.FrameRows.{switch}
 use Rattle.et_ops.proofs.Stepping.{none_decoded}
 use Rattle.et_ops.proofs.step.step.Goals as goal
 

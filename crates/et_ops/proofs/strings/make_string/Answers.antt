@@ -3,7 +3,7 @@ use Rattle.et_state.specs.State.{MachineState, kept_of}
 use Rattle.std.specs.Prelude.{codes}
 use Rattle.et_event.specs.Errors.{class_called}
 use Rattle.et_event.specs.Moments.{begins, instance_made}
-use Rattle.et_parts.specs.Making.{MakesObject}
+use Rattle.et_event.specs.Making.{MakesObject}
 use Rattle.et_ops.proofs.Texts.{string_made, new_text}
 use Rattle.et_ops.proofs.strings.make_string.Goals as goal
 

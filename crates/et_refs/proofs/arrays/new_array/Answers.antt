@@ -4,7 +4,7 @@ use Rattle.et_state.specs.Words.{top}
 use Rattle.et_program.specs.Members.{base_array}
 use Rattle.et_event.specs.Heap.{new_array_of}
 use Rattle.et_event.specs.Sites.{natural_of}
-use Rattle.et_parts.specs.Places.{site_at}
+use Rattle.et_event.specs.Places.{site_at}
 use Rattle.et_event.specs.Moments.{moment}
 use Rattle.et_refs.specs.Changes.{new_array_outcome}
 use Rattle.et_refs.proofs.Chains.{refusing, makes_base, whatever}

@@ -1,4 +1,4 @@
-use Rattle.et_parts.specs.Places.{site_at}
+use Rattle.et_event.specs.Places.{site_at}
 use Rattle.et_refs.proofs.ReferredClasses.{class_entry}
 use Rattle.et_refs.proofs.casts.class_named.Goals as goal
 

@@ -1,7 +1,7 @@
 use Rattle.std.proofs.Common.{ℕ, Option, subst}
 use Rattle.et_event.specs.Moments.{moment, begins, array_made}
-use Rattle.et_parts.specs.Making.{MakesObject}
-use Rattle.et_parts.specs.Places.{site_at}
+use Rattle.et_event.specs.Making.{MakesObject}
+use Rattle.et_event.specs.Places.{site_at}
 use Rattle.et_refs.proofs.Ending.{make_answers}
 use Rattle.et_refs.proofs.changes.add_array.Goals as goal
 

@@ -1,5 +1,5 @@
 use Rattle.std.proofs.Common.{ℕ, ◌+◌, ap}
-use Rattle.et_parts.specs.Places.{site_at}
+use Rattle.et_event.specs.Places.{site_at}
 use Rattle.et_refs.proofs.Ending.{write_answers}
 use Rattle.et_refs.proofs.changes.write_slot.Goals as goal
 

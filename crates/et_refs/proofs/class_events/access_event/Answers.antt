@@ -3,7 +3,7 @@ use Rattle.et_state.specs.State.{Kept}
 use Rattle.et_state.specs.Outcome.{Outcome}
 use Rattle.et_event.specs.Answered.{EventAnswers}
 use Rattle.et_event.specs.Moments.{moment, begins}
-use Rattle.et_parts.specs.Places.{site_at}
+use Rattle.et_event.specs.Places.{site_at}
 use Rattle.et_refs.specs.Accesses.{access_outcome}
 use Rattle.et_initialize.proofs.Needing.{needs_met}
 use Rattle.et_refs.proofs.class_events.access_event.Goals as goal

@@ -1,5 +1,5 @@
 use Rattle.std.proofs.Common.{true}
-use Rattle.et_parts.specs.Places.{site_at}
+use Rattle.et_event.specs.Places.{site_at}
 use Rattle.et_initialize.proofs.Needing.{quiet}
 use Rattle.et_initialize.proofs.Stepping.{has_frame_on}
 use Rattle.et_refs.proofs.Carrying.{can_access, accessed_answers, base_threads}

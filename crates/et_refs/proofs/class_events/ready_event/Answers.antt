@@ -1,6 +1,6 @@
 use Rattle.std.proofs.Common.{◌∙◌, sym, append-nil}
 use Rattle.et_event.specs.Moments.{moment, begins}
-use Rattle.et_parts.specs.Places.{site_at}
+use Rattle.et_event.specs.Places.{site_at}
 use Rattle.et_refs.proofs.Carrying.{can_access, accessed_answers}
 use Rattle.et_refs.proofs.Quiet.{begun_initialized}
 use Rattle.et_refs.proofs.class_events.ready_event.Goals as goal

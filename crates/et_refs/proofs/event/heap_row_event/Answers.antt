@@ -10,9 +10,9 @@ use Rattle.et_event.specs.Out.{out_method}
 use Rattle.et_event.specs.declared.rows.HeapRow.{HeapRow}
 use Rattle.et_event.specs.declared.rows.Row.{Row}
 use Rattle.et_event.specs.declared.rows.Row.TheVariants.{Heap}
-use Rattle.et_parts.specs.Places.{site_at}
-use Rattle.et_parts.proofs.Answering.{if_ok}
-use Rattle.et_parts.proofs.SiteAnswers.{place_pool}
+use Rattle.et_event.specs.Places.{site_at}
+use Rattle.et_event.proofs.Answering.{if_ok}
+use Rattle.et_event.proofs.SiteAnswers.{place_pool}
 use Rattle.et_refs.specs.Accesses.{wanted_outcome}
 use Rattle.et_refs.specs.Rows.{is_get_static, plan_outcome}
 use Rattle.et_refs.specs.declared.rows.Plan.{Plan}

@@ -3,7 +3,7 @@ use Rattle.et_event.specs.Heap.{get_static}
 use Rattle.et_event.specs.Moments.{moment}
 use Rattle.et_event.specs.declared.rows.HeapRow.TheVariants.{GetStatic}
 use Rattle.et_event.specs.declared.rows.Row.TheVariants.{Heap}
-use Rattle.et_parts.specs.Places.{site_at}
+use Rattle.et_event.specs.Places.{site_at}
 use Rattle.et_refs.specs.Accesses.{wanted_outcome}
 use Rattle.et_refs.specs.Refusals.{refusal_outcome}
 use Rattle.et_refs.specs.StaticReads.{wanted_by}

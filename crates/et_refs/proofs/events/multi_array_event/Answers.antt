@@ -2,8 +2,8 @@ use Rattle.std.proofs.Common.{◌≡◌, ◌<◌, List, length, drop, sym, ◌�
 use Rattle.std.specs.Prelude.{ℤ}
 use Rattle.et_state.specs.State.{kept_of}
 use Rattle.et_state.specs.Words.{top}
-use Rattle.et_parts.specs.Places.{site_at}
-use Rattle.et_parts.proofs.SiteAnswers.{place_pool}
+use Rattle.et_event.specs.Places.{site_at}
+use Rattle.et_event.proofs.SiteAnswers.{place_pool}
 use Rattle.et_event.specs.Moments.{moment}
 use Rattle.et_event.specs.Sites.{natural_of}
 use Rattle.et_refs.specs.Events.{new_arrays_outcome}

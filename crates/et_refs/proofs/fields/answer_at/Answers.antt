@@ -1,4 +1,4 @@
-use Rattle.et_parts.specs.Places.{site_at}
+use Rattle.et_event.specs.Places.{site_at}
 use Rattle.et_refs.proofs.Referred.{field_found, field_there}
 use Rattle.et_refs.proofs.fields.answer_at.Goals as goal
 

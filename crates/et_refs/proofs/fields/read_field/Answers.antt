@@ -5,7 +5,7 @@ use Rattle.et_event.specs.Moments.{moment, begins, goes}
 use Rattle.et_event.specs.Checks.{entries_of}
 use Rattle.et_event.specs.Heap.{leaving_values}
 use Rattle.et_program.specs.Resolved.{shown_names}
-use Rattle.et_parts.specs.Places.{site_at}
+use Rattle.et_event.specs.Places.{site_at}
 use Rattle.et_refs.specs.Changes.{exchange_outcome}
 use Rattle.et_refs.proofs.Chains.{refusing, gets, gets_fitting, gets_slot, got}
 use Rattle.et_refs.proofs.fields.read_field.Goals as goal

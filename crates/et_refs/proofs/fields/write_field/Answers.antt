@@ -5,7 +5,7 @@ use Rattle.et_state.specs.Words.{top}
 use Rattle.et_event.specs.Moments.{moment, begins, slot_written, goes}
 use Rattle.et_event.specs.Heap.{leaving_values}
 use Rattle.et_program.specs.Resolved.{shown_names}
-use Rattle.et_parts.specs.Places.{site_at}
+use Rattle.et_event.specs.Places.{site_at}
 use Rattle.et_refs.specs.Changes.{store_outcome}
 use Rattle.et_refs.proofs.Chains.{refusing, puts, puts_value, puts_slot, put}
 use Rattle.et_refs.proofs.Reading.{kept_refers}

@@ -3,7 +3,7 @@ use Rattle.et_state.specs.State.{kept_of}
 use Rattle.et_event.specs.declared.errors.GuestError.TheVariants.{InstantiationError}
 use Rattle.et_event.specs.Checks.{throws_unless}
 use Rattle.et_event.specs.Moments.{moment, begins}
-use Rattle.et_parts.specs.Places.{site_at}
+use Rattle.et_event.specs.Places.{site_at}
 use Rattle.et_refs.proofs.Chains.{refusing}
 use Rattle.et_refs.specs.Accesses.{wanted_outcome}
 use Rattle.et_refs.proofs.ClassChains.{made_of, makes_class, makes_named, makes_fitting}

@@ -6,8 +6,8 @@ use Rattle.et_state.specs.State.{Kept, kept_of}
 use Rattle.et_event.specs.Answered.{EventAnswers}
 use Rattle.et_event.specs.Moments.{begins, moment}
 use Rattle.et_event.proofs.OutTurns.{out_instructs}
-use Rattle.et_parts.specs.Places.{site_at}
-use Rattle.et_parts.proofs.Answering.{if_ok}
+use Rattle.et_event.specs.Places.{site_at}
+use Rattle.et_event.proofs.Answering.{if_ok}
 use Rattle.et_refs.specs.Accesses.{access_outcome}
 use Rattle.et_refs.specs.StaticReads.{out_slot}
 use Rattle.et_refs.specs.declared.accesses.Wanted.{Wanted}

@@ -7,7 +7,7 @@ use Rattle.et_state.specs.State.{kept_of}
 use Rattle.et_state.specs.Threads.{FrameState}
 use Rattle.et_state.specs.Words.{top}
 use Rattle.et_event.specs.Sites.{code_of_frame, present_body, running_method}
-use Rattle.et_parts.proofs.Running.{runs_there}
+use Rattle.et_event.proofs.Running.{runs_there}
 use Rattle.et_run.proofs.TurnFamilies.{byte_family, end_family}
 use Rattle.et_run.proofs.families.instruction_family.Goals as goal
 

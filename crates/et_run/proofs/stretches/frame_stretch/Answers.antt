@@ -1,6 +1,6 @@
 use Rattle.std.proofs.Common.{sym, ◌∙◌, arith}
 use Rattle.et_state.proofs.Places.{top_root}
-use Rattle.et_parts.proofs.Running.{has_frame_there}
+use Rattle.et_event.proofs.Running.{has_frame_there}
 use Rattle.et_history.proofs.Unended.{unended_thread}
 use Rattle.et_run.proofs.Flushing.{machine_sound}
 use Rattle.et_run.proofs.QuietFrames.{ran_on, ran_quietly, ran_soundly}

@@ -15,7 +15,7 @@ use Rattle.et_event.specs.Event.{event}
 use Rattle.et_event.specs.Out.{out_method}
 use Rattle.et_event.specs.Selected.{deferred_call}
 use Rattle.et_event.proofs.Deferrals.{answered, none_deferred}
-use Rattle.et_parts.proofs.Answering.{if_ok}
+use Rattle.et_event.proofs.Answering.{if_ok}
 use Rattle.et_run.specs.WithTexts.{text_turn}
 use Rattle.et_run.proofs.TextTurns.{called, called_other, call_unread, text_deferred}
 use Rattle.et_run.proofs.turns.call_turn_event.Goals as goal

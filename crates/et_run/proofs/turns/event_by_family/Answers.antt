@@ -3,7 +3,7 @@ use Rattle.et_state.specs.State.{Kept, kept_of}
 use Rattle.et_event.specs.Event.{event}
 use Rattle.et_event.specs.declared.families.Family.TheVariants.{Ops, Throw, Sync}
 use Rattle.et_event.proofs.Deferrals.{answered, none_deferred}
-use Rattle.et_parts.proofs.Answering.{if_ok}
+use Rattle.et_event.proofs.Answering.{if_ok}
 use Rattle.et_run.specs.WithTexts.{text_turn}
 use Rattle.et_run.proofs.TextTurns.{other_family, heap_answers, heap_read}
 use Rattle.et_run.proofs.turns.event_by_family.Goals as goal

@@ -13,7 +13,7 @@ use Rattle.et_event.specs.SoundTexts.{HasSoundTexts}
 use Rattle.et_event.specs.Out.{out_turn}
 use Rattle.et_event.specs.Selected.{text_call}
 use Rattle.et_event.specs.Told.{event_with_texts, said_by}
-use Rattle.et_parts.proofs.Answering.{if_ok}
+use Rattle.et_event.proofs.Answering.{if_ok}
 use Rattle.et_run.specs.WithTexts.{state_of, text_turn}
 use Rattle.et_run.proofs.Answering.{on_ok, sound_after, texts_after, unended_with}
 use Rattle.et_run.proofs.Flushing.{machine_sound}

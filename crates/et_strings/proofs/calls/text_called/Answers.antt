@@ -3,7 +3,7 @@ use Rattle.et_event.specs.Calls.{arguments_of}
 use Rattle.et_event.specs.Frames.{first_reference}
 use Rattle.et_event.specs.Moments.{moment}
 use Rattle.et_event.specs.Selected.{passed_at}
-use Rattle.et_parts.specs.Places.{site_at}
+use Rattle.et_event.specs.Places.{site_at}
 use Rattle.et_strings.proofs.Calling.{call_is, invoked_receives, method_called, no_text_method, none_there, passes}
 use Rattle.et_strings.proofs.Room.{texts_fit}
 use Rattle.et_strings.proofs.calls.text_called.Goals as goal

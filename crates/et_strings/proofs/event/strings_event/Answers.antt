@@ -7,11 +7,11 @@ use Rattle.et_event.specs.declared.rows.CallKind.{CallKind}
 use Rattle.et_event.specs.declared.rows.CallRow.TheVariants.{Invoke}
 use Rattle.et_event.specs.declared.rows.Row.{Row}
 use Rattle.et_event.specs.declared.rows.Row.TheVariants as rows
-use Rattle.et_parts.specs.Places.{IsPlace, site_at}
-use Rattle.et_parts.specs.declared.places.Place.{Place}
+use Rattle.et_event.specs.Places.{IsPlace, site_at}
+use Rattle.et_event.specs.declared.places.Place.{Place}
 use Rattle.et_program.specs.Entries.{Linked}
-use Rattle.et_parts.proofs.Answering.{if_ok}
-use Rattle.et_parts.proofs.Running.{has_frame_there}
+use Rattle.et_event.proofs.Answering.{if_ok}
+use Rattle.et_event.proofs.Running.{has_frame_there}
 use Rattle.et_state.specs.Answers.{SaysWhereDone}
 use Rattle.et_state.specs.Outcome.{Outcome}
 use Rattle.et_state.specs.State.{Kept, MachineState, kept_of}

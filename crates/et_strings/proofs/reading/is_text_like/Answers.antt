@@ -1,7 +1,7 @@
 use Rattle.et_base.proofs.Lists.{Contains-here}
 use Rattle.std.proofs.Common.{[], subst, sym}
 use Rattle.et_base.specs.declared.value.Value.{Value}
-use Rattle.et_parts.specs.Tops.{IsIn}
+use Rattle.et_event.specs.Tops.{IsIn}
 use Rattle.et_heap.specs.Objects.{IsHeld}
 use Rattle.et_state.specs.State.{MachineState}
 use Rattle.et_state.proofs.Places.{top_root}

@@ -2,7 +2,7 @@ use Rattle.std.proofs.Common.{◌≡◌, arith, length, of_z, rules, SFits, to_z
 use Rattle.std.specs.Fmt.{signed_decimal}
 use Rattle.std.specs.Int.{w64}
 use Rattle.et_event.specs.TextRows.{shown}
-use Rattle.et_parts.proofs.Answering.{if_ok}
+use Rattle.et_event.proofs.Answering.{if_ok}
 use Rattle.et_pool.specs.Text.{units_of}
 use Rattle.et_state.specs.Spoken.{spoken}
 use Rattle.et_state.specs.State.{kept_of}

@@ -3,7 +3,7 @@ use Rattle.et_base.specs.declared.value.Value.TheVariants.{Ref}
 use Rattle.et_event.specs.BuiltIns.{argument}
 use Rattle.et_event.specs.Calls.{arguments_of}
 use Rattle.et_event.specs.TextRows.{shown}
-use Rattle.et_parts.proofs.Answering.{if_ok}
+use Rattle.et_event.proofs.Answering.{if_ok}
 use Rattle.et_state.specs.Spoken.{text_of}
 use Rattle.et_state.specs.Texts.{longest_text, text_units, most_units, with_text}
 use Rattle.et_strings.specs.Calls.{text_moment}

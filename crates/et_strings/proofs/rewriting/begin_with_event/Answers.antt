@@ -6,7 +6,7 @@ use Rattle.et_event.specs.Calls.{arguments_of}
 use Rattle.et_event.specs.Moments.{begins}
 use Rattle.et_event.specs.declared.errors.GuestError.TheVariants.{NullPointerException}
 use Rattle.et_heap.specs.Objects.{referent_of}
-use Rattle.et_parts.proofs.Answering.{if_ok}
+use Rattle.et_event.proofs.Answering.{if_ok}
 use Rattle.et_state.specs.Outcome.{Outcome}
 use Rattle.et_state.specs.Spoken.{text_of}
 use Rattle.et_state.specs.State.{Kept}

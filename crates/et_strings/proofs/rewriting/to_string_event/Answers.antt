@@ -2,7 +2,7 @@ use Rattle.std.proofs.Common.{◌≡◌, ℕ, ◌<◌, ◌≤◌, List, Option, 
 use Rattle.std.specs.Prelude.{codes}
 use Rattle.et_event.specs.Errors.{class_called}
 use Rattle.et_event.specs.Moments.{begins, instance_made, moment}
-use Rattle.et_parts.specs.Making.{MakesObject}
+use Rattle.et_event.specs.Making.{MakesObject}
 use Rattle.et_program.specs.Entries.{Linked, class_at}
 use Rattle.et_state.specs.Spoken.{text_of}
 use Rattle.et_state.specs.State.{MachineState}

@@ -1,5 +1,5 @@
 use Rattle.std.proofs.Common.{sym, subst}
-use Rattle.et_parts.proofs.Answering.{if_ok}
+use Rattle.et_event.proofs.Answering.{if_ok}
 use Rattle.et_program.specs.BootTexts.TextMethod.{TextMethod}
 use Rattle.et_program.specs.BootTexts.TextMethod.TheVariants.{Print, PrintLine, EndLine}
 use Rattle.et_strings.specs.Calls.{AnswersText}

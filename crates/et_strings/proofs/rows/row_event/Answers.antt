@@ -1,5 +1,5 @@
 use Rattle.std.proofs.Common.{sym, ◌∙◌}
-use Rattle.et_parts.proofs.Answering.{if_ok}
+use Rattle.et_event.proofs.Answering.{if_ok}
 use Rattle.et_strings.proofs.Saying.{refused-says, row-done, row-refused}
 use Rattle.et_strings.proofs.rows.row_event.Goals as goal
 

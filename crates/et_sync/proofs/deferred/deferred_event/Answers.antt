@@ -3,8 +3,8 @@ use Rattle.et_state.specs.Outcome.{Outcome}
 use Rattle.et_state.specs.State.{Kept}
 use Rattle.et_event.specs.Answered.{EventAnswers}
 use Rattle.et_event.specs.Moments.{moment}
-use Rattle.et_parts.specs.Places.{site_at}
-use Rattle.et_parts.proofs.Answering.{if_ok}
+use Rattle.et_event.specs.Places.{site_at}
+use Rattle.et_event.proofs.Answering.{if_ok}
 use Rattle.et_sync.proofs.DeferredCalls.{invoke_is}
 use Rattle.et_sync.proofs.deferred.deferred_event.Goals as goal
 

@@ -1,6 +1,6 @@
 use Rattle.std.proofs.Common.{◌≡◌, false, rules}
 use Rattle.et_event.specs.Monitors.{OfObject}
-use Rattle.et_parts.specs.Locks.{may_enter_at}
+use Rattle.et_event.specs.Locks.{may_enter_at}
 use Rattle.et_sync.proofs.Monitored.{waited_answers}
 use Rattle.et_sync.proofs.monitoring.monitorenter.Goals as goal
 

@@ -1,5 +1,5 @@
 use Rattle.std.proofs.Common.{rules}
-use Rattle.et_parts.specs.Locks.{locks_of}
+use Rattle.et_event.specs.Locks.{locks_of}
 use Rattle.et_throw.proofs.Dropped.{unwound_answers}
 use Rattle.et_throw.proofs.unwinding.unwind_frame.Goals as goal
 

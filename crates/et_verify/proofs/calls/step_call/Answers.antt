@@ -1,6 +1,6 @@
 use Rattle.std.proofs.Common.{Bool, ap, sym, ◌∙◌}
 use Rattle.et_event.specs.Calls.{is_static_call}
-use Rattle.et_parts.specs.Places.{site_at}
+use Rattle.et_event.specs.Places.{site_at}
 use Rattle.et_verify.specs.Calling.{called}
 use Rattle.et_verify.proofs.Invoked.{call_shaped}
 use Rattle.et_verify.proofs.calls.step_call.Goals as goal

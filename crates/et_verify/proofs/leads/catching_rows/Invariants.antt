@@ -2,7 +2,7 @@
 use Rattle.std.proofs.Common.{◌≡◌, ◌++◌, drop}
 use Rattle.std.specs.Prelude.{filter}
 use Rattle.std.specs.Option.{option_copied}
-use Rattle.et_parts.specs.Pools.{pool_slots}
+use Rattle.et_event.specs.Pools.{pool_slots}
 use Rattle.et_verify.specs.Leads.{may_catch}
 use Rattle.et_verify.proofs.leads.catching_rows.Given as goal
 

@@ -5,8 +5,8 @@ use Rattle.et_class.specs.Entries.{Item}
 use Rattle.et_program.specs.Entries.{method_at}
 use Rattle.et_program.specs.declared.info.MethodInfo.{MethodInfo}
 use Rattle.et_event.specs.Sites.{pool_of_class}
-use Rattle.et_parts.specs.Pools.{pool_slots}
-use Rattle.et_parts.proofs.Placing.{pool_found}
+use Rattle.et_event.specs.Pools.{pool_slots}
+use Rattle.et_event.proofs.Placing.{pool_found}
 use Rattle.et_verify.specs.Leads.{may_catch}
 use Rattle.et_class.specs.Operands.{operand_kind}
 use Rattle.et_class.specs.PoolOperands.Operand.{Operand}

@@ -7,9 +7,9 @@ use Rattle.et_code.proofs.Decoded.{decoded_fits}
 use Rattle.et_program.specs.Entries.{method_at}
 use Rattle.et_program.specs.declared.info.MethodInfo.{MethodInfo}
 use Rattle.et_event.specs.Table.{row_of}
-use Rattle.et_parts.specs.Pools.{pool_slots}
-use Rattle.et_parts.proofs.Constants.{index_small}
-use Rattle.et_parts.proofs.Placing.{pool_found}
+use Rattle.et_event.specs.Pools.{pool_slots}
+use Rattle.et_event.proofs.Constants.{index_small}
+use Rattle.et_event.proofs.Placing.{pool_found}
 use Rattle.et_verify.proofs.Methods.{site_here}
 use Rattle.et_verify.proofs.Entries.{is_ok}
 use Rattle.et_verify.proofs.method.place_at.Goals as goal

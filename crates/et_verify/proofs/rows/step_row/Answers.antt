@@ -1,6 +1,6 @@
 use Rattle.std.proofs.Common.{◌≡◌, Some, refl, sym, subst}
 use Rattle.et_event.specs.declared.rows.Row.{Row}
-use Rattle.et_parts.specs.Places.{site_at}
+use Rattle.et_event.specs.Places.{site_at}
 use Rattle.et_verify.specs.Steps.{operands_after, locals_after}
 use Rattle.et_verify.proofs.rows.step_row.Goals as goal
 

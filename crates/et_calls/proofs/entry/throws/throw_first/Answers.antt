@@ -3,7 +3,7 @@ use Rattle.et_program.specs.BootNames.{built_in_class_name}
 use Rattle.et_program.specs.BootNamed.BuiltInClass.{BuiltInClass}
 use Rattle.et_event.specs.Errors.{class_called}
 use Rattle.et_event.specs.Moments.{moment, begins, instance_made}
-use Rattle.et_parts.specs.Making.{MakesObject}
+use Rattle.et_event.specs.Making.{MakesObject}
 use Rattle.et_calls.proofs.Thrown.{thrown_answers}
 use Rattle.et_calls.proofs.entry.throws.throw_first.Goals as goal
 

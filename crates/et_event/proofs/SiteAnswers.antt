@@ -1,0 +1,41 @@
+-- What the table says of a turn, by the place at which the thread stands.
+use Rattle.std.proofs.Common.{◌≡◌, ℕ, Option, Some, None, sym, ap, ◌∙◌}
+use Rattle.std.specs.Prelude.{Result, Ok, Err, IfSome, IfNone}
+use Rattle.et_code.specs.declared.instr.Instr.{Instr}
+use Rattle.et_code.specs.declared.instr.CodeFault.{CodeFault}
+use Rattle.et_program.specs.Entries.{Linked}
+use Rattle.et_state.specs.State.{Kept}
+use Rattle.et_state.specs.Threads.{FrameState}
+use Rattle.et_state.specs.Words.{top}
+use Rattle.et_event.specs.Event.{event, does}
+use Rattle.et_event.specs.Moments.{Moment, ill_typed}
+use Rattle.et_event.specs.Sites.{Site, site_of, decoded_at, pool_of_class}
+use Rattle.et_event.specs.Table.{row_of}
+use Rattle.et_event.specs.declared.places.Place.{Place}
+use Rattle.et_event.specs.Families.{row_at}
+use Rattle.et_event.specs.Places.{IsPlace, site_at}
+
+pub if_some : {A : Type 0} {P Q : A → Type 0} → (o : Option A) → ((a : A) → P a → Q a) → IfSome o P → IfSome o Q
+if_some None f h = tt
+if_some (Some a) f h = f a h
+
+pub if_none : {A : Type 0} {P Q : Type 0} → (o : Option A) → (P → Q) → IfNone o P → IfNone o Q
+if_none None f h = f h
+if_none (Some a) f h = tt
+
+abbrev pub moment : Linked → Kept → ℕ → Moment
+moment p s t = record { program = p; before = s; thread = t }
+
+pub at_place : (p : Linked) (s : Kept) (t : ℕ) (place : Place) → IsPlace p (top s.guest t) place
+    → event p s t ≡ does (moment p s t) (site_of p (top s.guest t) (place.instr, place.next)) place.row → event p s t ≡ does (moment p s t) (site_at place) place.row
+at_place p s t place is law = law ∙ ap (λ (at : Site). does (moment p s t) at place.row) (sym is.site)
+
+pub at_none : (p : Linked) (s : Kept) (t : ℕ) → ((x : Instr × ℕ) → decoded_at p (top s.guest t) ≡ Ok x → row_of x.0.opcode ≡ None → event p s t ≡ ill_typed (moment p s t))
+    → ((fault : CodeFault) → decoded_at p (top s.guest t) ≡ Err fault → event p s t ≡ ill_typed (moment p s t))
+    → (d : Result (Instr × ℕ) CodeFault) → decoded_at p (top s.guest t) ≡ d → row_at d ≡ None → event p s t ≡ ill_typed (moment p s t)
+at_none p s t no_row ended (Ok x) e r = no_row x e r
+at_none p s t no_row ended (Err fault) e r = ended fault e
+
+-- the pool of a place is that of its class
+pub place_pool : (p : Linked) (f : FrameState) (place : Place) → IsPlace p f place → (site_at place).pool ≡ pool_of_class p place.class
+place_pool p f place is = ap (λ (at : Site). at.pool) is.site ∙ ap (pool_of_class p) (sym (ap (λ (at : Site). at.class) is.site))

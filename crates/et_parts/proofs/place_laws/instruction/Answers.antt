@@ -1,5 +1,0 @@
-use Rattle.et_parts.proofs.Instructions.{with_row, without_row, at_end}
-use Rattle.et_parts.proofs.place_laws.instruction.Goals as goal
-
-pub returns : goal.returns
-returns c = record { row = with_row; no_row = without_row; end = at_end }

@@ -1,5 +1,0 @@
-pub mod Tops
-pub mod Making
-pub mod Places
-pub mod Pools
-pub mod Locks
