@@ -25,3 +25,4 @@ pub mod Runs
 pub mod PoolWords
 pub mod ArrayWords
 pub mod ShortNames
+pub mod texts

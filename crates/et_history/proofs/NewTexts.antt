@@ -26,7 +26,7 @@ use Rattle.et_event.specs.Sites.{Site, natural_of}
 use Rattle.et_event.specs.TextRows.{ends_with_texts, is_fit_text, is_text_like, rewrites, shown, text_done, text_given, text_row}
 use Rattle.et_event.specs.Told.{event_with_texts, keeping}
 use Rattle.et_event.specs.declared.errors.GuestError.TheVariants.{OutOfMemoryError, StringIndexOutOfBoundsException}
-use Rattle.et_spoken.proofs.Events.{each_way, moment}
+use Rattle.et_history.proofs.texts.Events.{each_way, moment}
 use Rattle.et_history.specs.Reaching.{AreReachedFrom, ReachesNew}
 use Rattle.et_history.proofs.NewRows.{Starts, done_new, ended_new, on_top_reached}
 use Rattle.et_history.proofs.NewStrings.{first}

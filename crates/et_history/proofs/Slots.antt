@@ -31,9 +31,9 @@ use Rattle.et_event.specs.Start.{start_records}
 use Rattle.et_walk.specs.Changing.{KeepsMonitors}
 use Rattle.et_walk.specs.Records.{AreRecordsOf, HasPlainStrings, TellsObjects, next_after}
 use Rattle.et_walk.specs.Writes.{HasCause, IsAtHand, IsOfReached, TellWrites, WritesToReached, after_record, is_out_slot, reference_at}
-use Rattle.et_spoken.specs.Writing.{TellsOtherWrites, reference_told}
-use Rattle.et_spoken.proofs.Events.{event_tells_objects as event_tells, event_writes_to_what_is_reached as event_writes_to_reached}
-use Rattle.et_spoken.proofs.Writing.{event_tells_other_writes, told_is, told_there}
+use Rattle.et_history.specs.texts.Writing.{TellsOtherWrites, reference_told}
+use Rattle.et_history.proofs.texts.Events.{event_tells_objects as event_tells, event_writes_to_what_is_reached as event_writes_to_reached}
+use Rattle.et_history.proofs.texts.Writing.{event_tells_other_writes, told_is, told_there}
 use Rattle.et_history.specs.Histories.{picked, whole_at, whole_picked, whole_settled_at, IsHistory, WholeComesTo}
 use Rattle.et_history.specs.Settings.{unended_threads}
 use Rattle.et_history.specs.Slots.{IsOfEvent, after_records, told_by}

@@ -48,7 +48,7 @@ use Rattle.et_history.specs.Histories.{picked, state_at, settled_at, moment_at, 
 use Rattle.et_history.specs.Same.{TellsTheSame, IsHere}
 use Rattle.et_history.specs.Whole.{beside, cleared, whole_event, whole_flushed, whole_setting, whole_start, whole_visits_of, whole_said}
 use Rattle.et_history.proofs.Alike.{is_open, settled_alike, LooksAlike, LeadsAlike, IsTurn, Mirrors, all_alike, looks_alike, last_alike, deaths_alike, lines_alike, trace_alike, last_there, last_back, goes_back, allowed_alike, cut_alike, said_alike, cut_said_alike}
-use Rattle.et_spoken.proofs.Events.{event_with_texts_keeps_monitors as event_keeps_monitors, event_with_texts_leads_to_sound as event_leads_to_sound}
+use Rattle.et_history.proofs.texts.Events.{event_with_texts_keeps_monitors as event_keeps_monitors, event_with_texts_leads_to_sound as event_leads_to_sound}
 use Rattle.et_history.proofs.Unended.{unended_thread}
 
 -- THE GRAPHS

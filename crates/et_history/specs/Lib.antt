@@ -8,3 +8,4 @@ pub mod Slots
 pub mod Allocations
 pub mod Ends
 pub mod Waiting
+pub mod texts

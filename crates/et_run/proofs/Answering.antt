@@ -16,7 +16,7 @@ use Rattle.et_state.specs.Outcome as outcome
 use Rattle.et_event.specs.Answered.{TextAnswers}
 use Rattle.et_event.specs.Sound.{IsSoundFor}
 use Rattle.et_event.specs.SoundTexts.{HasSoundTexts}
-use Rattle.et_spoken.specs.Texts.{LeadsToSoundTexts}
+use Rattle.et_history.specs.texts.Texts.{LeadsToSoundTexts}
 use Rattle.et_loop.specs.Kept.{IsStepTo}
 use Rattle.et_loop.specs.Stamping.{StepsWhereDone}
 use Rattle.et_state.specs.Moves.{Led}

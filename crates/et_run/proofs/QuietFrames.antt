@@ -36,7 +36,7 @@ use Rattle.et_event.proofs.Told.{of-table}
 use Rattle.et_event.proofs.FrameEvents.{frame_event, frame_led}
 use Rattle.et_event.proofs.Running.{has_frame_there}
 use Rattle.et_walk.specs.Changing.{LeadsToSound}
-use Rattle.et_spoken.specs.Texts.{LeadsToSoundTexts}
+use Rattle.et_history.specs.texts.Texts.{LeadsToSoundTexts}
 use Rattle.et_history.specs.Settings.{IsSoundRun, unended_threads}
 use Rattle.et_loop.specs.Kept.{IsStepTo}
 use Rattle.et_loop.specs.Quiet.{AreQuiet, IsQuiet}

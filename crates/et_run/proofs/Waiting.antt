@@ -42,7 +42,7 @@ use Rattle.et_event.proofs.OutTurns.{out_at_turn}
 use Rattle.et_event.proofs.Told.{of-table}
 use Rattle.et_event.proofs.SiteAnswers.{moment}
 use Rattle.et_walk.specs.Changing.{KeepsMonitors, LeadsToSound}
-use Rattle.et_spoken.specs.Texts.{LeadsToSoundTexts}
+use Rattle.et_history.specs.texts.Texts.{LeadsToSoundTexts}
 use Rattle.et_history.specs.Settings.{IsSoundRun, unended_threads}
 use Rattle.et_loop.specs.Kept.{IsStepTo}
 use Rattle.et_loop.specs.Quiet.{AreQuiet}

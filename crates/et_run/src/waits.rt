@@ -14,8 +14,8 @@ ghost use Rattle.et_state.specs.Words.{IsUnended};
 use crate::with_texts::MachineWithTexts;
 use et_base::ThreadId;
 use et_event::{MonitorRow, Row, place_of};
+use et_history::spoken_laws::{events_lead_to_sound_states, texts_stay_sound};
 use et_program::Program;
-use et_spoken::laws::{events_lead_to_sound_states, texts_stay_sound};
 use et_state::{EventEnd, Machine, Turn};
 
 /// Whether a thread stands at a `monitorenter`.

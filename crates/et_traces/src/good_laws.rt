@@ -29,8 +29,8 @@ use et_history::laws::histories_tell_the_same;
 use et_history::object_laws::objects_are_reached_as_made;
 use et_history::record_laws::programs_have_sizes;
 use et_history::run_laws::linked_programs_run_soundly;
+use et_history::spoken_laws::{events_are_told, events_keep_monitors, events_tell_objects};
 use et_linked::run_laws::files_keep_rules;
-use et_spoken::laws::{events_are_told, events_keep_monitors, events_tell_objects};
 use et_text::laws::{good_lists_differ, good_texts_have_no_fault};
 
 /// The trace of every history of a program that a trace can tell of is a good list, of the version of its format, over every

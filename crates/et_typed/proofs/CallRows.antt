@@ -57,7 +57,7 @@ use Rattle.et_typed.specs.Typed.{AreTypedFrames, AreTypings, Holds, HoldsBelow, 
 use Rattle.et_typed.specs.Values.{AreLocalsOf, AreOperandsOf}
 use Rattle.et_typed.proofs.Arguments.{Passes, arguments_are, passed}
 use Rattle.et_typed.proofs.Here.{Here, never_refused, there_holds, unless_refused}
-use Rattle.et_spoken.proofs.Called.{result_some}
+use Rattle.et_history.proofs.texts.Called.{result_some}
 use Rattle.et_typed.proofs.Moves.{width_is}
 use Rattle.et_typed.proofs.Own.{AsBefore, LeavesTyped, Own, ends_leave, first_typed, same_thread, started_still, thread_own}
 use Rattle.et_typed.proofs.Plain.{MovesAs, moves_as}

@@ -12,7 +12,7 @@ use Rattle.et_event.specs.declared.rows.CallKind.{CallKind}
 use Rattle.et_event.specs.declared.rows.CallKind.TheVariants.{Interface, Special, Static, Virtual}
 use Rattle.et_program.specs.Entries.{is_static}
 use Rattle.et_program.specs.Resolution.{resolve_class, resolve_method, select, select_special}
-use Rattle.et_spoken.proofs.Called.{and_then_some, if_some, result_some}
+use Rattle.et_history.proofs.texts.Called.{and_then_some, if_some, result_some}
 use Rattle.et_typed.specs.Refused.{selected}
 
 pub record Chosen (e : Moment) (at : Site) (kind : CallKind) (named : Member) (arguments : List Value) (k : ℕ) : Type 0 where

@@ -23,9 +23,9 @@ use Rattle.et_event.specs.declared.rows.HeapRow.TheVariants as heap
 use Rattle.et_event.specs.declared.rows.Row.{Row}
 use Rattle.et_event.specs.declared.rows.Row.TheVariants as rows
 use Rattle.et_program.specs.Entries.{Linked}
-use Rattle.et_spoken.proofs.Called.{IsTextCall, text_called}
-use Rattle.et_spoken.proofs.Events.{by_rows, each_way}
-use Rattle.et_spoken.proofs.Out.{LeadsOut, with_statics}
+use Rattle.et_history.proofs.texts.Called.{IsTextCall, text_called}
+use Rattle.et_history.proofs.texts.Events.{by_rows, each_way}
+use Rattle.et_history.proofs.texts.Out.{LeadsOut, with_statics}
 use Rattle.et_state.specs.Outcome.{Outcome}
 use Rattle.et_state.specs.Outcome as outcome
 use Rattle.et_state.specs.Spoken.{silent, spoken}

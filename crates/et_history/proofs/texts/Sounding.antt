@@ -38,8 +38,8 @@ use Rattle.et_sound.specs.WellFormed.{IsUnderWayAt, IsWellFormed, StandsAt}
 use Rattle.et_sound.proofs.Arguments.{AreArguments, arguments_are}
 use Rattle.et_sound.proofs.Fields.{going, leaving_well}
 use Rattle.et_sound.proofs.Outcomes.{goes_sound, instance_well, throws_sound}
-use Rattle.et_spoken.proofs.Called.{IsSelected, IsTextCall, is_selected}
-use Rattle.et_spoken.proofs.Rooms.{text_entries, text_fits}
+use Rattle.et_history.proofs.texts.Called.{IsSelected, IsTextCall, is_selected}
+use Rattle.et_history.proofs.texts.Rooms.{text_entries, text_fits}
 
 -- where what is referred to is held, the state is sound, also with other texts
 pub sound_with_texts : (p : Linked) (s : Kept) (x : Texts) → (IsSound s → IsSoundFor p s) → IsSound (spoken x s) → IsSoundFor p (spoken x s)

@@ -36,8 +36,8 @@ use Rattle.et_walk.proofs.Words.{Still, begun, instance_still, level, top_still,
 use Rattle.et_walk.specs.Steps.{Begins, Ended, IsFramed, Level, Plainly, WithInstance}
 use Rattle.et_walk.specs.Values.{Fine, FineFrame}
 use Rattle.et_walk.specs.Writes.{is_out_slot}
-use Rattle.et_spoken.proofs.Read.{IsOutRead}
-use Rattle.et_spoken.proofs.Rows.{EndsBeside, LeadsBeside, ends_event_beside}
+use Rattle.et_history.proofs.texts.Read.{IsOutRead}
+use Rattle.et_history.proofs.texts.Rows.{EndsBeside, LeadsBeside, ends_event_beside}
 
 -- the static slot that is read
 abbrev pub out_slot : Linked → OutRead → ℕ

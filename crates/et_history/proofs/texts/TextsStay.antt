@@ -25,10 +25,10 @@ use Rattle.et_event.specs.SoundTexts.{HasSoundTexts, is_text_class}
 use Rattle.et_event.specs.Told.{event_with_texts, keeping}
 use Rattle.et_walk.proofs.SaysRecords.{event_tells}
 use Rattle.et_walk.specs.Records.{IsAlike, TellsAll, TellsObjects}
-use Rattle.et_spoken.specs.Texts.{LeadsToSoundTexts}
-use Rattle.et_spoken.proofs.Events.{by_rows, moment, objects_row, sound_silent, unended_silent}
-use Rattle.et_spoken.proofs.Out.{LeadsOut}
-use Rattle.et_spoken.proofs.Rows.{GivesTexts}
+use Rattle.et_history.specs.texts.Texts.{LeadsToSoundTexts}
+use Rattle.et_history.proofs.texts.Events.{by_rows, moment, objects_row, sound_silent, unended_silent}
+use Rattle.et_history.proofs.texts.Out.{LeadsOut}
+use Rattle.et_history.proofs.texts.Rows.{GivesTexts}
 
 -- an object that is held, of a class that has texts
 abbrev MayHave : Linked → Objects → ℕ → Type 0

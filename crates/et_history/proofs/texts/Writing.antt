@@ -24,9 +24,9 @@ use Rattle.et_walk.proofs.SaysReached.{by_others, event_tells_beside_out}
 use Rattle.et_walk.proofs.SaysWrites.{by_writes, event_tells_writes}
 use Rattle.et_walk.specs.Records.{HasPlainStrings}
 use Rattle.et_walk.specs.Writes.{HasCause, IsBesideOut, TellWrites, TellsBesideOut, TellsWrites, after_record, is_out_slot, reference_at}
-use Rattle.et_spoken.specs.Writing.{TellsOtherWrites, reference_told}
-use Rattle.et_spoken.proofs.Events.{by_rows, moment, ready, sound_silent, unended_silent}
-use Rattle.et_spoken.proofs.Out.{LeadsOut, with_statics}
+use Rattle.et_history.specs.texts.Writing.{TellsOtherWrites, reference_told}
+use Rattle.et_history.proofs.texts.Events.{by_rows, moment, ready, sound_silent, unended_silent}
+use Rattle.et_history.proofs.texts.Out.{LeadsOut, with_statics}
 
 -- what records tell where none tells of System.out
 module _ (p : Linked) where

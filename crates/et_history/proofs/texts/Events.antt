@@ -46,11 +46,11 @@ use Rattle.et_walk.specs.Steps.{IsFramed}
 use Rattle.et_walk.specs.Telling.{IsToldOf}
 use Rattle.et_walk.specs.Values.{FineSome, Fines}
 use Rattle.et_walk.specs.Writes.{WritesToReached}
-use Rattle.et_spoken.proofs.Called.{IsTextCall, text_called}
-use Rattle.et_spoken.proofs.Out.{LeadsOut, as_beside, out_keeps_sound, out_leads, out_slot, with_statics}
-use Rattle.et_spoken.proofs.Read.{IsOutRead, out_found}
-use Rattle.et_spoken.proofs.Rows.{LeadsBeside, done_beside, unless_ill_typed}
-use Rattle.et_spoken.proofs.Sounding.{row_keeps_sound}
+use Rattle.et_history.proofs.texts.Called.{IsTextCall, text_called}
+use Rattle.et_history.proofs.texts.Out.{LeadsOut, as_beside, out_keeps_sound, out_leads, out_slot, with_statics}
+use Rattle.et_history.proofs.texts.Read.{IsOutRead, out_found}
+use Rattle.et_history.proofs.texts.Rows.{LeadsBeside, done_beside, unless_ill_typed}
+use Rattle.et_history.proofs.texts.Sounding.{row_keeps_sound}
 
 abbrev pub moment : Linked → Kept → ℕ → Moment
 moment p s t = record { program = p; before = s; thread = t }

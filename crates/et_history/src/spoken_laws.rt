@@ -13,8 +13,8 @@ ghost use Rattle.et_walk.specs.Changing.{KeepsMonitors, LeadsToSound};
 ghost use Rattle.et_walk.specs.Records.{HasPlainStrings, TellsObjects};
 ghost use Rattle.et_walk.specs.Telling.{IsToldOf};
 ghost use Rattle.et_walk.specs.Writes.{HasCause, WritesToReached};
-ghost use Rattle.et_spoken.specs.Texts.{LeadsToSoundTexts};
-ghost use Rattle.et_spoken.specs.Writing.{TellsOtherWrites};
+ghost use Rattle.et_history.specs.texts.Texts.{LeadsToSoundTexts};
+ghost use Rattle.et_history.specs.texts.Writing.{TellsOtherWrites};
 
 /// An event that is done, or in which a thread waits, takes the clock on by one; and each class and method that its records
 /// name is one of the program.

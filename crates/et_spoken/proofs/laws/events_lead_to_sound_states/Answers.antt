@@ -1,5 +1,0 @@
-use Rattle.et_spoken.proofs.Events.{event_with_texts_leads_to_sound}
-use Rattle.et_spoken.proofs.laws.events_lead_to_sound_states.Goals as goal
-
-pub returns : goal.returns
-returns c p s t sound few unended may = event_with_texts_leads_to_sound p s t sound unended may few
