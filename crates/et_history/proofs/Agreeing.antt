@@ -13,9 +13,9 @@ use Rattle.et_state.specs.Outcome as outcome
 use Rattle.et_event.specs.Moments.{Moment, begins, later}
 use Rattle.et_event.specs.Monitors.{Lock, OfObject, OfClass, is_owner, is_open_to, left_once, may_enter}
 use Rattle.et_sound.specs.WellFormed.{IsThere}
-use Rattle.et_walk.specs.Holding.{is_held_lock, entry_of, exit_of, monitor_in, times_after}
-use Rattle.et_walk.specs.Changing.{entered_once, left_by_owner, Changes, MovesMonitors, KeepsMonitors}
-use Rattle.et_walk.proofs.Monitors.{is_same, first_monitor}
+use Rattle.et_history.specs.steps.Holding.{is_held_lock, entry_of, exit_of, monitor_in, times_after}
+use Rattle.et_history.specs.steps.Changing.{entered_once, left_by_owner, Changes, MovesMonitors, KeepsMonitors}
+use Rattle.et_history.proofs.steps.Monitors.{is_same, first_monitor}
 
 -- AGREEMENT: the owner holds the monitor as often as it counts, and nobody else holds it
 pub record Agrees (m : Monitor) (n : ℕ → ℕ) : Type 0 where

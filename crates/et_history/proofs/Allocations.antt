@@ -32,14 +32,14 @@ use Rattle.et_event.specs.Moments.{array_size, element_width}
 use Rattle.et_event.specs.Start.{start_records}
 use Rattle.et_history.specs.Allocations.{object_in, next_number, IsMadeAt, TellsOf, next_behind, AreAllocations, HasArguments}
 use Rattle.et_history.specs.Histories.{picked, whole_picked, whole_at, whole_settled_at, IsHistory, HistoryComesTo, WholeComesTo}
-use Rattle.et_walk.specs.Records.{size_by, size_of, IsAlike, next_after, IsAllocationOf, AreRecordsOf, HasPlainStrings, TellsObjects}
+use Rattle.et_history.specs.steps.Records.{size_by, size_of, IsAlike, next_after, IsAllocationOf, AreRecordsOf, HasPlainStrings, TellsObjects}
 use Rattle.et_history.specs.Same.{IsHere}
 use Rattle.et_history.specs.Settings.{unended_threads}
-use Rattle.et_walk.specs.Telling.{names_of_program}
+use Rattle.et_history.specs.steps.Telling.{names_of_program}
 use Rattle.et_history.specs.Whole.{beside, cleared, whole_flushed, whole_start}
 use Rattle.et_history.proofs.Alike.{is_open}
 use Rattle.et_history.proofs.Wholes.{settled_match, go_on, picked_unended}
-use Rattle.et_walk.proofs.Records.{alike_itself, alike_then, same_size}
+use Rattle.et_history.proofs.steps.Records.{alike_itself, alike_then, same_size}
 use Rattle.et_history.proofs.texts.Events.{event_tells_objects as event_tells}
 use Rattle.et_sound.proofs.Outcomes.{if_case}
 use Rattle.et_history.proofs.Freed.{past_at, settled_here, next_here}

@@ -22,7 +22,7 @@ use Rattle.et_event.specs.declared.errors.GuestError.TheVariants.{ExceptionInIni
 use Rattle.et_linked.proofs.BuiltIn.{boot_place}
 use Rattle.et_linked.proofs.Making.{class_in, named_in}
 use Rattle.et_linked.proofs.PlacesAbove.{link_at}
-use Rattle.et_walk.specs.Writes.{HasCause}
+use Rattle.et_history.specs.steps.Writes.{HasCause}
 
 -- THE TABLE: the superclass of class k is class s, of this name
 record IsRightBelow (k s : ℕ) (name : List ℕ) : Type 0 where

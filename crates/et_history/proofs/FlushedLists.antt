@@ -14,7 +14,7 @@ use Rattle.et_state.specs.Past.{IsPast, first_of, reporting}
 use Rattle.et_state.proofs.Enqueued.{flushed_at}
 use Rattle.et_history.specs.Whole.{cleared}
 use Rattle.et_history.proofs.Freed.{at_cleared}
-use Rattle.et_walk.proofs.WaitingLists.{lined_same, Coming, lined_more, seen, AreLined}
+use Rattle.et_history.proofs.steps.WaitingLists.{lined_same, Coming, lined_more, seen, AreLined}
 
 -- WHO COMES TO A LIST
 

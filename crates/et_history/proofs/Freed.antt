@@ -15,7 +15,7 @@ use Rattle.et_state.specs.State.{State, Kept}
 use Rattle.et_state.specs.declared.options.Options.{Options}
 use Rattle.et_program.specs.Entries.{Linked}
 use Rattle.et_event.specs.Told.{event_with_texts}
-use Rattle.et_walk.specs.Changing.{KeepsMonitors}
+use Rattle.et_history.specs.steps.Changing.{KeepsMonitors}
 use Rattle.et_history.specs.Histories.{picked, whole_at, whole_settled_at, IsHistory, HistoryComesTo, WholeComesTo}
 use Rattle.et_history.specs.Same.{IsHere, IsReportedAs}
 use Rattle.et_history.specs.Settings.{unended_threads}

@@ -20,7 +20,7 @@ use Rattle.et_sound.specs.WellFormed.{IsThere}
 use Rattle.et_sound.proofs.Growing.{free_is_sound}
 use Rattle.et_sound.proofs.Outcomes.{if_case}
 use Rattle.et_history.specs.Settings.{flushed_of}
-use Rattle.et_walk.specs.Holding.{monitor_in}
+use Rattle.et_history.specs.steps.Holding.{monitor_in}
 use Rattle.et_history.specs.Histories.{state_at, settled_at, moment_at, times_held, IsHistory, HistoryComesTo}
 use Rattle.et_history.proofs.Agreeing.{Agrees, IsNew, Excludes, holder, excludes_same, excludes_event}
 use Rattle.et_history.proofs.Wholes.{Next, next, state_sound}

@@ -26,3 +26,4 @@ pub mod PoolWords
 pub mod ArrayWords
 pub mod ShortNames
 pub mod texts
+pub mod steps

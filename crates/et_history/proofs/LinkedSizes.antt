@@ -16,7 +16,7 @@ use Rattle.et_linked.proofs.BuiltIn.{IsFieldless, of_string, no_fields_within}
 use Rattle.et_linked.proofs.Making.{class_in, named_in}
 use Rattle.et_program.proofs.Standing.{place_in_set}
 use Rattle.et_history.specs.Allocations.{HasArguments}
-use Rattle.et_walk.specs.Records.{HasPlainStrings}
+use Rattle.et_history.specs.steps.Records.{HasPlainStrings}
 
 abbrev string : List ℕ
 string = codes "java/lang/String"

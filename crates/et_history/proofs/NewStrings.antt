@@ -26,7 +26,7 @@ use Rattle.et_event.specs.Moments.{Moment, Doing, begins, doing_with_guest, with
 use Rattle.et_event.specs.Monitors.{Lock, OfObject, OfClass, with_monitor_of}
 use Rattle.et_event.specs.Sites.{LoadedConstant, AnInt, ALong, AString, constant_at, pool_of_class}
 use Rattle.et_event.specs.Strings.{interned, string_object}
-use Rattle.et_walk.proofs.Heaps.{newest}
+use Rattle.et_history.proofs.steps.Heaps.{newest}
 use Rattle.et_heap.specs.Queues.{with_waits, without_first_waiting, take_first}
 use Rattle.et_event.proofs.Values.{updated_state}
 use Rattle.et_sound.proofs.Outcomes.{if_case}

@@ -30,8 +30,8 @@ use Rattle.et_event.specs.Errors.{error_class, error_of}
 use Rattle.et_event.specs.Initialization.{state_of, with_state, constants_set, initializer_frame, is_quiet, quietly_done, begun_by, begins_class, needed, initialized}
 use Rattle.et_event.specs.Moments.{Moment, Doing, next_object, instance_made, with_thread_state, pending_now, fits_heap, goes, ends_event, throws, waits}
 use Rattle.et_history.specs.Reaching.{AreReachedFrom, ReachesNew}
-use Rattle.et_walk.proofs.Heaps.{newest}
-use Rattle.et_walk.proofs.Words.{thread_now}
+use Rattle.et_history.proofs.steps.Heaps.{newest}
+use Rattle.et_history.proofs.steps.Words.{thread_now}
 use Rattle.et_history.proofs.NewStrings.{OfStrings, thread_strings, state_strings, constants_strings, quietly_strings}
 use Rattle.et_sound.proofs.Outcomes.{if_case}
 

@@ -28,9 +28,9 @@ use Rattle.et_event.specs.Told.{event_with_texts}
 use Rattle.et_event.specs.Moments.{number_of_value}
 use Rattle.et_event.specs.Sound.{IsSoundFor}
 use Rattle.et_event.specs.Start.{start_records}
-use Rattle.et_walk.specs.Changing.{KeepsMonitors}
-use Rattle.et_walk.specs.Records.{AreRecordsOf, HasPlainStrings, TellsObjects, next_after}
-use Rattle.et_walk.specs.Writes.{HasCause, IsAtHand, IsOfReached, TellWrites, WritesToReached, after_record, is_out_slot, reference_at}
+use Rattle.et_history.specs.steps.Changing.{KeepsMonitors}
+use Rattle.et_history.specs.steps.Records.{AreRecordsOf, HasPlainStrings, TellsObjects, next_after}
+use Rattle.et_history.specs.steps.Writes.{HasCause, IsAtHand, IsOfReached, TellWrites, WritesToReached, after_record, is_out_slot, reference_at}
 use Rattle.et_history.specs.texts.Writing.{TellsOtherWrites, reference_told}
 use Rattle.et_history.proofs.texts.Events.{event_tells_objects as event_tells, event_writes_to_what_is_reached as event_writes_to_reached}
 use Rattle.et_history.proofs.texts.Writing.{event_tells_other_writes, told_is, told_there}
@@ -43,7 +43,7 @@ use Rattle.et_history.proofs.Reporting.{if_known}
 use Rattle.et_history.proofs.Wholes.{Stands, go_on, keeps_at, picked_unended, reached_all, settled_match}
 use Rattle.et_history.proofs.NewArrays.{unset_at}
 use Rattle.et_sound.proofs.Outcomes.{if_case}
-use Rattle.et_walk.proofs.WaitingLists.{beyond}
+use Rattle.et_history.proofs.steps.WaitingLists.{beyond}
 
 -- RECORDS
 

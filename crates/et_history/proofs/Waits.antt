@@ -24,10 +24,10 @@ use Rattle.et_history.specs.Settings.{unended_threads}
 use Rattle.et_history.specs.Waiting.{WaitsIn, WaitsSomewhere}
 use Rattle.et_history.specs.Whole.{beside, whole_flushed, whole_start}
 use Rattle.et_history.proofs.Alike.{is_open}
-use Rattle.et_walk.proofs.MonitorRows.{LeadsLined}
+use Rattle.et_history.proofs.steps.MonitorRows.{LeadsLined}
 use Rattle.et_history.proofs.texts.Events.{event_with_texts_keeps_lists as event_keeps_lists}
 use Rattle.et_history.proofs.FlushedLists.{flush_lined}
-use Rattle.et_walk.proofs.WaitingLists.{AreLined}
+use Rattle.et_history.proofs.steps.WaitingLists.{AreLined}
 use Rattle.et_history.proofs.Wholes.{Stands, all_match, settled_match, go_on, picked_unended, same_reached, tells}
 use Rattle.et_sound.proofs.Outcomes.{if_case}
 

@@ -43,7 +43,7 @@ use Rattle.et_loop.specs.Kept.{IsKeptPart}
 use Rattle.et_loop.specs.Said.{said_to, Says, SaysPrefix, IsCutSaid}
 use Rattle.et_loop.specs.Visits.{allowed_visits, IsCut}
 use Rattle.et_history.specs.Settings.{flush_visits_of, setting, unended_threads, flushed_of}
-use Rattle.et_walk.specs.Changing.{KeepsMonitors, LeadsToSound}
+use Rattle.et_history.specs.steps.Changing.{KeepsMonitors, LeadsToSound}
 use Rattle.et_history.specs.Histories.{picked, state_at, settled_at, moment_at, whole_picked, whole_at, whole_settled_at, IsHistory, HistoryComesTo, WholeComesTo}
 use Rattle.et_history.specs.Same.{TellsTheSame, IsHere}
 use Rattle.et_history.specs.Whole.{beside, cleared, whole_event, whole_flushed, whole_setting, whole_start, whole_visits_of, whole_said}

@@ -8,7 +8,7 @@ use Rattle.et_state.specs.Past.{first_of}
 use Rattle.et_state.specs.Start.{argument_class}
 use Rattle.et_state.specs.State.{State}
 use Rattle.et_event.specs.Kinds.{is_array_element}
-use Rattle.et_walk.specs.Records.{size_of}
+use Rattle.et_history.specs.steps.Records.{size_of}
 use Rattle.et_history.specs.Same.{IsHere}
 
 -- an object that was made, held or reported

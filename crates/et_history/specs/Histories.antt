@@ -14,7 +14,7 @@ use Rattle.et_state.specs.Start.{start}
 use Rattle.et_event.specs.Start.{start_records}
 use Rattle.et_history.specs.Settings.{IsSoundRun, setting}
 use Rattle.et_history.specs.Whole.{whole_setting, whole_start}
-use Rattle.et_walk.specs.Holding.{times_after}
+use Rattle.et_history.specs.steps.Holding.{times_after}
 
 -- THE HISTORY of a program with these options, where any list of numbers picks the threads
 abbrev pub picked : Linked → Options → (ℕ → ℕ) → Setting Kept

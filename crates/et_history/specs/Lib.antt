@@ -9,3 +9,4 @@ pub mod Allocations
 pub mod Ends
 pub mod Waiting
 pub mod texts
+pub mod steps

@@ -17,7 +17,7 @@ use Rattle.et_event.specs.Told.{event_with_texts}
 use Rattle.et_event.specs.Runnable.{IsRunnable}
 use Rattle.et_event.specs.Sound.{IsSoundFor}
 use Rattle.et_event.specs.SoundTexts.{HasSoundTexts}
-use Rattle.et_walk.specs.Telling.{names_of_program}
+use Rattle.et_history.specs.steps.Telling.{names_of_program}
 use Rattle.et_loop.specs.Options.{setting_of}
 
 -- the threads that have not ended, in order of start

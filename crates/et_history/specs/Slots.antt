@@ -4,7 +4,7 @@ use Rattle.et_graph.specs.Graph.{Graph}
 use Rattle.et_state.specs.History.{Setting, records_at}
 use Rattle.et_state.specs.declared.records.Record.{Record}
 use Rattle.et_state.specs.declared.records.Record.TheVariants.{Alloc, Update, Enter, Exit, Unwind}
-use Rattle.et_walk.specs.Writes.{after_record}
+use Rattle.et_history.specs.steps.Writes.{after_record}
 
 -- the record is one of this event
 abbrev pub IsOfEvent : ℕ → Record → Type 0

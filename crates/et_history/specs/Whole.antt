@@ -13,7 +13,7 @@ use Rattle.et_state.specs.declared.options.Options.{Options}
 use Rattle.et_program.specs.Entries.{Linked}
 use Rattle.et_event.specs.Told.{event_with_texts}
 use Rattle.et_loop.specs.Options.{setting_of}
-use Rattle.et_walk.specs.Telling.{names_of_program}
+use Rattle.et_history.specs.steps.Telling.{names_of_program}
 use Rattle.et_history.specs.Settings.{flushed_of, unended_threads, flush_visits_of}
 
 -- what an event leads to where these objects were reported, which it leaves as they are

@@ -3,6 +3,7 @@
 //! of slots is what stands there, and a reference waits in one queue at most.
 #![tactic(auto)]
 
+pub mod event_laws;
 pub mod laws;
 pub mod object_laws;
 pub mod record_laws;

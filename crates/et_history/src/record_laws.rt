@@ -12,8 +12,8 @@ ghost use Rattle.et_linked.specs.ClassNames.{HasClassName};
 ghost use Rattle.et_history.specs.Allocations.{AreAllocations, HasArguments, IsMadeAt, next_number};
 ghost use Rattle.et_history.specs.Histories.{whole_at, whole_picked, IsHistoryTo};
 ghost use Rattle.et_event.specs.Runnable.{IsRunnable};
-ghost use Rattle.et_walk.specs.Records.{HasPlainStrings};
-ghost use Rattle.et_walk.specs.Writes.{HasCause};
+ghost use Rattle.et_history.specs.steps.Records.{HasPlainStrings};
+ghost use Rattle.et_history.specs.steps.Writes.{HasCause};
 ghost use Rattle.et_history.specs.Whole.{whole_start};
 
 /// Over every list of picks, the A lines up to an event are those of the objects made by then, from object 1 on, each with the

@@ -11,8 +11,8 @@ ghost use Rattle.et_event.specs.Start.{start_records};
 ghost use Rattle.et_history.specs.Histories.{whole_at, whole_picked, IsHistoryTo};
 ghost use Rattle.et_history.specs.Slots.{IsOfEvent, told_by};
 ghost use Rattle.et_history.specs.Whole.{whole_start};
-ghost use Rattle.et_walk.specs.Records.{HasPlainStrings};
-ghost use Rattle.et_walk.specs.Writes.{HasCause, is_out_slot, reference_at};
+ghost use Rattle.et_history.specs.steps.Records.{HasPlainStrings};
+ghost use Rattle.et_history.specs.steps.Writes.{HasCause, is_out_slot, reference_at};
 
 /// Over every list of picks, what the U records up to an event tell is what stands in the state that it left: the reference in
 /// each slot of each object that was not reported, and in each static but that of System.out, of which they tell nothing. The

@@ -9,10 +9,10 @@ ghost use Rattle.et_event.specs.Runnable.{IsRunnable};
 ghost use Rattle.et_event.specs.Sound.{IsSoundFor};
 ghost use Rattle.et_event.specs.SoundTexts.{HasSoundTexts};
 ghost use Rattle.et_event.specs.Told.{event_with_texts};
-ghost use Rattle.et_walk.specs.Changing.{KeepsMonitors, LeadsToSound};
-ghost use Rattle.et_walk.specs.Records.{HasPlainStrings, TellsObjects};
-ghost use Rattle.et_walk.specs.Telling.{IsToldOf};
-ghost use Rattle.et_walk.specs.Writes.{HasCause, WritesToReached};
+ghost use Rattle.et_history.specs.steps.Changing.{KeepsMonitors, LeadsToSound};
+ghost use Rattle.et_history.specs.steps.Records.{HasPlainStrings, TellsObjects};
+ghost use Rattle.et_history.specs.steps.Telling.{IsToldOf};
+ghost use Rattle.et_history.specs.steps.Writes.{HasCause, WritesToReached};
 ghost use Rattle.et_history.specs.texts.Texts.{LeadsToSoundTexts};
 ghost use Rattle.et_history.specs.texts.Writing.{TellsOtherWrites};
 

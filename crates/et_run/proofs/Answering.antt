@@ -22,8 +22,8 @@ use Rattle.et_loop.specs.Stamping.{StepsWhereDone}
 use Rattle.et_state.specs.Moves.{Led}
 use Rattle.et_state.specs.Spoken.{spoken, silent}
 use Rattle.et_state.specs.Texts.{Texts}
-use Rattle.et_walk.specs.Telling.{IsToldOf, names_of_program}
-use Rattle.et_walk.specs.Changing.{LeadsToSound}
+use Rattle.et_history.specs.steps.Telling.{IsToldOf, names_of_program}
+use Rattle.et_history.specs.steps.Changing.{LeadsToSound}
 
 -- the state of a machine and its texts, where both are those of a state
 stands : (next : Kept) (m : MachineState) (x : Texts) → kept_of m ≡ silent next → x ≡ next.guest.texts → spoken x (kept_of m) ≡ next

@@ -35,7 +35,7 @@ use Rattle.et_event.proofs.OutTurns.{out_at_turn}
 use Rattle.et_event.proofs.Told.{of-table}
 use Rattle.et_event.proofs.FrameEvents.{frame_event, frame_led}
 use Rattle.et_event.proofs.Running.{has_frame_there}
-use Rattle.et_walk.specs.Changing.{LeadsToSound}
+use Rattle.et_history.specs.steps.Changing.{LeadsToSound}
 use Rattle.et_history.specs.texts.Texts.{LeadsToSoundTexts}
 use Rattle.et_history.specs.Settings.{IsSoundRun, unended_threads}
 use Rattle.et_loop.specs.Kept.{IsStepTo}

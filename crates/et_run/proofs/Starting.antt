@@ -19,7 +19,7 @@ use Rattle.et_state.specs.Naming.{IsNamed}
 use Rattle.et_state.specs.Start.{argument_class, start}
 use Rattle.et_event.specs.Start.{start_records}
 use Rattle.et_loop.specs.Kept.{IsStepTo}
-use Rattle.et_walk.specs.Telling.{names_of_program}
+use Rattle.et_history.specs.steps.Telling.{names_of_program}
 
 no_refs : (n : ℕ) → refs_of (replicate n Unset) ≡ []
 no_refs zero = refl

@@ -41,7 +41,7 @@ use Rattle.et_event.specs.Told.{event_with_texts, keeping, said_by}
 use Rattle.et_event.proofs.OutTurns.{out_at_turn}
 use Rattle.et_event.proofs.Told.{of-table}
 use Rattle.et_event.proofs.SiteAnswers.{moment}
-use Rattle.et_walk.specs.Changing.{KeepsMonitors, LeadsToSound}
+use Rattle.et_history.specs.steps.Changing.{KeepsMonitors, LeadsToSound}
 use Rattle.et_history.specs.texts.Texts.{LeadsToSoundTexts}
 use Rattle.et_history.specs.Settings.{IsSoundRun, unended_threads}
 use Rattle.et_loop.specs.Kept.{IsStepTo}

@@ -1,6 +1,6 @@
 //! The names of a linked program.
 ghost use Rattle.std.specs.Prelude.{◌≡◌};
-ghost use Rattle.et_walk.specs.Telling.{names_of_program};
+ghost use Rattle.et_history.specs.steps.Telling.{names_of_program};
 
 use et_base::{ClassId, MethodId};
 use et_loop::Program;

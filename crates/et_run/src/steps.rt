@@ -3,7 +3,7 @@ ghost use Rattle.std.specs.Prelude.{◌≡◌, ℕ, Bool, ◌+◌, ◌-◌, ◌<
 ghost use Rattle.et_event.specs.Told.{event_with_texts, said_by};
 ghost use Rattle.et_graph.specs.Graph.{IsReached};
 ghost use Rattle.et_history.specs.Settings.{IsSoundRun, flush_visits_of, unended_threads, flushed_of};
-ghost use Rattle.et_walk.specs.Telling.{names_of_program};
+ghost use Rattle.et_history.specs.steps.Telling.{names_of_program};
 ghost use Rattle.et_run.specs.Waits.{HasWaited};
 ghost use Rattle.et_run.specs.WithTexts.{state_of};
 ghost use Rattle.et_state.specs.Roots.{graph_of};

@@ -3,7 +3,7 @@ ghost use Rattle.std.specs.Prelude.{◌≡◌, ℕ, ◌+◌, ◌<◌, ◌≤◌,
 ghost use Rattle.et_event.specs.Told.{event_with_texts, said_by};
 ghost use Rattle.et_heap.specs.Objects.{made_count};
 ghost use Rattle.et_history.specs.Settings.{IsSoundRun, unended_threads};
-ghost use Rattle.et_walk.specs.Telling.{names_of_program};
+ghost use Rattle.et_history.specs.steps.Telling.{names_of_program};
 ghost use Rattle.et_loop.specs.Quiet.{AreQuiet, IsStretch, IsBrokenOff};
 ghost use Rattle.et_loop.specs.Run.{end_after};
 ghost use Rattle.et_loop.specs.Stamping.{AreMade, HasStamps};

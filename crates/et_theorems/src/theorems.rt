@@ -49,8 +49,8 @@ ghost use Rattle.et_traces.specs.LiveBytes.{bytes_reached, is_reached_from, obje
 ghost use Rattle.et_traces.specs.Snapshots.{IsEndedRun, live_objects};
 ghost use Rattle.et_typed.specs.Refused.{IsRefused};
 ghost use Rattle.et_verify.specs.Typings.{IsVerified};
-ghost use Rattle.et_walk.specs.Holding.{monitor_in};
-ghost use Rattle.et_walk.specs.Writes.{is_out_slot};
+ghost use Rattle.et_history.specs.steps.Holding.{monitor_in};
+ghost use Rattle.et_history.specs.steps.Writes.{is_out_slot};
 ghost use Rattle.et_theorems.specs.Runs.{Run, IsTraced, IsWritten, IsFlushed, deaths_at, lines_of, next_moment, picks_of, setting_of, state_at};
 
 use et_convert::laws::{spelled_lists_differ, spelled_traces_have_no_fault};

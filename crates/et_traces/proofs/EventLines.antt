@@ -17,7 +17,7 @@ use Rattle.et_state.specs.declared.records.Record.{Record}
 use Rattle.et_state.specs.declared.records.Record.TheVariants.{Alloc, Update, Enter, Exit, Unwind}
 use Rattle.et_event.specs.Moments.{array_size, base_width, element_width}
 use Rattle.et_event.specs.Sound.{IsSoundFor, IsSoundObject, slots_by}
-use Rattle.et_walk.specs.Records.{AreRecordsOf, IsMadeBefore, IsRecordOf, IsUpdated, next_after, size_by, size_of}
+use Rattle.et_history.specs.steps.Records.{AreRecordsOf, IsMadeBefore, IsRecordOf, IsUpdated, next_after, size_by, size_of}
 use Rattle.et_traces.proofs.Lengths.{IsPlain, ArePlain}
 use Rattle.et_traces.proofs.RecordLines.{MayBe, AreTold}
 use Rattle.et_history.proofs.Allocations.{rises}

@@ -12,8 +12,8 @@ use Rattle.et_state.specs.Start.{start}
 use Rattle.et_state.specs.State.{State, Kept}
 use Rattle.et_state.specs.declared.records.Record.{Record}
 use Rattle.et_state.specs.declared.records.Record.TheVariants.{Alloc, Update, Enter, Exit, Unwind}
-use Rattle.et_walk.specs.Changing.{KeepsMonitors}
-use Rattle.et_walk.specs.Records.{AreRecordsOf, IsAllocationOf, IsAlike, TellsObjects}
+use Rattle.et_history.specs.steps.Changing.{KeepsMonitors}
+use Rattle.et_history.specs.steps.Records.{AreRecordsOf, IsAllocationOf, IsAlike, TellsObjects}
 use Rattle.et_history.specs.Whole.{beside}
 use Rattle.et_state.specs.Enqueuing.{newcomers, begins_to_wait, joined_place, flushed_heap}
 use Rattle.et_state.proofs.Enqueued.{joined_now}

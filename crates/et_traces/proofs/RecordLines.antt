@@ -8,7 +8,7 @@ use Rattle.et_state.specs.Naming.{Names, Mentions, number_in, with_new, class_li
 use Rattle.et_state.specs.Naming as naming
 use Rattle.et_state.specs.declared.records.Record.{Record}
 use Rattle.et_state.specs.declared.records.Record.TheVariants.{Alloc, Update, Enter, Exit, Unwind}
-use Rattle.et_walk.specs.Records.{next_after}
+use Rattle.et_history.specs.steps.Records.{next_after}
 use Rattle.et_traces.proofs.Numbering.{AreTellable, IsIn, in_last}
 use Rattle.et_traces.proofs.Standing.{behind, behind_both, Stands, IsNamed, stands_class, stands_method, stands_alloc, stands_update, stands_enter, stands_exit, stands_unwind}
 

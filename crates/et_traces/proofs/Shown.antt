@@ -40,7 +40,7 @@ use Rattle.et_traces.proofs.LiveReached.{more_lines, from_seen, seen_from, here_
 use Rattle.et_traces.proofs.LiveSums.{rest_told}
 use Rattle.et_traces.proofs.Reported.{Knows, flushed_out, made_by, now}
 use Rattle.et_traces.proofs.SlotLines.{content_told}
-use Rattle.et_walk.specs.Writes.{is_out_slot, reference_at}
+use Rattle.et_history.specs.steps.Writes.{is_out_slot, reference_at}
 
 -- NUMBERS in a row
 

@@ -15,7 +15,7 @@ use Rattle.et_state.specs.declared.records.Record.TheVariants.{Alloc, Update, En
 use Rattle.et_history.specs.Slots.{IsOfEvent, after_records, told_by}
 use Rattle.et_history.proofs.Reporting.{if_known}
 use Rattle.et_snapshot.specs.Snapshot.{content, put_into, write_by}
-use Rattle.et_walk.specs.Writes.{after_record}
+use Rattle.et_history.specs.steps.Writes.{after_record}
 
 turned : (a b : ℕ) → (a == b) ≡ (b == a)
 turned a b = elim (cases_eq a b) [ inl same ↦ eq-eqb a b same ∙ sym (eq-eqb b a (sym same)) | inr ne ↦ ne_eqb a b ne ∙ sym (ne_eqb b a (λ e. ne (sym e))) ]

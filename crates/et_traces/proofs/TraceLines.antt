@@ -36,12 +36,12 @@ use Rattle.et_event.proofs.Beside.{sound-spoken}
 use Rattle.et_text.specs.Ranges.{header_version}
 use Rattle.et_text.specs.Rules.{AreFine, IsGood, has_ended, misses_no_flush}
 use Rattle.et_history.specs.Allocations.{next_number}
-use Rattle.et_walk.specs.Changing.{KeepsMonitors}
+use Rattle.et_history.specs.steps.Changing.{KeepsMonitors}
 use Rattle.et_history.specs.Histories.{WholeGoesOn, whole_picked, whole_at, whole_settled_at, IsHistory, HistoryComesTo, WholeComesTo}
-use Rattle.et_walk.specs.Records.{AreRecordsOf, TellsObjects}
+use Rattle.et_history.specs.steps.Records.{AreRecordsOf, TellsObjects}
 use Rattle.et_history.specs.Same.{TellsTheSame}
 use Rattle.et_history.specs.Settings.{unended_threads}
-use Rattle.et_walk.specs.Telling.{IsToldOf, names_of_program}
+use Rattle.et_history.specs.steps.Telling.{IsToldOf, names_of_program}
 use Rattle.et_history.specs.Whole.{beside, whole_flushed, whole_start}
 use Rattle.et_history.proofs.Alike.{Open, is_open}
 use Rattle.et_history.proofs.Wholes.{picked_unended, now_is, is_now}

@@ -3,8 +3,8 @@ use Rattle.std.specs.Prelude.{◌≡◌, ℕ, ◌<◌, ◌^◌, true, bytes_eq, 
 use Rattle.et_program.specs.Entries.{Linked}
 use Rattle.et_state.specs.Naming.{Names}
 use Rattle.et_text.specs.Ranges.{IsText, IsShort}
-use Rattle.et_walk.specs.Records.{HasPlainStrings}
-use Rattle.et_walk.specs.Telling.{names_of_program}
+use Rattle.et_history.specs.steps.Records.{HasPlainStrings}
+use Rattle.et_history.specs.steps.Telling.{names_of_program}
 
 -- the names of a program are apart: each is one that a line can tell, and no two are alike
 pub record AreNamesApart (names : Names) : Type 0 where

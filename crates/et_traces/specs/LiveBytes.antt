@@ -9,7 +9,7 @@ use Rattle.et_state.specs.Roots.{numbers_from}
 use Rattle.et_state.specs.History.{Setting, left_by}
 use Rattle.et_state.specs.declared.records.Record.{Record}
 use Rattle.et_history.specs.Allocations.{object_in}
-use Rattle.et_walk.specs.Records.{size_of}
+use Rattle.et_history.specs.steps.Records.{size_of}
 
 module _ {S : Type 0} (reached : Graph → ℕ → Bool) (given : Setting S) (start : S) (made : List Record) where
   -- o is reached in the state that event e left, or in that of one of the n events after it, found by trying each

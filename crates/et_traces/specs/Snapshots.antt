@@ -16,8 +16,8 @@ use Rattle.et_history.specs.Histories.{whole_picked}
 use Rattle.et_history.specs.Settings.{IsSoundRun}
 use Rattle.et_history.specs.Whole.{whole_start}
 use Rattle.et_snapshot.specs.Snapshot.{live_lines}
-use Rattle.et_walk.specs.Records.{HasPlainStrings}
-use Rattle.et_walk.specs.Writes.{HasCause}
+use Rattle.et_history.specs.steps.Records.{HasPlainStrings}
+use Rattle.et_history.specs.steps.Writes.{HasCause}
 
 -- the object that an A line makes
 abbrev pub object_made : TraceLine → Option ℕ

@@ -12,7 +12,7 @@ ghost use Rattle.et_state.specs.Start.{start};
 ghost use Rattle.et_state.specs.declared.options.Options.{Options};
 ghost use Rattle.et_event.specs.Start.{start_records};
 ghost use Rattle.et_history.specs.Allocations.{HasArguments};
-ghost use Rattle.et_walk.specs.Records.{HasPlainStrings};
+ghost use Rattle.et_history.specs.steps.Records.{HasPlainStrings};
 ghost use Rattle.et_history.specs.Histories.{IsHistory};
 ghost use Rattle.et_history.specs.Settings.{IsSoundRun};
 ghost use Rattle.et_history.specs.Whole.{whole_setting, whole_start};

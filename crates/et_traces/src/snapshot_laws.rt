@@ -20,7 +20,7 @@ ghost use Rattle.et_state.specs.Words.{static_at};
 ghost use Rattle.et_state.specs.declared.options.Options.{Options};
 ghost use Rattle.et_traces.specs.LiveBytes.{is_reached_from};
 ghost use Rattle.et_traces.specs.Snapshots.{IsEndedRun, IsShown, live_objects};
-ghost use Rattle.et_walk.specs.Writes.{is_out_slot};
+ghost use Rattle.et_history.specs.steps.Writes.{is_out_slot};
 
 use et_history::laws::{histories_tell_the_same, nothing_is_freed};
 use et_history::object_laws::objects_are_reached_as_made;

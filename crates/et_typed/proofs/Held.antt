@@ -16,7 +16,7 @@ use Rattle.et_program.specs.declared.info.Element.{Element}
 use Rattle.et_sound.proofs.Values.{element_kind}
 use Rattle.et_state.specs.State.{Kept}
 use Rattle.et_typed.proofs.Own.{slot_threads}
-use Rattle.et_walk.proofs.Rows.{no_elements}
+use Rattle.et_history.proofs.steps.Rows.{no_elements}
 
 -- nothing was written to it
 unset_kind : (k : Option Operand) → is_of_kind k Unset ≡ true

@@ -30,7 +30,7 @@ use Rattle.et_state.specs.Threads.{ThreadState, new_thread, no_thread, rest_of, 
 use Rattle.et_state.specs.Words.{static_at, thread_at, with_static, with_string}
 use Rattle.et_state.specs.declared.stage.Stage.{Stage}
 use Rattle.et_state.specs.declared.stage.Stage.TheVariants.{Before, Clinit, Plain}
-use Rattle.et_walk.specs.Steps.{AllObjects, Begins, BeginsClass, Catches, ClassBecomes, Comes, CountsEntered, Drops, Ends, EntersClinit, EntersCode, EntersMonitor, GoesOn, Interns, IsReference, LeavesMonitor, MakesArray, MakesInstance, MayTell, Pends, Phase, Polls, Returns, SetsQueue, SetsReferent, Starts, Unwinds, UnwindsClinit, WritesSlot, WritesStatic}
+use Rattle.et_history.specs.steps.Steps.{AllObjects, Begins, BeginsClass, Catches, ClassBecomes, Comes, CountsEntered, Drops, Ends, EntersClinit, EntersCode, EntersMonitor, GoesOn, Interns, IsReference, LeavesMonitor, MakesArray, MakesInstance, MayTell, Pends, Phase, Polls, Returns, SetsQueue, SetsReferent, Starts, Unwinds, UnwindsClinit, WritesSlot, WritesStatic}
 use Rattle.et_typed.specs.Typed.{HasTypedSlots, IsTypedThread, Typings}
 use Rattle.et_history.proofs.NewArrays.{unset_at}
 

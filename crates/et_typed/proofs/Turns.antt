@@ -23,7 +23,7 @@ use Rattle.et_typed.proofs.Own.{LeavesTyped, thread_own}
 use Rattle.et_typed.proofs.Standing.{instruction_typed}
 use Rattle.et_typed.proofs.Unwinding.{unwinding_typed}
 use Rattle.et_typed.proofs.Ways.{Calm}
-use Rattle.et_walk.proofs.MonitorRows.{none_pending}
+use Rattle.et_history.proofs.steps.MonitorRows.{none_pending}
 
 -- WHAT IS KNOWN of the moment
 pub record Known (e : Moment) (typings : Typings) : Type 0 where

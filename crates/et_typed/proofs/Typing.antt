@@ -11,10 +11,10 @@ use Rattle.et_state.specs.Outcome.{Outcome}
 use Rattle.et_state.specs.Outcome as outcome
 use Rattle.et_state.specs.State.{Kept}
 use Rattle.et_state.specs.Words.{IsUnended, thread_at}
-use Rattle.et_walk.proofs.Folding.{MadeOf, comes_so}
-use Rattle.et_walk.proofs.Held.{Ready}
-use Rattle.et_walk.proofs.Turns.{event_leads}
-use Rattle.et_walk.specs.Steps.{Ended, Leads}
+use Rattle.et_history.proofs.steps.Folding.{MadeOf, comes_so}
+use Rattle.et_history.proofs.steps.Held.{Ready}
+use Rattle.et_history.proofs.steps.Turns.{event_leads}
+use Rattle.et_history.specs.steps.Steps.{Ended, Leads}
 use Rattle.et_typed.specs.Typed.{AreTypings, IsTyped, IsTypedThread, KeepsTyped, Typings}
 use Rattle.et_typed.proofs.Others.{KeepsOthers, steps_keep}
 use Rattle.et_typed.proofs.Own.{LeavesTyped}

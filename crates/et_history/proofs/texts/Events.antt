@@ -30,22 +30,22 @@ use Rattle.et_event.specs.declared.rows.Row.TheVariants.{Call, Heap}
 use Rattle.et_event.proofs.Beside.{sound-spoken, held-spoken}
 use Rattle.et_sound.specs.WellFormed.{StandsAt}
 use Rattle.et_sound.proofs.Turning.{parts, stands_at, some_frame}
-use Rattle.et_walk.proofs.Calls.{arguments_fine}
-use Rattle.et_walk.proofs.Folding.{MadeOf, comes_so}
-use Rattle.et_walk.proofs.Held.{Ready, first_fine}
-use Rattle.et_walk.proofs.MonitorFrames.{level_fits}
-use Rattle.et_walk.proofs.MonitorRows.{LeadsLined, event_keeps_lists, event_keeps_monitors, fits_keep, steps_keep}
-use Rattle.et_walk.proofs.SaysNames.{by_names, told_event}
-use Rattle.et_walk.proofs.SaysReached.{by_reached, event_writes_to_reached}
-use Rattle.et_walk.proofs.SaysRecords.{by_objects, event_tells}
-use Rattle.et_walk.proofs.SoundStates.{event_leads_to_sound, leads as leads_to_sound}
-use Rattle.et_walk.specs.Changing.{Changes, KeepsMonitors, LeadsToSound, MovesMonitors}
-use Rattle.et_walk.specs.Holding.{monitor_row, monitor_row_at, row_decoded}
-use Rattle.et_walk.specs.Records.{HasPlainStrings, TellsAll, TellsObjects}
-use Rattle.et_walk.specs.Steps.{IsFramed}
-use Rattle.et_walk.specs.Telling.{IsToldOf}
-use Rattle.et_walk.specs.Values.{FineSome, Fines}
-use Rattle.et_walk.specs.Writes.{WritesToReached}
+use Rattle.et_history.proofs.steps.Calls.{arguments_fine}
+use Rattle.et_history.proofs.steps.Folding.{MadeOf, comes_so}
+use Rattle.et_history.proofs.steps.Held.{Ready, first_fine}
+use Rattle.et_history.proofs.steps.MonitorFrames.{level_fits}
+use Rattle.et_history.proofs.steps.MonitorRows.{LeadsLined, event_keeps_lists, event_keeps_monitors, fits_keep, steps_keep}
+use Rattle.et_history.proofs.steps.SaysNames.{by_names, told_event}
+use Rattle.et_history.proofs.steps.SaysReached.{by_reached, event_writes_to_reached}
+use Rattle.et_history.proofs.steps.SaysRecords.{by_objects, event_tells}
+use Rattle.et_history.proofs.steps.SoundStates.{event_leads_to_sound, leads as leads_to_sound}
+use Rattle.et_history.specs.steps.Changing.{Changes, KeepsMonitors, LeadsToSound, MovesMonitors}
+use Rattle.et_history.specs.steps.Holding.{monitor_row, monitor_row_at, row_decoded}
+use Rattle.et_history.specs.steps.Records.{HasPlainStrings, TellsAll, TellsObjects}
+use Rattle.et_history.specs.steps.Steps.{IsFramed}
+use Rattle.et_history.specs.steps.Telling.{IsToldOf}
+use Rattle.et_history.specs.steps.Values.{FineSome, Fines}
+use Rattle.et_history.specs.steps.Writes.{WritesToReached}
 use Rattle.et_history.proofs.texts.Called.{IsTextCall, text_called}
 use Rattle.et_history.proofs.texts.Out.{LeadsOut, as_beside, out_keeps_sound, out_leads, out_slot, with_statics}
 use Rattle.et_history.proofs.texts.Read.{IsOutRead, out_found}

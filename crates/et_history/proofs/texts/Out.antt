@@ -28,14 +28,14 @@ use Rattle.et_sound.proofs.Fields.{going, leaving_well}
 use Rattle.et_sound.proofs.Outcomes.{ends_sound, instance_well, if_case}
 use Rattle.et_sound.proofs.Slots.{static_well}
 use Rattle.et_state.proofs.Steps.{newest_held}
-use Rattle.et_walk.proofs.Heaps.{statics_fine}
-use Rattle.et_walk.proofs.Held.{Ready, frame_fine}
-use Rattle.et_walk.proofs.Rows.{leaving_comes, operands_fine}
-use Rattle.et_walk.proofs.Values.{fine_at, frame_grows}
-use Rattle.et_walk.proofs.Words.{Still, begun, instance_still, level, top_still, written_static_still}
-use Rattle.et_walk.specs.Steps.{Begins, Ended, IsFramed, Level, Plainly, WithInstance}
-use Rattle.et_walk.specs.Values.{Fine, FineFrame}
-use Rattle.et_walk.specs.Writes.{is_out_slot}
+use Rattle.et_history.proofs.steps.Heaps.{statics_fine}
+use Rattle.et_history.proofs.steps.Held.{Ready, frame_fine}
+use Rattle.et_history.proofs.steps.Rows.{leaving_comes, operands_fine}
+use Rattle.et_history.proofs.steps.Values.{fine_at, frame_grows}
+use Rattle.et_history.proofs.steps.Words.{Still, begun, instance_still, level, top_still, written_static_still}
+use Rattle.et_history.specs.steps.Steps.{Begins, Ended, IsFramed, Level, Plainly, WithInstance}
+use Rattle.et_history.specs.steps.Values.{Fine, FineFrame}
+use Rattle.et_history.specs.steps.Writes.{is_out_slot}
 use Rattle.et_history.proofs.texts.Read.{IsOutRead}
 use Rattle.et_history.proofs.texts.Rows.{EndsBeside, LeadsBeside, ends_event_beside}
 

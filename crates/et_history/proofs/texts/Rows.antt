@@ -28,15 +28,15 @@ use Rattle.et_event.specs.SoundTexts.{is_text_class}
 use Rattle.et_event.specs.TextRows.{ends_with_texts, is_fit_text, is_text_like, rewrites, shown, text_done, text_given}
 use Rattle.et_event.specs.declared.errors.GuestError.{GuestError}
 use Rattle.et_event.specs.declared.errors.GuestError.TheVariants.{NullPointerException, OutOfMemoryError, StringIndexOutOfBoundsException}
-use Rattle.et_walk.proofs.Calls.{answering_comes}
-use Rattle.et_walk.proofs.Given.{truth_fine}
+use Rattle.et_history.proofs.steps.Calls.{answering_comes}
+use Rattle.et_history.proofs.steps.Given.{truth_fine}
 use Rattle.et_state.proofs.Steps.{newest_held}
-use Rattle.et_walk.proofs.Held.{Ready}
-use Rattle.et_walk.proofs.Records.{newest_at}
-use Rattle.et_walk.proofs.Rows.{operands_fine}
-use Rattle.et_walk.proofs.Values.{fines_drop}
-use Rattle.et_walk.specs.Steps.{Begins, Ended, IsFramed, Level, Plainly, WithError, WithInstance}
-use Rattle.et_walk.specs.Values.{Fines}
+use Rattle.et_history.proofs.steps.Held.{Ready}
+use Rattle.et_history.proofs.steps.Records.{newest_at}
+use Rattle.et_history.proofs.steps.Rows.{operands_fine}
+use Rattle.et_history.proofs.steps.Values.{fines_drop}
+use Rattle.et_history.specs.steps.Steps.{Begins, Ended, IsFramed, Level, Plainly, WithError, WithInstance}
+use Rattle.et_history.specs.steps.Values.{Fines}
 use Rattle.et_sound.proofs.Outcomes.{if_case}
 
 -- THE TEXTS after a row: as they were, or one object was given one

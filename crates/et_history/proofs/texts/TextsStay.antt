@@ -23,8 +23,8 @@ use Rattle.et_event.specs.Runnable.{IsRunnable}
 use Rattle.et_event.specs.Sound.{IsSoundFor}
 use Rattle.et_event.specs.SoundTexts.{HasSoundTexts, is_text_class}
 use Rattle.et_event.specs.Told.{event_with_texts, keeping}
-use Rattle.et_walk.proofs.SaysRecords.{event_tells}
-use Rattle.et_walk.specs.Records.{IsAlike, TellsAll, TellsObjects}
+use Rattle.et_history.proofs.steps.SaysRecords.{event_tells}
+use Rattle.et_history.specs.steps.Records.{IsAlike, TellsAll, TellsObjects}
 use Rattle.et_history.specs.texts.Texts.{LeadsToSoundTexts}
 use Rattle.et_history.proofs.texts.Events.{by_rows, moment, objects_row, sound_silent, unended_silent}
 use Rattle.et_history.proofs.texts.Out.{LeadsOut}

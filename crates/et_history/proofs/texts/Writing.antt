@@ -19,11 +19,11 @@ use Rattle.et_event.specs.Moments.{Moment, number_of_value}
 use Rattle.et_event.specs.Runnable.{IsRunnable}
 use Rattle.et_event.specs.Sound.{IsSoundFor}
 use Rattle.et_event.specs.Told.{event_with_texts, keeping}
-use Rattle.et_walk.proofs.Held.{Ready}
-use Rattle.et_walk.proofs.SaysReached.{by_others, event_tells_beside_out}
-use Rattle.et_walk.proofs.SaysWrites.{by_writes, event_tells_writes}
-use Rattle.et_walk.specs.Records.{HasPlainStrings}
-use Rattle.et_walk.specs.Writes.{HasCause, IsBesideOut, TellWrites, TellsBesideOut, TellsWrites, after_record, is_out_slot, reference_at}
+use Rattle.et_history.proofs.steps.Held.{Ready}
+use Rattle.et_history.proofs.steps.SaysReached.{by_others, event_tells_beside_out}
+use Rattle.et_history.proofs.steps.SaysWrites.{by_writes, event_tells_writes}
+use Rattle.et_history.specs.steps.Records.{HasPlainStrings}
+use Rattle.et_history.specs.steps.Writes.{HasCause, IsBesideOut, TellWrites, TellsBesideOut, TellsWrites, after_record, is_out_slot, reference_at}
 use Rattle.et_history.specs.texts.Writing.{TellsOtherWrites, reference_told}
 use Rattle.et_history.proofs.texts.Events.{by_rows, moment, ready, sound_silent, unended_silent}
 use Rattle.et_history.proofs.texts.Out.{LeadsOut, with_statics}

@@ -5,7 +5,7 @@ use Rattle.et_program.specs.Entries.{Linked}
 use Rattle.et_state.specs.State.{Kept}
 use Rattle.et_state.specs.Outcome.{Outcome}
 use Rattle.et_state.specs.Outcome as outcome
-use Rattle.et_walk.specs.Writes.{TellWrites, is_out_slot, reference_at}
+use Rattle.et_history.specs.steps.Writes.{TellWrites, is_out_slot, reference_at}
 
 -- the reference in a slot of an object, or in a static for the object 0, as records tell it: in the static of System.out they
 -- tell none

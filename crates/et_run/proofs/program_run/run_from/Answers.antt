@@ -16,7 +16,7 @@ use Rattle.et_loop.specs.Visits.{allowed_visits, IsCut}
 use Rattle.et_loop.specs.Said.{Says, SaysPrefix, IsCutSaid}
 use Rattle.et_loop.specs.Traced.{WritesTrace, WritesPrefix}
 use Rattle.et_history.specs.Settings.{IsSoundRun, flush_visits_of, said_by, setting}
-use Rattle.et_walk.specs.Telling.{names_of_program}
+use Rattle.et_history.specs.steps.Telling.{names_of_program}
 use Rattle.et_run.proofs.Starting.{first_step, records_named}
 use Rattle.et_run.proofs.program_run.run_from.Goals as goal
 

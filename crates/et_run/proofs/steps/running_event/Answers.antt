@@ -1,8 +1,8 @@
 use Rattle.std.proofs.Common.{arith, refl}
 use Rattle.et_state.specs.State.{Kept}
 use Rattle.et_event.specs.Told.{event_with_texts}
-use Rattle.et_walk.specs.Changing.{KeepsMonitors}
-use Rattle.et_walk.specs.Telling.{IsToldOf}
+use Rattle.et_history.specs.steps.Changing.{KeepsMonitors}
+use Rattle.et_history.specs.steps.Telling.{IsToldOf}
 use Rattle.et_run.specs.WithTexts.{state_of}
 use Rattle.et_run.proofs.Flushing.{on_ok_both}
 use Rattle.et_run.proofs.Waiting.{has_waited}

@@ -1,7 +1,7 @@
 use Rattle.std.proofs.Common.{◌≡◌, ℕ, ◌+◌, List, length, Contains, refl, sym, ap, ◌∙◌, subst, rules, arith}
 use Rattle.std.specs.Prelude.{All, IsTrue, slice_index}
 use Rattle.et_history.specs.Settings.{unended_threads}
-use Rattle.et_walk.specs.Telling.{names_of_program}
+use Rattle.et_history.specs.steps.Telling.{names_of_program}
 use Rattle.et_state.specs.Answers.{TicksWhereDone}
 use Rattle.et_state.specs.Naming.{IsNamed}
 use Rattle.et_run.specs.WithTexts.{state_of}

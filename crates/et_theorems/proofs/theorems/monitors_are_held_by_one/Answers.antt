@@ -3,7 +3,7 @@ use Rattle.et_history.specs.Histories.{HistoryComesTo, times_held}
 use Rattle.et_history.specs.Histories as histories
 use Rattle.et_sound.specs.WellFormed.{IsThere}
 use Rattle.et_state.specs.State.{Kept}
-use Rattle.et_walk.specs.Holding.{monitor_in}
+use Rattle.et_history.specs.steps.Holding.{monitor_in}
 use Rattle.et_theorems.specs.Runs.{Run, IsTraced, picks_of, state_at}
 use Rattle.et_theorems.proofs.Histories.{history_of}
 use Rattle.et_theorems.proofs.theorems.monitors_are_held_by_one.Goals as goal

@@ -7,7 +7,7 @@ use Rattle.et_state.specs.Roots.{graph_of}
 use Rattle.et_run.specs.WithTexts.{state_of}
 use Rattle.et_run.specs.declared.with_texts.MachineWithTexts.{MachineWithTexts}
 use Rattle.et_history.specs.Settings.{unended_threads}
-use Rattle.et_walk.specs.Telling.{names_of_program}
+use Rattle.et_history.specs.steps.Telling.{names_of_program}
 use Rattle.et_loop.specs.Quiet.{IsStretch, IsBrokenOff}
 use Rattle.et_run.proofs.guest.ProgramGuestGuest.events.Goals as goal
 
