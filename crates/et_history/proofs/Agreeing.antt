@@ -12,7 +12,7 @@ use Rattle.et_state.specs.Outcome.{Outcome, state_after, end_by}
 use Rattle.et_state.specs.Outcome as outcome
 use Rattle.et_event.specs.Moments.{Moment, begins, later}
 use Rattle.et_event.specs.Monitors.{Lock, OfObject, OfClass, is_owner, is_open_to, left_once, may_enter}
-use Rattle.et_sound.specs.WellFormed.{IsThere}
+use Rattle.et_history.specs.soundness.WellFormed.{IsThere}
 use Rattle.et_history.specs.steps.Holding.{is_held_lock, entry_of, exit_of, monitor_in, times_after}
 use Rattle.et_history.specs.steps.Changing.{entered_once, left_by_owner, Changes, MovesMonitors, KeepsMonitors}
 use Rattle.et_history.proofs.steps.Monitors.{is_same, first_monitor}

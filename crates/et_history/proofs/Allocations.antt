@@ -41,7 +41,7 @@ use Rattle.et_history.proofs.Alike.{is_open}
 use Rattle.et_history.proofs.Wholes.{settled_match, go_on, picked_unended}
 use Rattle.et_history.proofs.steps.Records.{alike_itself, alike_then, same_size}
 use Rattle.et_history.proofs.texts.Events.{event_tells_objects as event_tells}
-use Rattle.et_sound.proofs.Outcomes.{if_case}
+use Rattle.et_history.proofs.soundness.Outcomes.{if_case}
 use Rattle.et_history.proofs.Freed.{past_at, settled_here, next_here}
 
 -- LINES

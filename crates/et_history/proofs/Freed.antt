@@ -22,7 +22,7 @@ use Rattle.et_history.specs.Settings.{unended_threads}
 use Rattle.et_history.specs.Whole.{beside, cleared, whole_flushed}
 use Rattle.et_history.proofs.Alike.{is_open}
 use Rattle.et_history.proofs.Wholes.{all_match, settled_match, go_on, keeps_at, flushed_here, reported_gone}
-use Rattle.et_sound.proofs.Outcomes.{if_case}
+use Rattle.et_history.proofs.soundness.Outcomes.{if_case}
 
 -- WHAT WAS REPORTED, after a flush
 

@@ -16,9 +16,9 @@ use Rattle.et_event.specs.Moments.{Moment}
 use Rattle.et_event.specs.Monitors.{Lock, OfObject, OfClass}
 use Rattle.et_event.specs.Sound.{IsSoundMonitor, IsSoundFor}
 use Rattle.et_state.specs.Start.{start}
-use Rattle.et_sound.specs.WellFormed.{IsThere}
-use Rattle.et_sound.proofs.Growing.{free_is_sound}
-use Rattle.et_sound.proofs.Outcomes.{if_case}
+use Rattle.et_history.specs.soundness.WellFormed.{IsThere}
+use Rattle.et_history.proofs.soundness.Growing.{free_is_sound}
+use Rattle.et_history.proofs.soundness.Outcomes.{if_case}
 use Rattle.et_history.specs.Settings.{flushed_of}
 use Rattle.et_history.specs.steps.Holding.{monitor_in}
 use Rattle.et_history.specs.Histories.{state_at, settled_at, moment_at, times_held, IsHistory, HistoryComesTo}

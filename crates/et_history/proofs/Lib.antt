@@ -27,3 +27,4 @@ pub mod ArrayWords
 pub mod ShortNames
 pub mod texts
 pub mod steps
+pub mod soundness

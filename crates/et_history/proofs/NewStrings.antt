@@ -29,7 +29,7 @@ use Rattle.et_event.specs.Strings.{interned, string_object}
 use Rattle.et_history.proofs.steps.Heaps.{newest}
 use Rattle.et_heap.specs.Queues.{with_waits, without_first_waiting, take_first}
 use Rattle.et_event.proofs.Values.{updated_state}
-use Rattle.et_sound.proofs.Outcomes.{if_case}
+use Rattle.et_history.proofs.soundness.Outcomes.{if_case}
 
 -- the thread was started, and each object that is new is that of a string
 pub record OfStrings (e : Moment) (s : Kept) : Type 0 where

@@ -32,7 +32,7 @@ use Rattle.et_history.proofs.NewRows.{Starts, done_new, ended_new, on_top_reache
 use Rattle.et_history.proofs.NewStrings.{first}
 use Rattle.et_history.proofs.NewTurns.{event_reaches}
 use Rattle.et_history.proofs.NewWays.{New, each_int, ends_reached, one_reached, unless_ill_typed, unless_thrown, where_not_null}
-use Rattle.et_sound.proofs.Outcomes.{if_case}
+use Rattle.et_history.proofs.soundness.Outcomes.{if_case}
 
 module _ (e : Moment) (here : Starts e) (at : Site) where
   -- ONE OBJECT is made, and put on the operands

@@ -54,7 +54,7 @@ use Rattle.et_history.proofs.NewStrings.{OfStrings, first, thread_strings, top_s
 use Rattle.et_history.proofs.NewWays.{New, reached_beyond, one_reached, pending_reached, goes_new, ends_reached, ends_new, throws_new, unless_ill_typed, unless_thrown, where_resolved, where_not_null, unless_waiting, where_frame_fits, initialized_new, each_value}
 use Rattle.et_history.proofs.NewRows.{Starts, on_top, heap_new, throw_new, end_new, monitor_new, on_frame_new, constant_new, divides_new}
 use Rattle.et_heap.specs.Queues.{first_value}
-use Rattle.et_sound.proofs.Outcomes.{if_case}
+use Rattle.et_history.proofs.soundness.Outcomes.{if_case}
 
 -- A METHOD IS ENTERED
 

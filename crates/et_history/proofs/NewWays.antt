@@ -33,7 +33,7 @@ use Rattle.et_history.specs.Reaching.{AreReachedFrom, ReachesNew}
 use Rattle.et_history.proofs.steps.Heaps.{newest}
 use Rattle.et_history.proofs.steps.Words.{thread_now}
 use Rattle.et_history.proofs.NewStrings.{OfStrings, thread_strings, state_strings, constants_strings, quietly_strings}
-use Rattle.et_sound.proofs.Outcomes.{if_case}
+use Rattle.et_history.proofs.soundness.Outcomes.{if_case}
 
 abbrev pub New : Moment → Outcome Kept → Type 0
 New e x = ReachesNew e.before x

@@ -28,7 +28,7 @@ use Rattle.et_history.specs.Whole.{beside, whole_flushed, whole_start}
 use Rattle.et_history.proofs.Alike.{is_open}
 use Rattle.et_history.proofs.Wholes.{reached_all, is_now, picked_unended}
 use Rattle.et_history.proofs.NewTexts.{event_with_texts_reaches as event_reaches}
-use Rattle.et_sound.proofs.Outcomes.{if_case}
+use Rattle.et_history.proofs.soundness.Outcomes.{if_case}
 
 -- AN EVENT
 

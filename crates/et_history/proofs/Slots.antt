@@ -42,7 +42,7 @@ use Rattle.et_history.proofs.Alike.{is_open}
 use Rattle.et_history.proofs.Reporting.{if_known}
 use Rattle.et_history.proofs.Wholes.{Stands, go_on, keeps_at, picked_unended, reached_all, settled_match}
 use Rattle.et_history.proofs.NewArrays.{unset_at}
-use Rattle.et_sound.proofs.Outcomes.{if_case}
+use Rattle.et_history.proofs.soundness.Outcomes.{if_case}
 use Rattle.et_history.proofs.steps.WaitingLists.{beyond}
 
 -- RECORDS

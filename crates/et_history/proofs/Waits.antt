@@ -29,7 +29,7 @@ use Rattle.et_history.proofs.texts.Events.{event_with_texts_keeps_lists as event
 use Rattle.et_history.proofs.FlushedLists.{flush_lined}
 use Rattle.et_history.proofs.steps.WaitingLists.{AreLined}
 use Rattle.et_history.proofs.Wholes.{Stands, all_match, settled_match, go_on, picked_unended, same_reached, tells}
-use Rattle.et_sound.proofs.Outcomes.{if_case}
+use Rattle.et_history.proofs.soundness.Outcomes.{if_case}
 
 abbrev pub Now : State → Type 0
 Now s = AreLined s.kept.heap s.reported

@@ -10,3 +10,4 @@ pub mod Ends
 pub mod Waiting
 pub mod texts
 pub mod steps
+pub mod soundness

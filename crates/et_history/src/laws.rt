@@ -17,7 +17,7 @@ ghost use Rattle.et_loop.specs.declared.options.Ran.{Ran};
 ghost use Rattle.et_loop.specs.Traced.{WritesTrace, WritesPrefix};
 ghost use Rattle.et_loop.specs.Visits.{allowed_visits, IsCut};
 ghost use Rattle.et_loop.specs.Said.{Says, SaysPrefix, IsCutSaid};
-ghost use Rattle.et_sound.specs.WellFormed.{IsThere};
+ghost use Rattle.et_history.specs.soundness.WellFormed.{IsThere};
 ghost use Rattle.et_history.specs.Histories.{picked, state_at, whole_picked, whole_at, times_held, IsHistory, IsHistoryTo, HistoryComesTo};
 ghost use Rattle.et_history.specs.steps.Holding.{monitor_in};
 ghost use Rattle.et_history.specs.Same.{IsHere, IsReportedAs, TellsTheSame};

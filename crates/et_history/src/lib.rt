@@ -9,6 +9,7 @@ pub mod object_laws;
 pub mod record_laws;
 pub mod run_laws;
 pub mod slot_laws;
+pub mod sound_laws;
 pub mod spoken_laws;
 pub mod text_laws;
 pub mod waiting_laws;

@@ -30,7 +30,7 @@ ghost use Rattle.et_replay.specs.Replay.{replay_text};
 ghost use Rattle.et_replay.specs.Timeline.{timeline_items};
 ghost use Rattle.et_replay.specs.declared.model.Kind.{Kind};
 ghost use Rattle.et_snapshot.specs.Snapshot.{content, snapshot_text};
-ghost use Rattle.et_sound.specs.WellFormed.{IsThere};
+ghost use Rattle.et_history.specs.soundness.WellFormed.{IsThere};
 ghost use Rattle.et_state.specs.History.{IsLastEvent};
 ghost use Rattle.et_state.specs.Options.{AreOptions};
 ghost use Rattle.et_state.specs.Roots.{graph, numbers_from};

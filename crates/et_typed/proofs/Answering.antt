@@ -35,7 +35,7 @@ use Rattle.et_program.specs.BuiltIns.{built_in_of}
 use Rattle.et_program.specs.Entries.{Linked, method_at}
 use Rattle.et_program.specs.Members.{is_subclass}
 use Rattle.et_program.specs.declared.info.MethodInfo.{MethodInfo}
-use Rattle.et_sound.proofs.Calling.{returned_as}
+use Rattle.et_history.proofs.soundness.Calling.{returned_as}
 use Rattle.et_state.specs.Outcome.{Outcome}
 use Rattle.et_state.specs.State.{Kept}
 use Rattle.et_state.specs.Threads.{ThreadState, most_threads, new_thread, no_thread, thread_with, with_top_of}

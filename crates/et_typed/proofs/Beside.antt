@@ -14,8 +14,8 @@ use Rattle.et_event.specs.declared.rows.HeapRow.TheVariants as heap
 use Rattle.et_event.specs.declared.rows.Row.{Row}
 use Rattle.et_event.specs.declared.rows.Row.TheVariants as rows
 use Rattle.et_program.specs.Entries.{Linked}
-use Rattle.et_sound.specs.Places.{IsAtRow}
-use Rattle.et_sound.specs.WellFormed.{StandsAt}
+use Rattle.et_history.specs.soundness.Places.{IsAtRow}
+use Rattle.et_history.specs.soundness.WellFormed.{StandsAt}
 use Rattle.et_state.specs.Outcome.{Outcome}
 use Rattle.et_state.specs.Outcome as outcome
 use Rattle.et_state.specs.Spoken.{spoken, silent}

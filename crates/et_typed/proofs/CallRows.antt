@@ -36,12 +36,12 @@ use Rattle.et_program.specs.Resolution.{resolve_class, resolve_method, select, s
 use Rattle.et_program.specs.declared.errors.LinkError.{LinkError}
 use Rattle.et_program.specs.declared.info.MethodInfo.{MethodInfo}
 use Rattle.et_program.specs.Referring.{pool_of_class}
-use Rattle.et_sound.proofs.Calling.{IsCall, IsCalled, not_initializing, typed_as, either}
-use Rattle.et_sound.proofs.Entering.{StandsIn, runs_here, stands_in, thread_now}
-use Rattle.et_sound.proofs.Invoking.{as_wanted}
-use Rattle.et_sound.proofs.Resolving.{resolved_method, selected_method, selected_special}
-use Rattle.et_sound.specs.Methods.{IsInstanceMethod, IsMethod}
-use Rattle.et_sound.specs.Places.{IsAtRow}
+use Rattle.et_history.proofs.soundness.Calling.{IsCall, IsCalled, not_initializing, typed_as, either}
+use Rattle.et_history.proofs.soundness.Entering.{StandsIn, runs_here, stands_in, thread_now}
+use Rattle.et_history.proofs.soundness.Invoking.{as_wanted}
+use Rattle.et_history.proofs.soundness.Resolving.{resolved_method, selected_method, selected_special}
+use Rattle.et_history.specs.soundness.Methods.{IsInstanceMethod, IsMethod}
+use Rattle.et_history.specs.soundness.Places.{IsAtRow}
 use Rattle.et_state.specs.Outcome.{Outcome}
 use Rattle.et_state.specs.State.{Kept}
 use Rattle.et_state.specs.Threads.{FrameState, ThreadState, entered_by, locals_with, no_thread, popped, rest_of, with_top_of}
@@ -173,7 +173,7 @@ module _ (e : Moment) (typings : Typings) (m : ℕ) (at : Site) (kind : CallKind
       both_true (are_arguments (is_static_call kind) c.type args) (leb (length (drop count ops) + returned_width c.type.returned) (current_frame e).room) arguments_pass
       (le-leb (length (drop count ops) + returned_width c.type.returned) (current_frame e).room room)
 
-  -- what et_sound asks of a call
+  -- what et_history asks of a call
   not_clinit : bytes_eq c.member.name (codes "<clinit>") ≡ false
   not_clinit =
       let row : IsAtRow e at (rows.Call (call.Invoke kind)) = here.row in

@@ -24,11 +24,11 @@ use Rattle.et_event.specs.Sound.{HasThreadObject}
 use Rattle.et_event.specs.declared.errors.GuestError.TheVariants as errors
 use Rattle.et_program.specs.Entries.{class_at, is_static, method_at}
 use Rattle.et_program.specs.Resolution.{resolve_method, select}
-use Rattle.et_sound.proofs.Entering.{thread_now}
-use Rattle.et_sound.proofs.Initializing.{all_done}
-use Rattle.et_sound.proofs.Resolving.{resolved_method, selected_method}
-use Rattle.et_sound.specs.Methods.{IsInstanceMethod, IsMethod}
-use Rattle.et_sound.specs.WellFormed.{IsWellFormed}
+use Rattle.et_history.proofs.soundness.Entering.{thread_now}
+use Rattle.et_history.proofs.soundness.Initializing.{all_done}
+use Rattle.et_history.proofs.soundness.Resolving.{resolved_method, selected_method}
+use Rattle.et_history.specs.soundness.Methods.{IsInstanceMethod, IsMethod}
+use Rattle.et_history.specs.soundness.WellFormed.{IsWellFormed}
 use Rattle.et_state.specs.Outcome.{Outcome}
 use Rattle.et_state.specs.State.{Kept}
 use Rattle.et_state.specs.Threads.{FrameState, ThreadState, as_entered, clinit_stage, entered_by, in_clinit, no_thread, rest_of, turn_of, with_top_of, without_top}

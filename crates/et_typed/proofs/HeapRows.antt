@@ -27,7 +27,7 @@ use Rattle.et_program.specs.Members.{is_subclass}
 use Rattle.et_program.specs.Referring.{field_in_owner, field_of_member}
 use Rattle.et_program.specs.Resolution.{resolve_class, resolve_field}
 use Rattle.et_program.specs.Types.{passes}
-use Rattle.et_sound.proofs.Fields.{IsField, field_found, field_value}
+use Rattle.et_history.proofs.soundness.Fields.{IsField, field_found, field_value}
 use Rattle.et_typed.proofs.Held.{arrays_threads, element_read}
 use Rattle.et_typed.proofs.Moves.{Gives, NamesClass, Reads, Writes, gives, names_class, reads, read_entries, takes_all, width_is, writes}
 use Rattle.et_event.specs.Checks.{not_null, throws_unless}

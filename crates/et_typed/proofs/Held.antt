@@ -13,7 +13,7 @@ use Rattle.et_event.specs.declared.rows.Elements.{Elements}
 use Rattle.et_heap.specs.Objects.{ObjectState, at, found, object_at, slot_of}
 use Rattle.et_program.specs.Entries.{Linked, class_at}
 use Rattle.et_program.specs.declared.info.Element.{Element}
-use Rattle.et_sound.proofs.Values.{element_kind}
+use Rattle.et_history.proofs.soundness.Values.{element_kind}
 use Rattle.et_state.specs.State.{Kept}
 use Rattle.et_typed.proofs.Own.{slot_threads}
 use Rattle.et_history.proofs.steps.Rows.{no_elements}

@@ -12,7 +12,7 @@ use Rattle.et_event.specs.Heap.{leaving_values}
 use Rattle.et_event.specs.Moments.{Doing, Moment, current_frame, thread_of, with_frame}
 use Rattle.et_event.specs.Sites.{Site, target}
 use Rattle.et_event.specs.declared.rows.Row.{Row}
-use Rattle.et_sound.specs.Places.{IsAtRow}
+use Rattle.et_history.specs.soundness.Places.{IsAtRow}
 use Rattle.et_state.specs.Outcome.{Outcome}
 use Rattle.et_state.specs.State.{Kept}
 use Rattle.et_state.specs.Threads.{FrameState, ThreadState, rest_of, with_top_of}

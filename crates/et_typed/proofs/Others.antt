@@ -22,7 +22,7 @@ use Rattle.et_heap.specs.Objects.{ObjectState, Objects, at, found, object_at, sl
 use Rattle.et_heap.specs.Queues.{take_first, with_waits, without_first_waiting}
 use Rattle.et_program.specs.Entries.{Linked, method_at}
 use Rattle.et_program.specs.Members.{is_subclass}
-use Rattle.et_sound.proofs.Outcomes.{if_case}
+use Rattle.et_history.proofs.soundness.Outcomes.{if_case}
 use Rattle.et_event.proofs.Values.{updated_state}
 use Rattle.et_state.specs.Interned.{object_of}
 use Rattle.et_state.specs.State.{Kept}

@@ -22,7 +22,7 @@ use Rattle.et_event.specs.declared.rows.Row.{Row}
 use Rattle.et_event.specs.declared.rows.Row.TheVariants as rows
 use Rattle.et_program.specs.Entries.{field_at}
 use Rattle.et_program.specs.Resolution.{resolve_class, resolve_field}
-use Rattle.et_sound.proofs.Fields.{IsField, field_found}
+use Rattle.et_history.proofs.soundness.Fields.{IsField, field_found}
 use Rattle.et_history.proofs.texts.Called.{and_then_some, if_some, result_some}
 use Rattle.et_history.proofs.texts.Read.{map_some}
 use Rattle.et_state.specs.Outcome.{Outcome}

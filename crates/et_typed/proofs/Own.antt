@@ -7,7 +7,7 @@ use Rattle.et_event.specs.Errors.{error_class}
 use Rattle.et_event.specs.Moments.{Doing, Moment, doing_with_guest, ends_event, entry_given_up, fits_heap, instance_made, next_object, pending_now, slot_written, static_written, thread_of, throws, with_thread_state}
 use Rattle.et_event.specs.declared.errors.GuestError.{GuestError}
 use Rattle.et_program.specs.Entries.{Linked}
-use Rattle.et_sound.proofs.Entering.{thread_now}
+use Rattle.et_history.proofs.soundness.Entering.{thread_now}
 use Rattle.et_event.proofs.Values.{updated_state}
 use Rattle.et_state.specs.Outcome.{Outcome}
 use Rattle.et_state.specs.Outcome as outcome

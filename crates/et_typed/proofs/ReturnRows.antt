@@ -27,7 +27,7 @@ use Rattle.et_event.specs.declared.rows.CallRow.TheVariants as call
 use Rattle.et_event.specs.declared.rows.Row.{Row}
 use Rattle.et_event.specs.declared.rows.Row.TheVariants as rows
 use Rattle.et_program.specs.Entries.{Linked, method_at}
-use Rattle.et_sound.proofs.Frames.{RunsSome, runs_some, with_first}
+use Rattle.et_history.proofs.soundness.Frames.{RunsSome, runs_some, with_first}
 use Rattle.et_state.specs.Outcome.{Outcome}
 use Rattle.et_state.specs.State.{Kept}
 use Rattle.et_state.specs.Threads.{FrameState, ThreadState, rest_of}
@@ -51,7 +51,7 @@ use Rattle.et_typed.proofs.Moves.{takes_all}
 use Rattle.et_typed.proofs.Own.{LeavesTyped, Own, first_typed, thread_own}
 use Rattle.et_typed.proofs.Taking.{value_taken}
 use Rattle.et_typed.proofs.Ways.{unless_thrown}
-use Rattle.et_sound.proofs.Returning.{kind_is as same_kind}
+use Rattle.et_history.proofs.soundness.Returning.{kind_is as same_kind}
 
 -- WHAT A RETURN TAKES
 

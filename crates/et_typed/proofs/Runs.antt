@@ -31,7 +31,7 @@ use Rattle.et_history.proofs.Wholes.{ends_back, next, picked_unended, settled_ma
 use Rattle.et_history.specs.Histories.{moment_at, picked, settled_at, state_at, whole_picked, IsHistory, HistoryComesTo}
 use Rattle.et_history.specs.Settings.{flushed_of, unended_threads}
 use Rattle.et_history.specs.Whole.{whole_start}
-use Rattle.et_sound.proofs.Outcomes.{if_case}
+use Rattle.et_history.proofs.soundness.Outcomes.{if_case}
 use Rattle.et_typed.specs.Refused.{IsRefused}
 use Rattle.et_typed.specs.Typed.{AreTypings, HasTypedSlots, IsTyped, IsTypedThread, KeepsTyped, Typings}
 use Rattle.et_typed.proofs.Told.{told_typed}

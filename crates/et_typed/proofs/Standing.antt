@@ -16,9 +16,9 @@ use Rattle.et_event.specs.declared.rows.Row.TheVariants as rows
 use Rattle.et_event.proofs.Running.{has_frame_there, runs_there}
 use Rattle.et_event.specs.Places.{Runs}
 use Rattle.et_program.specs.Entries.{Linked, method_at}
-use Rattle.et_sound.proofs.Frames.{next_pc, pc_there}
-use Rattle.et_sound.specs.Places.{IsAtRow}
-use Rattle.et_sound.specs.WellFormed.{StandsAt}
+use Rattle.et_history.proofs.soundness.Frames.{next_pc, pc_there}
+use Rattle.et_history.specs.soundness.Places.{IsAtRow}
+use Rattle.et_history.specs.soundness.WellFormed.{StandsAt}
 use Rattle.et_state.specs.Threads.{FrameState, turn_of}
 use Rattle.et_state.specs.declared.stage.Turn.TheVariants.{Instruction}
 use Rattle.et_verify.specs.Leads.{next_places, site_in}

@@ -16,8 +16,8 @@ use Rattle.et_event.specs.declared.rows.FrameRow.TheVariants as row
 use Rattle.et_event.specs.declared.rows.Row.{Row}
 use Rattle.et_event.specs.declared.rows.Row.TheVariants as rows
 use Rattle.et_event.proofs.FrameRows.{opcode_of_switch}
-use Rattle.et_sound.proofs.Going.{opcode_of_branch, switch_passes}
-use Rattle.et_sound.specs.Places.{IsAtRow}
+use Rattle.et_history.proofs.soundness.Going.{opcode_of_branch, switch_passes}
+use Rattle.et_history.specs.soundness.Places.{IsAtRow}
 use Rattle.et_verify.specs.Leads.{goes_past, next_places}
 
 -- NUMBERS in a list

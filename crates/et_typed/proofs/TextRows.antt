@@ -28,7 +28,7 @@ use Rattle.et_heap.specs.Objects.{referent_of}
 use Rattle.et_program.specs.BootTexts.TextMethod.{TextMethod}
 use Rattle.et_program.specs.BootTexts.TextMethod.TheVariants.{Append, Begin, BeginWith, CharAt, EndLine, Equals, Length, Print, PrintLine, ToString}
 use Rattle.et_program.specs.Entries.{method_at}
-use Rattle.et_sound.proofs.Calling.{returned_as, typed_as}
+use Rattle.et_history.proofs.soundness.Calling.{returned_as, typed_as}
 use Rattle.et_history.proofs.texts.Called.{IsTextCall}
 use Rattle.et_state.specs.Outcome.{Outcome}
 use Rattle.et_state.specs.Outcome as outcome

@@ -7,8 +7,8 @@ use Rattle.et_event.specs.Throw.{unwinding_step}
 use Rattle.et_event.specs.Moments.{Moment, begins, current_frame, thread_of}
 use Rattle.et_event.specs.Runnable.{IsRunnable}
 use Rattle.et_event.specs.Sound.{AreSoundFrames, IsSoundFor, IsStaged}
-use Rattle.et_sound.proofs.Frames.{with_first}
-use Rattle.et_sound.proofs.Turning.{no_frame, some_frame}
+use Rattle.et_history.proofs.soundness.Frames.{with_first}
+use Rattle.et_history.proofs.soundness.Turning.{no_frame, some_frame}
 use Rattle.et_state.specs.Outcome.{Outcome}
 use Rattle.et_state.specs.State.{Kept}
 use Rattle.et_state.specs.Threads.{FrameState, as_ended, has_frame, is_before_class, rest_of, turn_of}

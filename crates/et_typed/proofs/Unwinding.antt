@@ -21,8 +21,8 @@ use Rattle.et_class.specs.Looks.{class_name_at}
 use Rattle.et_class.specs.Entries.{Item}
 use Rattle.et_program.specs.Entries.{Linked, method_at}
 use Rattle.et_program.specs.Members.{class_named}
-use Rattle.et_sound.proofs.Frames.{with_first}
-use Rattle.et_sound.proofs.Outcomes.{if_case}
+use Rattle.et_history.proofs.soundness.Frames.{with_first}
+use Rattle.et_history.proofs.soundness.Outcomes.{if_case}
 use Rattle.et_state.specs.Outcome.{Outcome}
 use Rattle.et_state.specs.State.{Kept}
 use Rattle.et_state.specs.Threads.{FrameState, ThreadState, rest_of, with_pending, with_top_of, without_top}

@@ -17,9 +17,9 @@ use Rattle.et_heap.specs.Objects.{ObjectState, at}
 use Rattle.et_program.specs.Entries.{class_at, field_at}
 use Rattle.et_program.specs.declared.errors.LinkError.{LinkError}
 use Rattle.et_program.specs.declared.info.FieldInfo.{FieldInfo}
-use Rattle.et_sound.proofs.Initializing.{AllGoOn, all_done}
-use Rattle.et_sound.proofs.Outcomes.{begins_well, if_case}
-use Rattle.et_sound.specs.WellFormed.{IsWellFormed}
+use Rattle.et_history.proofs.soundness.Initializing.{AllGoOn, all_done}
+use Rattle.et_history.proofs.soundness.Outcomes.{begins_well, if_case}
+use Rattle.et_history.specs.soundness.WellFormed.{IsWellFormed}
 use Rattle.et_state.specs.Outcome.{Outcome}
 use Rattle.et_state.specs.State.{Kept}
 use Rattle.et_state.specs.Threads.{ThreadState, entered_by, most_frames}

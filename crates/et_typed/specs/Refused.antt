@@ -32,7 +32,7 @@ use Rattle.et_event.specs.Moments.{Moment, begins, current_frame, object_class, 
 use Rattle.et_event.specs.Sites.{Site, Member, names_interface, site_member}
 use Rattle.et_event.specs.TextRows.{is_fit_text}
 use Rattle.et_event.specs.Throw.{is_throwable}
-use Rattle.et_sound.specs.Places.{IsAtRow}
+use Rattle.et_history.specs.soundness.Places.{IsAtRow}
 use Rattle.et_typed.specs.Values.{types_of}
 use Rattle.et_flow.specs.Types.{operand_entries}
 use Rattle.et_verify.specs.Steps.{types_after}

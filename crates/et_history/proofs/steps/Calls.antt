@@ -33,10 +33,10 @@ use Rattle.et_program.specs.Resolution.{resolve_class, resolve_method, select, s
 use Rattle.et_program.specs.declared.info.Element.{Element}
 use Rattle.et_program.specs.declared.info.Element.TheVariants.{NoArray}
 use Rattle.et_program.specs.declared.info.MethodInfo.{MethodInfo}
-use Rattle.et_sound.proofs.Invoking.{as_wanted}
-use Rattle.et_sound.proofs.Resolving.{resolved_method, selected_method, selected_special}
-use Rattle.et_sound.specs.Methods.{IsInstanceMethod, IsMethod}
-use Rattle.et_sound.proofs.Outcomes.{if_case}
+use Rattle.et_history.proofs.soundness.Invoking.{as_wanted}
+use Rattle.et_history.proofs.soundness.Resolving.{resolved_method, selected_method, selected_special}
+use Rattle.et_history.specs.soundness.Methods.{IsInstanceMethod, IsMethod}
+use Rattle.et_history.proofs.soundness.Outcomes.{if_case}
 use Rattle.et_state.specs.Outcome.{Outcome}
 use Rattle.et_state.specs.State.{Kept}
 use Rattle.et_state.specs.Threads.{FrameState, in_clinit, most_threads, thread_with, with_pending, with_top_of}

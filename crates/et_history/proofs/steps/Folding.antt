@@ -20,7 +20,7 @@ use Rattle.et_history.specs.steps.Records.{Steady}
 use Rattle.et_history.specs.steps.Steps.{AllObjects, Begins, BeginsClass, Catches, ClassBecomes, Comes, CountsEntered, Drops, Ended, Ends, EntersClinit, EntersCode, EntersMonitor, GoesOn, Interns, LeavesMonitor, Level, MakesArray, MakesInstance, Pends, Phase, Plainly, Polls, Returns, SetsQueue, SetsReferent, Starts, StringsAlone, Unwinds, UnwindsClinit, WithArray, WithArrays, WithCause, WithError, WithInstance, WritesSlot, WritesStatic}
 use Rattle.et_state.specs.State.{Kept}
 use Rattle.et_event.proofs.Values.{updated_state}
-use Rattle.et_sound.proofs.Outcomes.{if_case}
+use Rattle.et_history.proofs.soundness.Outcomes.{if_case}
 use Rattle.std.proofs.Common.{List, Option, Some, [], ap, arith, inl, inr, length, subst, suc, sym, zero, ℕ, ◌<◌, ◌∙◌, ◌∷◌, ◌≡◌, ◌≤◌}
 use Rattle.std.proofs.lemmas.List.{length-replicate, length-set, length_push}
 use Rattle.et_event.specs.declared.errors.GuestError.TheVariants as errors

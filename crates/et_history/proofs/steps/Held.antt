@@ -30,7 +30,7 @@ use Rattle.std.proofs.Common.{Bool, List, None, Option, Some, [], ap, arith, fal
 use Rattle.std.proofs.lemmas.Bool.{cases_lt, false≢true, true≢false}
 use Rattle.std.specs.Prelude.{if◌then◌else◌, option_map, unwrap_or}
 use Rattle.et_event.specs.PoolOperands.Operand.TheVariants as operand
-use Rattle.et_sound.proofs.Outcomes.{if_case}
+use Rattle.et_history.proofs.soundness.Outcomes.{if_case}
 
 -- what is known of the moment: the state is sound, and the thread was started and has not ended
 pub record Knows (e : Moment) : Type 0 where

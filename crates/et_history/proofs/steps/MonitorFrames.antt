@@ -10,7 +10,7 @@ use Rattle.et_event.specs.Sites.{running_method}
 use Rattle.et_event.specs.Throw.{dropped, left_if_owned}
 use Rattle.et_heap.specs.declared.monitor.Monitor.{Monitor}
 use Rattle.et_program.specs.Entries.{Linked, method_at}
-use Rattle.et_sound.specs.WellFormed.{IsThere}
+use Rattle.et_history.specs.soundness.WellFormed.{IsThere}
 use Rattle.et_state.specs.Outcome.{Outcome}
 use Rattle.et_state.specs.State.{Kept}
 use Rattle.et_state.specs.Threads.{FrameState, ThreadState, first_frame, rest_of, without_top}

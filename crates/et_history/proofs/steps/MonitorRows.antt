@@ -41,8 +41,8 @@ use Rattle.et_history.proofs.steps.Turns.{event_leads}
 use Rattle.et_history.proofs.steps.WaitingLists.{KeepLists}
 use Rattle.et_history.proofs.steps.Words.{Still, level, begun, thread_now, top_still, instance_still, pending_still, given_up_still}
 use Rattle.et_event.specs.Runnable.{IsRunnable}
-use Rattle.et_sound.proofs.Turning.{parts, some_frame}
-use Rattle.et_sound.proofs.Outcomes.{if_case}
+use Rattle.et_history.proofs.soundness.Turning.{parts, some_frame}
+use Rattle.et_history.proofs.soundness.Outcomes.{if_case}
 use Rattle.et_state.specs.Outcome as outcome
 use Rattle.et_event.specs.declared.errors.GuestError.TheVariants as errors
 use Rattle.et_event.specs.declared.rows.MonitorRow.TheVariants as monitor

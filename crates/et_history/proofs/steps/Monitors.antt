@@ -12,7 +12,7 @@ use Rattle.et_state.specs.State.{Kept}
 use Rattle.et_state.specs.Words.{with_class_monitor}
 use Rattle.et_event.specs.Moments.{Moment, Doing, begins}
 use Rattle.et_event.specs.Monitors.{Lock, OfObject, OfClass, monitor_of, with_monitor_of, is_owner, owns, left_once, entered, left}
-use Rattle.et_sound.specs.WellFormed.{IsThere}
+use Rattle.et_history.specs.soundness.WellFormed.{IsThere}
 use Rattle.et_history.specs.steps.Holding.{is_lock, monitor_in}
 use Rattle.et_history.specs.steps.Changing.{entered_once, left_by_owner, becomes, Changes}
 use Rattle.et_history.proofs.steps.Heaps.{sound_guest, slots_fine, referent_fine, object_sound, rest_held}

@@ -27,7 +27,7 @@ use Rattle.et_event.specs.Initialization.{with_state}
 use Rattle.et_event.specs.Moments.{Moment, Doing, begins, doing_with_guest, with_thread_state, with_frame, told, next_object, instance_made, array_made, updated, slot_written, static_written, pending_now}
 use Rattle.et_event.specs.Strings.{interned}
 use Rattle.et_history.specs.steps.Telling.{names_of_program}
-use Rattle.et_sound.proofs.Outcomes.{if_case}
+use Rattle.et_history.proofs.soundness.Outcomes.{if_case}
 
 -- so far the clock is one on, and what the records name is of the program
 pub record Tells (e : Moment) (d : Doing) : Type 0 where

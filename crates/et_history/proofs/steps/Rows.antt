@@ -31,12 +31,12 @@ use Rattle.et_program.specs.Resolution.{resolve_class, resolve_field}
 use Rattle.et_program.specs.Types.{passes}
 use Rattle.et_program.specs.declared.info.Element.{Element}
 use Rattle.et_program.specs.declared.info.Element.TheVariants.{Base, Class, NoArray}
-use Rattle.et_sound.proofs.Arrays.{length-naturals}
-use Rattle.et_sound.proofs.Fields.{IsField, field_found, kind_of_one}
+use Rattle.et_history.proofs.soundness.Arrays.{length-naturals}
+use Rattle.et_history.proofs.soundness.Fields.{IsField, field_found, kind_of_one}
 use Rattle.et_event.proofs.Values.{narrowed_kind}
-use Rattle.et_sound.proofs.Values.{element_kind}
-use Rattle.et_sound.proofs.Objects.{found_there}
-use Rattle.et_sound.proofs.Classes.{class_within}
+use Rattle.et_history.proofs.soundness.Values.{element_kind}
+use Rattle.et_history.proofs.soundness.Objects.{found_there}
+use Rattle.et_history.proofs.soundness.Classes.{class_within}
 use Rattle.et_state.specs.Outcome.{Outcome}
 use Rattle.et_state.specs.State.{Kept}
 use Rattle.et_state.specs.Threads.{FrameState, as_ended}

@@ -10,9 +10,9 @@ use Rattle.et_event.specs.Sites.{running_method}
 use Rattle.et_event.specs.Throw.{dropped, handled, left_if_owned}
 use Rattle.et_heap.specs.Objects.{IsHeld, ObjectState, at, object_at, slot_of, with_object_at, with_slot}
 use Rattle.et_program.specs.Entries.{Linked, method_at}
-use Rattle.et_sound.specs.WellFormed.{IsThere}
+use Rattle.et_history.specs.soundness.WellFormed.{IsThere}
 use Rattle.et_event.proofs.Values.{updated_state}
-use Rattle.et_sound.proofs.Frames.{length-resumed}
+use Rattle.et_history.proofs.soundness.Frames.{length-resumed}
 use Rattle.et_state.specs.Outcome.{Outcome}
 use Rattle.et_state.specs.State.{Kept}
 use Rattle.et_state.specs.Threads.{FrameState, ThreadState, as_ended, entered_by, in_clinit, rest_of, turn_of, with_pending, with_top_of}

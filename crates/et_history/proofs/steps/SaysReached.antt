@@ -33,7 +33,7 @@ use Rattle.et_history.specs.steps.Writes.{IsAtHand, IsBesideOut, IsOfReached, Te
 use Rattle.std.proofs.Common.{List, None, Option, Some, [], false, inl, inr, refl, subst, ℕ, ◌∷◌, ◌≡◌, ◌⊎◌}
 use Rattle.std.proofs.lemmas.List.Elements.{All-append, All-cons, All-nil, All-weaker}
 use Rattle.std.specs.Prelude.{All, codes, is_some, unwrap_or}
-use Rattle.et_sound.proofs.Outcomes.{if_case}
+use Rattle.et_history.proofs.soundness.Outcomes.{if_case}
 
 -- what a U record is of: a static that isn't that of System.out, or an object at hand
 abbrev IsOf : Moment → (object slot : ℕ) → Type 0

@@ -13,8 +13,8 @@ use Rattle.et_event.specs.Sound.{IsSoundFor}
 use Rattle.et_event.specs.Throw.{dropped, handled, left_if_owned}
 use Rattle.et_heap.specs.Objects.{IsHeld, at}
 use Rattle.et_program.specs.Entries.{Linked, method_at}
-use Rattle.et_sound.proofs.Wholes.{sound}
-use Rattle.et_sound.proofs.Outcomes.{if_case}
+use Rattle.et_history.proofs.soundness.Wholes.{sound}
+use Rattle.et_history.proofs.soundness.Outcomes.{if_case}
 use Rattle.et_state.specs.Outcome.{Outcome}
 use Rattle.et_state.specs.State.{Kept}
 use Rattle.et_state.specs.Threads.{FrameState, ThreadState, as_ended, entered_by, in_clinit, rest_of, with_pending, with_top_of, without_top}

@@ -30,7 +30,7 @@ use Rattle.et_event.specs.Sound.{IsSoundFor, is_of_kind}
 use Rattle.et_event.specs.Strings.{interned}
 use Rattle.et_event.specs.Throw.{dropped, left_if_owned}
 use Rattle.et_event.proofs.Values.{updated_state}
-use Rattle.et_sound.proofs.Outcomes.{if_case}
+use Rattle.et_history.proofs.soundness.Outcomes.{if_case}
 use Rattle.et_history.specs.steps.Records.{HasPlainStrings}
 use Rattle.et_history.specs.steps.Steps.{AllObjects, AllThere, Begins, BeginsClass, Catches, ClassBecomes, Comes, CountsEntered, Drops, Ends, EntersClinit, EntersCode, EntersMonitor, GoesOn, Interns, IsTyped, Leads, LeavesMonitor, Level, MakesArray, MakesInstance, MayTell, MayWrite, Pends, Phase, Polls, Returns, SetsQueue, SetsReferent, Starts, Unwinds, UnwindsClinit, WritesSlot, WritesStatic, kind_of_static, own_lock}
 use Rattle.et_history.specs.steps.Writes.{HasCause, TellsWrites, reference_at}

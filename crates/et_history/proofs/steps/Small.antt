@@ -3,7 +3,7 @@ use Rattle.et_event.specs.Errors.{class_called}
 use Rattle.et_event.specs.Moments.{Doing, Moment, doing_with_guest, instance_made, next_object}
 use Rattle.et_event.specs.Strings.{interned, string_object}
 use Rattle.et_heap.specs.Objects.{IsHeld}
-use Rattle.et_sound.proofs.Wholes.{sound}
+use Rattle.et_history.proofs.soundness.Wholes.{sound}
 use Rattle.et_state.proofs.Places.{string_root}
 use Rattle.et_state.specs.Interned.{object_of}
 use Rattle.et_state.specs.Sound.{IsSound}

@@ -9,8 +9,8 @@ use Rattle.et_state.specs.Words.{IsUnended}
 use Rattle.et_event.specs.Event.{event}
 use Rattle.et_event.specs.Runnable.{IsRunnable}
 use Rattle.et_event.specs.Sound.{IsSoundFor}
-use Rattle.et_sound.specs.Outcomes.{KeepsSound}
-use Rattle.et_sound.proofs.Turning.{event_sound}
+use Rattle.et_history.specs.soundness.Outcomes.{KeepsSound}
+use Rattle.et_history.proofs.soundness.Turning.{event_sound}
 use Rattle.et_history.specs.steps.Changing.{KeepsMonitors, LeadsToSound}
 use Rattle.et_history.proofs.steps.MonitorRows.{event_keeps_monitors}
 

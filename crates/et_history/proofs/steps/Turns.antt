@@ -21,12 +21,12 @@ use Rattle.et_heap.specs.Objects.{at}
 use Rattle.et_program.specs.Entries.{ClassEntry, Linked, class_at, no_class}
 use Rattle.et_program.specs.Members.{base_array, is_base_array}
 use Rattle.et_program.specs.declared.info.MethodInfo.{MethodInfo}
-use Rattle.et_sound.proofs.Arrays.{names_class}
-use Rattle.et_sound.proofs.Entering.{StandsIn, stands_in}
-use Rattle.et_sound.proofs.Frames.{RunsSome, runs_some, with_first}
-use Rattle.et_sound.proofs.Turning.{class_by, parts, runs_by, some_frame}
-use Rattle.et_sound.proofs.Wholes.{sound}
-use Rattle.et_sound.proofs.Classes.{base_is_array}
+use Rattle.et_history.proofs.soundness.Arrays.{names_class}
+use Rattle.et_history.proofs.soundness.Entering.{StandsIn, stands_in}
+use Rattle.et_history.proofs.soundness.Frames.{RunsSome, runs_some, with_first}
+use Rattle.et_history.proofs.soundness.Turning.{class_by, parts, runs_by, some_frame}
+use Rattle.et_history.proofs.soundness.Wholes.{sound}
+use Rattle.et_history.proofs.soundness.Classes.{base_is_array}
 use Rattle.et_state.specs.State.{Kept}
 use Rattle.et_state.specs.Threads.{FrameState, has_frame, rest_of, turn_of}
 use Rattle.et_state.specs.Words.{IsUnended}

@@ -26,7 +26,7 @@ use Rattle.et_state.specs.declared.class_state.ClassState.TheVariants.{Begun, Do
 use Rattle.et_history.proofs.steps.Constants.{constants_are}
 use Rattle.et_history.proofs.steps.Held.{Ready}
 use Rattle.et_event.proofs.Values.{narrowed_kind, any_reference}
-use Rattle.et_sound.proofs.Outcomes.{if_case}
+use Rattle.et_history.proofs.soundness.Outcomes.{if_case}
 use Rattle.et_history.proofs.steps.Taken.{int_given, long_given, ref_given}
 use Rattle.et_history.proofs.steps.Small.{fold_keeps, fold_keeps_all, string_held}
 use Rattle.et_history.specs.steps.Steps.{BeginsClass, ClassBecomes, Comes, Ended, Interns, Leads, Level, Phase, Plainly, Shifted, StringsAlone, WithError, WritesStatic, kind_of_static}

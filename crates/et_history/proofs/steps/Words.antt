@@ -28,8 +28,8 @@ use Rattle.et_event.specs.Moments.{Moment, Doing, begins, thread_of, doing_with_
 use Rattle.et_event.specs.Monitors.{Lock, OfObject, OfClass}
 use Rattle.et_event.specs.Sites.{LoadedConstant, AnInt, ALong, AString, constant_at, pool_of_class}
 use Rattle.et_event.specs.Strings.{interned, string_object}
-use Rattle.et_sound.specs.WellFormed.{IsThere}
-use Rattle.et_sound.proofs.Outcomes.{if_case}
+use Rattle.et_history.specs.soundness.WellFormed.{IsThere}
+use Rattle.et_history.proofs.soundness.Outcomes.{if_case}
 use Rattle.et_history.specs.steps.Holding.{monitor_in}
 use Rattle.et_history.specs.steps.Changing.{becomes, Changes}
 use Rattle.et_history.specs.steps.Values.{Fine, Fines, FineSome, FineFrame, FineThread}

@@ -28,9 +28,9 @@ use Rattle.et_event.specs.declared.rows.CallKind.TheVariants.{Interface, Special
 use Rattle.et_event.specs.declared.rows.CallRow.TheVariants.{Invoke, Return}
 use Rattle.et_event.specs.declared.rows.Row.{Row}
 use Rattle.et_event.specs.declared.rows.Row.TheVariants.{Call, Divide, Frame, Heap, Monitor, PoolConstant, Throw}
-use Rattle.et_sound.specs.Methods.{IsInstanceMethod, IsMethod}
-use Rattle.et_sound.proofs.Invoking.{as_wanted}
-use Rattle.et_sound.proofs.Resolving.{resolved_method, selected_method, selected_special}
+use Rattle.et_history.specs.soundness.Methods.{IsInstanceMethod, IsMethod}
+use Rattle.et_history.proofs.soundness.Invoking.{as_wanted}
+use Rattle.et_history.proofs.soundness.Resolving.{resolved_method, selected_method, selected_special}
 
 -- what a chain gives comes from what stands before it
 pub and_then_some : {A B : Type 0} (f : A → Option B) (o : Option A) (b : B) → option_and_then f o ≡ Some b → (a : A) × (o ≡ Some a) × (f a ≡ Some b)

@@ -28,8 +28,8 @@ use Rattle.et_event.specs.Told.{by_out, by_text_call, event_with_texts, keeping}
 use Rattle.et_event.specs.declared.rows.Row.{Row}
 use Rattle.et_event.specs.declared.rows.Row.TheVariants.{Call, Heap}
 use Rattle.et_event.proofs.Beside.{sound-spoken, held-spoken}
-use Rattle.et_sound.specs.WellFormed.{StandsAt}
-use Rattle.et_sound.proofs.Turning.{parts, stands_at, some_frame}
+use Rattle.et_history.specs.soundness.WellFormed.{StandsAt}
+use Rattle.et_history.proofs.soundness.Turning.{parts, stands_at, some_frame}
 use Rattle.et_history.proofs.steps.Calls.{arguments_fine}
 use Rattle.et_history.proofs.steps.Folding.{MadeOf, comes_so}
 use Rattle.et_history.proofs.steps.Held.{Ready, first_fine}

@@ -22,11 +22,11 @@ use Rattle.et_event.specs.Out.{OutRead, out_read, out_row}
 use Rattle.et_event.specs.Runnable.{IsRunnable}
 use Rattle.et_event.specs.Sites.{Site}
 use Rattle.et_event.specs.Sound.{is_of_kind}
-use Rattle.et_sound.specs.Outcomes.{KeepsSound}
-use Rattle.et_sound.specs.WellFormed.{IsUnderWayAt, IsWellFormed, StandsAt}
-use Rattle.et_sound.proofs.Fields.{going, leaving_well}
-use Rattle.et_sound.proofs.Outcomes.{ends_sound, instance_well, if_case}
-use Rattle.et_sound.proofs.Slots.{static_well}
+use Rattle.et_history.specs.soundness.Outcomes.{KeepsSound}
+use Rattle.et_history.specs.soundness.WellFormed.{IsUnderWayAt, IsWellFormed, StandsAt}
+use Rattle.et_history.proofs.soundness.Fields.{going, leaving_well}
+use Rattle.et_history.proofs.soundness.Outcomes.{ends_sound, instance_well, if_case}
+use Rattle.et_history.proofs.soundness.Slots.{static_well}
 use Rattle.et_state.proofs.Steps.{newest_held}
 use Rattle.et_history.proofs.steps.Heaps.{statics_fine}
 use Rattle.et_history.proofs.steps.Held.{Ready, frame_fine}

@@ -25,7 +25,7 @@ use Rattle.et_event.specs.declared.rows.HeapRow.{HeapRow}
 use Rattle.et_event.specs.declared.rows.HeapRow.TheVariants as heap
 use Rattle.et_event.specs.declared.rows.Row.{Row}
 use Rattle.et_event.specs.declared.rows.Row.TheVariants.{Call, Divide, Frame, Heap, Monitor, PoolConstant, Throw}
-use Rattle.et_sound.proofs.Fields.{IsField, field_found}
+use Rattle.et_history.proofs.soundness.Fields.{IsField, field_found}
 use Rattle.et_history.proofs.texts.Called.{and_then_some, if_some, result_some}
 
 pub record IsOutRead (e : Moment) (x : OutRead) : Type 0 where

@@ -37,7 +37,7 @@ use Rattle.et_history.proofs.steps.Rows.{operands_fine}
 use Rattle.et_history.proofs.steps.Values.{fines_drop}
 use Rattle.et_history.specs.steps.Steps.{Begins, Ended, IsFramed, Level, Plainly, WithError, WithInstance}
 use Rattle.et_history.specs.steps.Values.{Fines}
-use Rattle.et_sound.proofs.Outcomes.{if_case}
+use Rattle.et_history.proofs.soundness.Outcomes.{if_case}
 
 -- THE TEXTS after a row: as they were, or one object was given one
 

@@ -33,11 +33,11 @@ use Rattle.et_event.specs.TextRows.{ends_with_texts, is_fit_text, is_text_like, 
 use Rattle.et_event.specs.declared.errors.GuestError.{GuestError}
 use Rattle.et_event.specs.declared.errors.GuestError.TheVariants.{NullPointerException, OutOfMemoryError, StringIndexOutOfBoundsException}
 use Rattle.et_event.proofs.Beside.{sound-spoken, held-spoken}
-use Rattle.et_sound.specs.Outcomes.{KeepsSound}
-use Rattle.et_sound.specs.WellFormed.{IsUnderWayAt, IsWellFormed, StandsAt}
-use Rattle.et_sound.proofs.Arguments.{AreArguments, arguments_are}
-use Rattle.et_sound.proofs.Fields.{going, leaving_well}
-use Rattle.et_sound.proofs.Outcomes.{goes_sound, instance_well, throws_sound}
+use Rattle.et_history.specs.soundness.Outcomes.{KeepsSound}
+use Rattle.et_history.specs.soundness.WellFormed.{IsUnderWayAt, IsWellFormed, StandsAt}
+use Rattle.et_history.proofs.soundness.Arguments.{AreArguments, arguments_are}
+use Rattle.et_history.proofs.soundness.Fields.{going, leaving_well}
+use Rattle.et_history.proofs.soundness.Outcomes.{goes_sound, instance_well, throws_sound}
 use Rattle.et_history.proofs.texts.Called.{IsSelected, IsTextCall, is_selected}
 use Rattle.et_history.proofs.texts.Rooms.{text_entries, text_fits}
 

@@ -10,7 +10,7 @@ use Rattle.et_state.specs.Outcome as outcome
 use Rattle.et_event.specs.Moments.{Moment, begins, later}
 use Rattle.et_event.specs.Sound.{IsSoundFor}
 use Rattle.et_event.specs.Monitors.{Lock, OfObject, is_owner, left_once, may_enter}
-use Rattle.et_sound.specs.WellFormed.{IsThere}
+use Rattle.et_history.specs.soundness.WellFormed.{IsThere}
 use Rattle.et_history.specs.steps.Holding.{entry_of, exit_of, is_held_lock, monitor_in}
 
 abbrev pub entered_once : ℕ → Monitor → Monitor

@@ -1,7 +1,7 @@
 use Rattle.std.proofs.Common.{◌≡◌, ℕ, ◌<◌, ◌≤◌, ◌↔◌, Some, sym, subst, arith}
 use Rattle.et_history.specs.Histories.{HistoryComesTo, times_held}
 use Rattle.et_history.specs.Histories as histories
-use Rattle.et_sound.specs.WellFormed.{IsThere}
+use Rattle.et_history.specs.soundness.WellFormed.{IsThere}
 use Rattle.et_state.specs.State.{Kept}
 use Rattle.et_history.specs.steps.Holding.{monitor_in}
 use Rattle.et_theorems.specs.Runs.{Run, IsTraced, picks_of, state_at}
