@@ -21,7 +21,7 @@ use Rattle.et_program.specs.ArrayTypes.{base_letter, array_over, if_array, named
 use Rattle.et_program.specs.Files.{set_of}
 use Rattle.et_program.specs.Loaded.{LoadedMember, LoadedClass}
 use Rattle.et_program.specs.ProgramOf.{class_names_of}
-use Rattle.et_linked.proofs.Making.{numbered_all}
+use Rattle.et_history.proofs.programs.Making.{numbered_all}
 use Rattle.et_history.proofs.PoolWords.{AreTexts, AreNames, class_texts}
 
 either : {X : Type 0} (P : X → Type 0) (b : Bool) (x y : X) → P x → P y → P (if b then x else y)

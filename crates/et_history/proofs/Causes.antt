@@ -19,9 +19,9 @@ use Rattle.et_event.specs.Errors.{class_called}
 use Rattle.et_event.specs.Programs.{KeepsFree}
 use Rattle.et_event.specs.Runnable.{IsRunnable}
 use Rattle.et_event.specs.declared.errors.GuestError.TheVariants.{ExceptionInInitializerError}
-use Rattle.et_linked.proofs.BuiltIn.{boot_place}
-use Rattle.et_linked.proofs.Making.{class_in, named_in}
-use Rattle.et_linked.proofs.PlacesAbove.{link_at}
+use Rattle.et_history.proofs.programs.BuiltIn.{boot_place}
+use Rattle.et_history.proofs.programs.Making.{class_in, named_in}
+use Rattle.et_history.proofs.programs.PlacesAbove.{link_at}
 use Rattle.et_history.specs.steps.Writes.{HasCause}
 
 -- THE TABLE: the superclass of class k is class s, of this name

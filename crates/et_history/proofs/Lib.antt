@@ -28,3 +28,4 @@ pub mod ShortNames
 pub mod texts
 pub mod steps
 pub mod soundness
+pub mod programs

@@ -10,10 +10,10 @@ use Rattle.et_program.specs.ProgramOf.{program_with, IsProgramOf}
 use Rattle.et_program.specs.declared.info.Element.TheVariants.{NoArray}
 use Rattle.et_program.specs.declared.kind.Leaf.TheVariants as leaf
 use Rattle.et_event.specs.Kinds.{is_array_element}
-use Rattle.et_linked.specs.ClassNames.{HasClassName}
-use Rattle.et_linked.proofs.Arguments.{arguments_called, arguments_at}
-use Rattle.et_linked.proofs.BuiltIn.{IsFieldless, of_string, no_fields_within}
-use Rattle.et_linked.proofs.Making.{class_in, named_in}
+use Rattle.et_history.specs.programs.ClassNames.{HasClassName}
+use Rattle.et_history.proofs.programs.Arguments.{arguments_called, arguments_at}
+use Rattle.et_history.proofs.programs.BuiltIn.{IsFieldless, of_string, no_fields_within}
+use Rattle.et_history.proofs.programs.Making.{class_in, named_in}
 use Rattle.et_program.proofs.Standing.{place_in_set}
 use Rattle.et_history.specs.Allocations.{HasArguments}
 use Rattle.et_history.specs.steps.Records.{HasPlainStrings}

@@ -13,9 +13,9 @@ use Rattle.et_state.specs.Start.{start}
 use Rattle.et_state.specs.Texts.{longest_text}
 use Rattle.et_state.specs.declared.options.Options.{Options}
 use Rattle.et_event.specs.SoundTexts.{HasSoundTexts, is_text_class}
-use Rattle.et_linked.specs.Programs.{KeepRules}
-use Rattle.et_linked.proofs.Promises.{keep_rules, keeps_promises}
-use Rattle.et_linked.proofs.Starting.{start_sound}
+use Rattle.et_history.specs.programs.Programs.{KeepRules}
+use Rattle.et_history.proofs.programs.Promises.{keep_rules, keeps_promises}
+use Rattle.et_history.proofs.programs.Starting.{start_sound}
 use Rattle.et_history.specs.Histories.{IsHistory}
 use Rattle.et_history.specs.Settings.{IsSoundRun}
 

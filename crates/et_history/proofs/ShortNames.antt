@@ -20,9 +20,9 @@ use Rattle.et_program.specs.Linking.{IsLinked, IsOfFile}
 use Rattle.et_program.specs.Loaded.{LoadedClass, loaded_class}
 use Rattle.et_program.specs.MembersOf.{numbered, boot_method, boot_methods, file_method, file_methods, methods_of}
 use Rattle.et_program.specs.ProgramOf.{class_names_of, program_with}
-use Rattle.et_linked.proofs.Classes.{array_in, length_all}
-use Rattle.et_linked.proofs.Lists.{all_numbered}
-use Rattle.et_linked.proofs.Making.{class_in}
+use Rattle.et_history.proofs.programs.Classes.{array_in, length_all}
+use Rattle.et_history.proofs.programs.Lists.{all_numbered}
+use Rattle.et_history.proofs.programs.Making.{class_in}
 use Rattle.et_history.specs.steps.Telling.{names_of_program}
 use Rattle.et_history.proofs.PoolWords.{AreTexts, class_texts, each_passes, pool_texts}
 use Rattle.et_history.proofs.ArrayWords.{array_texts}

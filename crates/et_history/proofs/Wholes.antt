@@ -34,7 +34,7 @@ use Rattle.et_event.specs.Told.{event_with_texts}
 use Rattle.et_event.specs.Sound.{IsSoundFor}
 use Rattle.et_event.specs.Start.{start_records}
 use Rattle.et_event.proofs.Beside.{sound-spoken}
-use Rattle.et_linked.proofs.Flushing.{sound_left}
+use Rattle.et_history.proofs.programs.Flushing.{sound_left}
 use Rattle.et_io.specs.Sink.{Log, with_more, TakesPrefix}
 use Rattle.et_loop.specs.declared.options.Ran.{Ran}
 use Rattle.et_loop.specs.Traced.{WritesTrace, WritesPrefix}

@@ -11,3 +11,4 @@ pub mod Waiting
 pub mod texts
 pub mod steps
 pub mod soundness
+pub mod programs

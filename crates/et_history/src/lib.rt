@@ -6,10 +6,12 @@
 pub mod event_laws;
 pub mod laws;
 pub mod object_laws;
+pub mod program_laws;
 pub mod record_laws;
 pub mod run_laws;
 pub mod slot_laws;
 pub mod sound_laws;
 pub mod spoken_laws;
+pub mod start_laws;
 pub mod text_laws;
 pub mod waiting_laws;

@@ -8,7 +8,7 @@ ghost use Rattle.et_program.specs.ProgramOf.{IsProgramOf};
 ghost use Rattle.et_state.specs.declared.options.Options.{Options};
 ghost use Rattle.et_state.specs.History.{lines_to};
 ghost use Rattle.et_event.specs.Start.{start_records};
-ghost use Rattle.et_linked.specs.ClassNames.{HasClassName};
+ghost use Rattle.et_history.specs.programs.ClassNames.{HasClassName};
 ghost use Rattle.et_history.specs.Allocations.{AreAllocations, HasArguments, IsMadeAt, next_number};
 ghost use Rattle.et_history.specs.Histories.{whole_at, whole_picked, IsHistoryTo};
 ghost use Rattle.et_event.specs.Runnable.{IsRunnable};

@@ -10,7 +10,7 @@ use Rattle.et_class.proofs.Respelled.{class_spelled}
 use Rattle.et_link.specs.Declaring.{AreRows}
 use Rattle.et_link.proofs.LinkingLemmas.{tabled_program}
 use Rattle.et_link.proofs.TabledLemmas.{length-classes}
-use Rattle.et_linked.proofs.Supers.{below}
+use Rattle.et_history.proofs.programs.Supers.{below}
 use Rattle.et_hierarchy.proofs.LinkLemmas.{are_within}
 use Rattle.et_program.specs.declared.fault.LinkFaultKind.TheVariants.{TooMany, NoMain}
 use Rattle.et_program.specs.Entries.{Linked}

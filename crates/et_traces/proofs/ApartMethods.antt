@@ -19,7 +19,7 @@ use Rattle.et_program.specs.Entries.{no_method}
 use Rattle.et_program.specs.Files.{boots, or_empty}
 use Rattle.et_program.specs.Loaded.{LoadedClass, loaded_method}
 use Rattle.et_program.specs.MembersOf.{numbered, pool_text, boot_method, boot_methods, file_method, file_methods, methods_of}
-use Rattle.et_linked.proofs.Marks.{AreWell, well_before, well_behind, well_first, well_rest}
+use Rattle.et_history.proofs.programs.Marks.{AreWell, well_before, well_behind, well_first, well_rest}
 use Rattle.et_history.proofs.PoolWords.{each_passes}
 
 -- EACH WITH EACH LATER ONE

@@ -18,11 +18,11 @@ use Rattle.et_program.specs.LinkFaults.{IsLinkable}
 use Rattle.et_program.specs.Loaded.{LoadedClass}
 use Rattle.et_program.specs.ProgramOf.{IsProgramOf, class_names_of, program_with}
 use Rattle.et_program.specs.declared.fault.LinkFaultKind.TheVariants.{Duplicate}
-use Rattle.et_linked.specs.ClassNames.{HasClassName}
-use Rattle.et_linked.proofs.ArrayNames.{all_names}
-use Rattle.et_linked.proofs.Arrays.{set_plain}
-use Rattle.et_linked.proofs.Classes.{array_in, length_all}
-use Rattle.et_linked.proofs.Making.{class_in}
+use Rattle.et_history.specs.programs.ClassNames.{HasClassName}
+use Rattle.et_history.proofs.programs.ArrayNames.{all_names}
+use Rattle.et_history.proofs.programs.Arrays.{set_plain}
+use Rattle.et_history.proofs.programs.Classes.{array_in, length_all}
+use Rattle.et_history.proofs.programs.Making.{class_in}
 
 -- NAMES, EACH ONCE
 

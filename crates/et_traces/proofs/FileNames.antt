@@ -24,10 +24,10 @@ use Rattle.et_program.specs.Files.{or_empty}
 use Rattle.et_program.specs.Linking.{IsOfFile}
 use Rattle.et_program.specs.Loaded.{LoadedMember, LoadedClass, loaded_class, loaded_method, loaded_field}
 use Rattle.et_program.specs.MembersOf.{pool_text}
-use Rattle.et_linked.specs.Rules.{KeepsMethodRules}
-use Rattle.et_linked.proofs.Marks.{AreWell, well_before, well_behind, well_first, well_rest, along_each}
-use Rattle.et_linked.proofs.Places.{at_mapped}
-use Rattle.et_linked.proofs.PromisedFiles.{keeps_method_rules}
+use Rattle.et_history.specs.programs.Rules.{KeepsMethodRules}
+use Rattle.et_history.proofs.programs.Marks.{AreWell, well_before, well_behind, well_first, well_rest, along_each}
+use Rattle.et_history.proofs.programs.Places.{at_mapped}
+use Rattle.et_history.proofs.programs.PromisedFiles.{keeps_method_rules}
 use Rattle.et_traces.proofs.PoolTexts.{AreSmall, texts_small, classes_named}
 use Rattle.et_traces.proofs.ApartMethods.{HasKey, HasApartMethods, file_apart}
 

@@ -16,7 +16,7 @@ use Rattle.et_class.specs.Layout.{ClassOf, u2, counted_bytes}
 use Rattle.et_class.specs.Names.{has}
 use Rattle.et_class.specs.Rules.{pool_marks, header_marks, members_marks, header_of, members_of}
 use Rattle.et_class.specs.Spelling.{ArePoolSlots}
-use Rattle.et_linked.proofs.Marks.{well_before, well_first, along_each}
+use Rattle.et_history.proofs.programs.Marks.{well_before, well_first, along_each}
 use Rattle.et_history.proofs.PoolWords.{AreTexts, each_at, pool_texts}
 
 abbrev pub AreSmall : List ℕ → Type 0

@@ -19,11 +19,11 @@ use Rattle.et_program.specs.Files.{boots, boot_outline, file_outline, or_empty, 
 use Rattle.et_program.specs.Loaded.{LoadedClass}
 use Rattle.et_program.specs.MembersOf.{numbered, boot_method, boot_methods, file_method, file_methods, methods_of}
 use Rattle.et_program.specs.ProgramOf.{class_names_of, program_with}
-use Rattle.et_linked.specs.ClassNames.{HasClassName}
-use Rattle.et_linked.proofs.ArrayNames.{all_names}
-use Rattle.et_linked.proofs.Classes.{array_in, length_all}
-use Rattle.et_linked.proofs.Lists.{all_numbered}
-use Rattle.et_linked.proofs.Making.{class_in}
+use Rattle.et_history.specs.programs.ClassNames.{HasClassName}
+use Rattle.et_history.proofs.programs.ArrayNames.{all_names}
+use Rattle.et_history.proofs.programs.Classes.{array_in, length_all}
+use Rattle.et_history.proofs.programs.Lists.{all_numbered}
+use Rattle.et_history.proofs.programs.Making.{class_in}
 use Rattle.et_history.proofs.PoolWords.{class_texts, each_passes}
 use Rattle.et_traces.proofs.PoolTexts.{AreSmall}
 use Rattle.et_traces.proofs.FileNames.{HasMemberTexts, HasTexts}

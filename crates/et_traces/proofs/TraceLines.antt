@@ -28,7 +28,7 @@ use Rattle.et_state.specs.Texts.{texts_left}
 use Rattle.et_state.specs.Words.{IsUnended}
 use Rattle.et_state.specs.declared.options.Options.{Options}
 use Rattle.et_state.proofs.Enqueued.{length-flushed, flushed_held}
-use Rattle.et_linked.proofs.Flushing.{sound_left}
+use Rattle.et_history.proofs.programs.Flushing.{sound_left}
 use Rattle.et_event.specs.Told.{event_with_texts}
 use Rattle.et_event.specs.Sound.{IsSoundFor}
 use Rattle.et_event.specs.Start.{start_records}

@@ -10,7 +10,7 @@ use Rattle.et_program.specs.LinkFaults.{IsLinkable}
 use Rattle.et_program.specs.Linking.{IsOfFile}
 use Rattle.et_program.specs.Loaded.{LoadedClass, loaded_class}
 use Rattle.et_program.specs.ProgramOf.{program_with, IsProgramOf}
-use Rattle.et_linked.specs.ClassNames.{HasClassName}
+use Rattle.et_history.specs.programs.ClassNames.{HasClassName}
 use Rattle.et_history.specs.steps.Telling.{names_of_program}
 use Rattle.et_traces.specs.Good.{AreNamesApart}
 use Rattle.et_traces.proofs.ApartMethods.{HasApartMethods, methods_apart}

@@ -4,7 +4,7 @@ ghost use Rattle.std.specs.Prelude.{◌≡◌, ◌↔◌, ℕ, ◌+◌, ◌*◌,
 ghost use Rattle.et_base.specs.declared.line.TraceLine.{TraceLine};
 ghost use Rattle.et_base.specs.declared.value.End.{End};
 ghost use Rattle.et_graph.specs.Graph.{Graph};
-ghost use Rattle.et_linked.specs.ClassNames.{HasClassName};
+ghost use Rattle.et_history.specs.programs.ClassNames.{HasClassName};
 ghost use Rattle.et_program.specs.Entries.{Linked, class_at};
 ghost use Rattle.et_program.specs.LinkFaults.{IsLinkable};
 ghost use Rattle.et_program.specs.Loaded.{LoadedClass};
@@ -27,10 +27,10 @@ ghost use Rattle.et_convert.specs.Spellings.{SpellsIn, HasFaultIn};
 use et_binary::laws::{good_packs_have_no_fault, packed_lists_differ};
 use et_history::laws::histories_tell_the_same;
 use et_history::object_laws::objects_are_reached_as_made;
+use et_history::program_laws::files_keep_rules;
 use et_history::record_laws::programs_have_sizes;
 use et_history::run_laws::linked_programs_run_soundly;
 use et_history::spoken_laws::{events_are_told, events_keep_monitors, events_tell_objects};
-use et_linked::run_laws::files_keep_rules;
 use et_text::laws::{good_lists_differ, good_texts_have_no_fault};
 
 /// The trace of every history of a program that a trace can tell of is a good list, of the version of its format, over every

@@ -23,8 +23,8 @@ ghost use Rattle.et_traces.specs.LiveBytes.{bytes_reached, object_size};
 use crate::good_laws::traces_are_good;
 use et_history::laws::{histories_tell_the_same, nothing_is_freed};
 use et_history::object_laws::objects_are_reached_as_made;
+use et_history::program_laws::files_keep_rules;
 use et_history::record_laws::{allocations_are_told, programs_have_sizes};
-use et_linked::run_laws::files_keep_rules;
 
 /// In the trace of every history in which nothing is freed, the live bytes at each event up to the last, as its curve has
 /// them, are the sum of the sizes of the objects made by then that are reached in the state that the event left, or in that

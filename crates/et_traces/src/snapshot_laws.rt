@@ -24,10 +24,10 @@ ghost use Rattle.et_history.specs.steps.Writes.{is_out_slot};
 
 use et_history::laws::{histories_tell_the_same, nothing_is_freed};
 use et_history::object_laws::objects_are_reached_as_made;
+use et_history::program_laws::files_keep_rules;
 use et_history::record_laws::{allocations_are_told, programs_have_sizes};
 use et_history::run_laws::linked_programs_run_soundly;
 use et_history::slot_laws::records_tell_slots;
-use et_linked::run_laws::files_keep_rules;
 
 /// What the trace of a run tells of slots at an event is what the state holds that the event left. The objects that are live
 /// then are those made by then that are reached in that state or in that of a later event up to the last. The content of

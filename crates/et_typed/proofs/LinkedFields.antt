@@ -25,10 +25,10 @@ use Rattle.et_event.specs.Programs.{is_initializing}
 use Rattle.et_hierarchy.proofs.Names.{same_name}
 use Rattle.et_hierarchy.specs.Ancestry.{Ancestry}
 use Rattle.et_link.proofs.TabledLemmas.{length-placed}
-use Rattle.et_linked.proofs.Classes.{class_cases}
-use Rattle.et_linked.proofs.Counts.{placed_at}
-use Rattle.et_linked.proofs.Lists.{all_numbered}
-use Rattle.et_linked.proofs.Marks.{AreWell, along_each, well_before, well_behind, well_first, well_rest}
+use Rattle.et_history.proofs.programs.Classes.{class_cases}
+use Rattle.et_history.proofs.programs.Counts.{placed_at}
+use Rattle.et_history.proofs.programs.Lists.{all_numbered}
+use Rattle.et_history.proofs.programs.Marks.{AreWell, along_each, well_before, well_behind, well_first, well_rest}
 use Rattle.et_program.proofs.DeclaredFields.{all_fields}
 use Rattle.et_program.specs.Entries.{ClassEntry, Linked, class_at, field_at, method_at, no_field, no_method}
 use Rattle.et_program.specs.Files.{boots}

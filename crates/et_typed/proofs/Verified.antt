@@ -13,9 +13,9 @@ use Rattle.et_code.specs.Bodies.{Body}
 use Rattle.et_event.specs.Programs.{is_initializing}
 use Rattle.et_hierarchy.proofs.Names.{same_name}
 use Rattle.et_hierarchy.specs.Ancestry.{Ancestry}
-use Rattle.et_linked.proofs.Counts.{StandsIn, places_at}
-use Rattle.et_linked.proofs.Methods.{all_methods, each_of}
-use Rattle.et_linked.proofs.Threads.{thread_slots}
+use Rattle.et_history.proofs.programs.Counts.{StandsIn, places_at}
+use Rattle.et_history.proofs.programs.Methods.{all_methods, each_of}
+use Rattle.et_history.proofs.programs.Threads.{thread_slots}
 use Rattle.et_pool.specs.Entries.{Constants}
 use Rattle.et_program.specs.Entries.{Linked, is_static, method_at, no_method}
 use Rattle.et_program.specs.Files.{boots}
@@ -29,7 +29,7 @@ use Rattle.et_verify.specs.Typings.{IsTyping, IsVerified}
 use Rattle.et_typed.specs.Typed.{AreTypings, Typings}
 use Rattle.et_typed.proofs.LinkedFields.{initializers_named, linked_operands}
 use Rattle.et_typed.proofs.RunTyping.{run_typed, run_typing}
-use Rattle.et_linked.proofs.Bodies.{body_is}
+use Rattle.et_history.proofs.programs.Bodies.{body_is}
 
 -- THE BUILT-IN METHODS: the one with code is `run` of Thread
 

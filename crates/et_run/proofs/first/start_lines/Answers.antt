@@ -3,7 +3,7 @@ use Rattle.std.specs.Prelude.{All}
 use Rattle.std.proofs.lemmas.Grind.{common_steps}
 use Rattle.et_state.specs.declared.records.Record.{Record}
 use Rattle.et_state.specs.Naming.{IsNamed}
-use Rattle.et_linked.proofs.Starting.{records_named}
+use Rattle.et_history.proofs.programs.Starting.{records_named}
 use Rattle.et_run.proofs.first.start_lines.Goals as goal
 
 pub returns-clause-records : goal.returns-clause-records

@@ -3,7 +3,7 @@ use Rattle.et_program.specs.Loaded.{LoadedClass, loaded_class}
 use Rattle.et_state.specs.Start.{start}
 use Rattle.et_history.specs.Settings.{IsSoundRun}
 use Rattle.et_history.proofs.ShortNames.{class_names_short, method_names_short, descriptors_short}
-use Rattle.et_linked.specs.Programs.{KeepRules}
+use Rattle.et_history.specs.programs.Programs.{KeepRules}
 use Rattle.et_traces.specs.Good.{IsTraceable}
 use Rattle.et_traces.proofs.TraceLines.{trace_is_good}
 use Rattle.et_traces.proofs.Traceable.{file_texts, names_are_apart, statics_few}

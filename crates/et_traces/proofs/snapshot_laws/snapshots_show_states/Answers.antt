@@ -8,7 +8,7 @@ use Rattle.et_event.specs.Start.{start_records}
 use Rattle.et_history.specs.Histories.{whole_picked, HistoryComesTo, IsHistory, IsHistoryTo}
 use Rattle.et_history.specs.Slots.{told_by}
 use Rattle.et_history.specs.Whole.{whole_start}
-use Rattle.et_linked.specs.Programs.{KeepRules}
+use Rattle.et_history.specs.programs.Programs.{KeepRules}
 use Rattle.et_traces.specs.Snapshots.{IsEndedRun}
 use Rattle.et_traces.proofs.Shown.{Facts, objects_are, out_content, slots_are, statics_are, target_lives, static_lives}
 use Rattle.et_traces.proofs.snapshot_laws.snapshots_show_states.Goals as goal
