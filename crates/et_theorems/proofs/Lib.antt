@@ -5,3 +5,4 @@ mod DeathLines
 mod Formats
 mod Histories
 mod Held
+pub mod typings

@@ -2,3 +2,4 @@
 #![tactic(auto)]
 
 pub mod theorems;
+pub mod typed_laws;

@@ -47,12 +47,13 @@ ghost use Rattle.et_files.specs.declared.status.Status.{Status};
 ghost use Rattle.et_traces.specs.Good.{IsTraceable};
 ghost use Rattle.et_traces.specs.LiveBytes.{bytes_reached, is_reached_from, object_size};
 ghost use Rattle.et_traces.specs.Snapshots.{IsEndedRun, live_objects};
-ghost use Rattle.et_typed.specs.Refused.{IsRefused};
+ghost use Rattle.et_theorems.specs.typings.Refused.{IsRefused};
 ghost use Rattle.et_verify.specs.Typings.{IsVerified};
 ghost use Rattle.et_history.specs.steps.Holding.{monitor_in};
 ghost use Rattle.et_history.specs.steps.Writes.{is_out_slot};
 ghost use Rattle.et_theorems.specs.Runs.{Run, IsTraced, IsWritten, IsFlushed, deaths_at, lines_of, next_moment, picks_of, setting_of, state_at};
 
+use crate::typed_laws::verified_histories_end_by_check_7;
 use et_convert::laws::{spelled_lists_differ, spelled_traces_have_no_fault};
 use et_graph::laws::reaching_is_decided;
 use et_history::laws::{histories_tell_the_same, monitors_exclude, nothing_is_freed};
@@ -62,7 +63,6 @@ use et_top::laws::{converted_twice, one_thing_is_defined};
 use et_traces::good_laws::{traces_are_good, traces_are_read};
 use et_traces::live_laws::live_is_reached;
 use et_traces::snapshot_laws::snapshots_show_states;
-use et_typed::laws::verified_histories_end_by_check_7;
 
 /// The premises are met: each trace that words and files define has such a run, where files hold bytes and the program has
 /// fewer than 2^32 classes.

@@ -9,7 +9,7 @@ use Rattle.et_state.specs.History.{IsLastEvent, picked_turn}
 use Rattle.et_state.specs.State.{Kept}
 use Rattle.et_command.specs.Command.{command}
 use Rattle.et_top.specs.Top.{Traces, Verifies, IsAskedDefined}
-use Rattle.et_typed.specs.Refused.{IsRefused}
+use Rattle.et_theorems.specs.typings.Refused.{IsRefused}
 use Rattle.et_theorems.specs.Runs.{Run, picks_of, setting_of}
 use Rattle.et_theorems.proofs.Histories.{history_of}
 use Rattle.et_theorems.proofs.Defined.{program_of}
