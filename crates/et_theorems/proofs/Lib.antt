@@ -6,3 +6,4 @@ mod Formats
 mod Histories
 mod Held
 pub mod typings
+pub mod traces

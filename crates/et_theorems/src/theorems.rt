@@ -44,15 +44,18 @@ ghost use Rattle.et_files.specs.Loaded.{file_bytes, most_of_trace, IsTraceOf};
 ghost use Rattle.et_top.specs.Top.{Defined, Refused, Traces, Verifies, Writes, IsDefined, WritesHistory, policies_of, status_of_end};
 ghost use Rattle.et_command.specs.declared.command.Models.{Models};
 ghost use Rattle.et_files.specs.declared.status.Status.{Status};
-ghost use Rattle.et_traces.specs.Good.{IsTraceable};
-ghost use Rattle.et_traces.specs.LiveBytes.{bytes_reached, is_reached_from, object_size};
-ghost use Rattle.et_traces.specs.Snapshots.{IsEndedRun, live_objects};
+ghost use Rattle.et_theorems.specs.traces.Good.{IsTraceable};
+ghost use Rattle.et_theorems.specs.traces.LiveBytes.{bytes_reached, is_reached_from, object_size};
+ghost use Rattle.et_theorems.specs.traces.Snapshots.{IsEndedRun, live_objects};
 ghost use Rattle.et_theorems.specs.typings.Refused.{IsRefused};
 ghost use Rattle.et_verify.specs.Typings.{IsVerified};
 ghost use Rattle.et_history.specs.steps.Holding.{monitor_in};
 ghost use Rattle.et_history.specs.steps.Writes.{is_out_slot};
 ghost use Rattle.et_theorems.specs.Runs.{Run, IsTraced, IsWritten, IsFlushed, deaths_at, lines_of, next_moment, picks_of, setting_of, state_at};
 
+use crate::good_laws::{traces_are_good, traces_are_read};
+use crate::live_laws::live_is_reached;
+use crate::snapshot_laws::snapshots_show_states;
 use crate::typed_laws::verified_histories_end_by_check_7;
 use et_convert::laws::{spelled_lists_differ, spelled_traces_have_no_fault};
 use et_graph::laws::reaching_is_decided;
@@ -60,9 +63,6 @@ use et_history::laws::{histories_tell_the_same, monitors_exclude, nothing_is_fre
 use et_history::object_laws::deaths_are_exact;
 use et_history::run_laws::each_history_ends;
 use et_top::laws::{converted_twice, one_thing_is_defined};
-use et_traces::good_laws::{traces_are_good, traces_are_read};
-use et_traces::live_laws::live_is_reached;
-use et_traces::snapshot_laws::snapshots_show_states;
 
 /// The premises are met: each trace that words and files define has such a run, where files hold bytes and the program has
 /// fewer than 2^32 classes.
@@ -79,7 +79,7 @@ pub fn premises_are_met()
 }
 
 /// The program that words and files define was linked of class files, its tables are in range, and so are the options. Its
-/// history has no other end than that of the run. So the laws of et_history and et_traces hold of it with no other premise.
+/// history has no other end than that of the run. So the laws of et_history and et_theorems hold of it with no other premise.
 pub fn programs_are_linked()
     ensures tabled { (r : Run) → IsTraced r → IsTabled r.program }
     ensures linked { (r : Run) → IsTraced r → IsLinked r.program }

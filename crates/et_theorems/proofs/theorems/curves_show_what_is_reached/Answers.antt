@@ -3,7 +3,7 @@ use Rattle.et_base.specs.declared.line.TraceLine.{TraceLine}
 use Rattle.et_event.specs.Start.{start_records}
 use Rattle.et_history.specs.Whole.{whole_start}
 use Rattle.et_replay.specs.Curve.{curve_events, live}
-use Rattle.et_traces.specs.LiveBytes.{bytes_reached, object_size}
+use Rattle.et_theorems.specs.traces.LiveBytes.{bytes_reached, object_size}
 use Rattle.et_theorems.specs.Runs.{Run, IsTraced, lines_of, setting_of}
 use Rattle.et_theorems.proofs.Histories.{history_of}
 use Rattle.et_theorems.proofs.Held.{lines_same}

@@ -1,5 +1,0 @@
-use Rattle.et_traces.proofs.ClassNames.{class_names_apart}
-use Rattle.et_traces.proofs.good_laws.class_names_are_apart.Goals as goal
-
-pub returns : goal.returns
-returns c files p named linkable is = class_names_apart files p named linkable is

@@ -1,7 +1,0 @@
-use Rattle.std.proofs.Common.{map}
-use Rattle.et_program.specs.Loaded.{loaded_class}
-use Rattle.et_traces.proofs.Traceable.{file_texts, statics_within}
-use Rattle.et_traces.proofs.good_laws.statics_are_few.Goals as goal
-
-pub returns : goal.returns
-returns c p is = statics_within (map loaded_class is.classes) p (file_texts is.classes is.of_files) is.linkable is.program
