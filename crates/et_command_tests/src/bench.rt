@@ -5,7 +5,7 @@ use et_base::Steps;
 use et_command::{Command, read_words};
 use et_files::Status;
 use et_io::MemSink;
-use et_top::bench_run;
+use et_test_runs::bench_run;
 use std::alloc::Global;
 use std::marker::Brand;
 use std::process::Abort;

@@ -7,7 +7,7 @@ use et_files::Status;
 use et_io::{MemFiles, MemSink};
 use et_models::{MarkSweep, SemiSpace};
 use et_replay::{Fed, HeapModel, Item, Kind, Policy, Report};
-use et_top::elephant;
+use et_test_runs::elephant;
 use std::alloc::Global;
 use std::cell::Cell;
 use std::marker::Brand;

@@ -3,7 +3,7 @@ ghost use Rattle.std.specs.Prelude.{◌≤◌, IfOk, length};
 
 use et_files::Status;
 use et_io::{MemFiles, MemSink};
-use et_top::{WordsFault, run_elephant, run_without_memory, words};
+use et_test_runs::{WordsFault, run_elephant, run_without_memory, words};
 use std::env::{Env, FillError};
 use std::test::Fail;
 

@@ -3,8 +3,7 @@
 use crate::traces::{BAD, Row, USE, USE_TRACE, are_answered, files_of};
 use et_files::Status;
 use et_io::{GatheringMemSink, MemSink};
-use et_test_runs::{answer, words_of};
-use et_top::run_process;
+use et_test_runs::{answer, run_process, words_of};
 use std::test::Fail;
 
 const USE_LINE: &str = "trace Use.class Bad.class";
