@@ -6,4 +6,4 @@ pub mod Out
 mod Sounding
 pub mod Events
 pub mod Writing
-mod TextsStay
+pub mod TextsStay

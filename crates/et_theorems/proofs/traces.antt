@@ -4,21 +4,21 @@ mod Standing
 mod RecordLines
 mod FlushLines
 mod EventLines
-mod TraceLines
-mod ClassNames
+pub mod TraceLines
+pub mod ClassNames
 mod PoolTexts
 mod ApartMethods
 mod FileNames
 mod ArrayTexts
 mod ProgramTexts
 mod FewStatics
-mod Traceable
+pub mod Traceable
 mod DeathLines
-mod Reported
-mod CurveEvents
+pub mod Reported
+pub mod CurveEvents
 mod LiveSums
-mod LiveReached
+pub mod LiveReached
 mod SlotLines
 mod LiveObjects
-mod Shown
+pub mod Shown
 mod TwoNodes

@@ -26,8 +26,8 @@ mod TextCalls
 mod TextRows
 mod OutRead
 mod Beside
-mod Told
-mod Runs
+pub mod Told
+pub mod Runs
 mod LinkedFields
 mod RunTyping
 mod Verified
