@@ -1,6 +1,6 @@
 -- Files read one by one.
 use Rattle.std.proofs.Common.{◌≡◌, ℕ, ◌+◌, ◌-◌, ◌<◌, ◌≤◌, zero, suc, inr, true, false, List, [], ◌∷◌, ◌++◌, map, length, length-append, take, get_or, string_bytes, Option, Some, None, Result, Ok, Err, refl, sym, ◌∙◌, ap, subst, append-nil, append_assoc, add-one, arith, rules}
-use Rattle.std.specs.Prelude.{All, IfOk, IfErr, OnOk}
+use Rattle.std.specs.Prelude.{All, IfOk, IfErr, IfSome, OnOk}
 use Rattle.std.proofs.lemmas.Bool.Decides.{nat_tests}
 use Rattle.std.proofs.lemmas.List.{length-map, length-take-le, map-append, take_at}
 use Rattle.std.proofs.lemmas.List.Elements.{All-nil, All-cons, All-head, All-tail, All-push, All-take}
@@ -15,8 +15,8 @@ use Rattle.et_io.specs.declared.files.Found.{Found}
 use Rattle.et_io.specs.declared.files.Found.TheVariants as finds
 use Rattle.et_files.specs.Faults.{Fault, Absent, TooLong, BadClass, BadText, BadTrace, LinkFault, BadEvent}
 use Rattle.et_files.specs.Loaded.{file_bytes, most_of_class, IsClassOf}
-use Rattle.et_files.specs.Reads.{Asks, HoldsClass, ReadsInOrder, asking, asking_of, is_early}
-use Rattle.et_files.specs.Told.{Cause, File, Reading, Memory, Other, Tells, TellsFound, IsCause, IsFileRefusal, cause_of, is_read_cause, is_reading}
+use Rattle.et_files.specs.Reads.{Asks, HoldsClass, IsReadLast, ReadsInOrder, asking, asking_of, is_early}
+use Rattle.et_files.specs.Told.{Cause, File, Reading, Memory, Other, Tells, TellsFound, IsCause, IsFileRefusal, cause_of, is_read_cause, is_reading, named_path}
 use Rattle.et_files.specs.Refusals.{status_of}
 use Rattle.et_files.specs.declared.refusal.Refusal.{Refusal}
 use Rattle.et_files.specs.declared.refusal.Refusal.TheVariants as refusal
@@ -236,3 +236,15 @@ module _ (Agrees : Held → Type 0) (old : List Read) where
 pub reads_counted : (Agrees : Held → Type 0) (old new : List Read) (most : ℕ) (paths : List (List ℕ)) (answer : Status) (h : ReadsInOrder Agrees old new most paths answer) → length new ≡ length old + h.count
 reads_counted Agrees old new most paths answer h =
     ap length h.asked ∙ (length-append old h.made ∙ ap (λ (n : ℕ). length old + n) (count_made h.made most (take h.count paths) h.each ∙ length-take-le h.count paths h.few))
+
+-- THE PATH THAT IS NAMED
+
+-- where it is that of the one read that was made, it was read last
+pub read_last : (old new : List Read) (path : List ℕ) (most : ℕ) (answer : Answer) (named : Option (List ℕ)) → Asks old new path most answer → IfSome named (λ n. n ≡ path) → IfSome named (IsReadLast new)
+read_last old new path most answer None asks is = tt
+read_last old new path most answer (Some n) asks is = (old, most, answer, subst (λ p. Asks old new p most answer) (sym is) asks)
+
+-- nothing is said of the path where none is named
+pub names_none : {A : Type 0} (result : Result A Refusal) (IsRead : List ℕ → Type 0) → IfErr result (λ r. named_path r ≡ None) → IfErr result (λ r. IfSome (named_path r) IsRead)
+names_none (Ok a) IsRead none = tt
+names_none (Err r) IsRead none = subst (λ o. IfSome o IsRead) (sym none) tt

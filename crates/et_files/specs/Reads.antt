@@ -33,6 +33,10 @@ is_early status.BadEvent = false
 abbrev pub Asks : (old new : List Reading) → (path : List ℕ) → (most : ℕ) → Answer → Type 0
 Asks old new path most answer = new ≡ old ++ record { path = path; most = most; answer = answer } ∷ []
 
+-- the last read was of the file at this path
+abbrev pub IsReadLast : List Reading → List ℕ → Type 0
+IsReadLast asked path = (before : List Reading) × (most : ℕ) × (answer : Answer) × Asks before asked path most answer
+
 -- what a read asks for
 abbrev pub asking : Reading → List ℕ × ℕ
 asking r = (r.path, r.most)

@@ -1,5 +1,5 @@
 -- What is answered of the files that a command names.
-use Rattle.std.specs.Prelude.{◌≡◌, ℕ, Bool, true, false, List, map, Result, Ok, Err, IsErrAnd}
+use Rattle.std.specs.Prelude.{◌≡◌, ℕ, Bool, true, false, List, map, Option, Some, None, IfSome, Result, Ok, Err, IsErrAnd}
 use Rattle.et_files.specs.declared.refusal.Refusal.{Refusal}
 use Rattle.et_files.specs.declared.refusal.Refusal.TheVariants as refusal
 use Rattle.et_class.specs.declared.class.ClassFile.{ClassFile}
@@ -32,6 +32,20 @@ cause_of (refusal.BadEvent event) = File (BadEvent event)
 cause_of (refusal.ReadFault path) = Reading
 cause_of refusal.NoMemory = Memory
 cause_of _ = Other
+
+-- the path that a refusal names, if it names one
+abbrev pub named_path : Refusal → Option (List ℕ)
+named_path (refusal.Absent path) = Some path.now
+named_path (refusal.TooLong path) = Some path.now
+named_path (refusal.ReadFault path) = Some path.now
+named_path (refusal.BadClass path kind offset) = Some path.now
+named_path (refusal.BadText path kind line) = Some path.now
+named_path (refusal.BadTrace path kind line) = Some path.now
+named_path _ = None
+
+-- it names no other path than this one
+abbrev pub Names : List ℕ → Refusal → Type 0
+Names path r = IfSome (named_path r) (λ named. named ≡ path)
 
 -- it is the fault that a file was found to have; or a read failed, or memory ran out
 abbrev pub IsCause : {A : Type 0} → (read : Type 0) → Result A Fault → Cause → Type 0

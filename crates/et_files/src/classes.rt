@@ -1,5 +1,5 @@
 //! The classes of the files that a command names.
-ghost use Rattle.std.specs.Prelude.{◌≡◌, ◌≤◌, ◌++◌, ◌∷◌, [], true, List, Result, Ok, All, IfOk, IfErr, OnOk, length, map, string_bytes};
+ghost use Rattle.std.specs.Prelude.{◌≡◌, ◌≤◌, ◌++◌, ◌∷◌, [], true, List, Result, Ok, All, IfOk, IfErr, IfSome, OnOk, length, map, string_bytes};
 ghost use Rattle.et_io.specs.Faults.{Rose, count_after};
 ghost use Rattle.et_io.specs.Files.{Held, Answer, Reading, is_failed};
 ghost use Rattle.et_class.specs.Layout.{ClassOf};
@@ -7,9 +7,9 @@ ghost use Rattle.et_class.specs.Classes.{IsClassFile, class_of, HasItsParts};
 ghost use Rattle.et_files.specs.Faults.{Fault};
 ghost use Rattle.et_link.specs.Declaring.{HasItsFile};
 ghost use Rattle.et_files.specs.Loaded.{file_bytes, most_of_class, IsClassOf, AreClassesOf};
-ghost use Rattle.et_files.specs.Reads.{ReadsInOrder, HoldsClass, is_early, Asks};
+ghost use Rattle.et_files.specs.Reads.{ReadsInOrder, HoldsClass, IsReadLast, is_early, Asks};
 ghost use Rattle.et_files.specs.Refusals.{status_of};
-ghost use Rattle.et_files.specs.Told.{Tells, IsFileRefusal, IsOfBytes, cause_of, classes_read, is_reading, status_of_result};
+ghost use Rattle.et_files.specs.Told.{Tells, IsFileRefusal, IsOfBytes, Names, cause_of, classes_read, is_reading, named_path, status_of_result};
 
 use crate::files::read_file;
 use crate::refusal::Refusal;
@@ -30,6 +30,7 @@ pub fn class_in<'a>(alloc: Global, path: &'a str, bytes: &[u8]) -> Result<ClassF
     ensures class { IfOk result (λ class. IsClassFile bytes.now (class_of class)) }
     ensures bytes { IfErr result (λ refusal. IsOfBytes (cause_of refusal)) }
     ensures early { IfErr result (λ refusal. is_early (status_of refusal) ≡ true) }
+    ensures names { IfErr result (Names path.now) }
 {
     // Laws: they tell the prover, and do nothing.
     exactly_one();
@@ -63,6 +64,7 @@ fn load_class<'a, F: Files>(
     ensures never_falls { F.faults files.old ≤ F.faults files.new }
     ensures kept { (first : List Reading) (held : Held) → F.agrees files.new first held →
         F.agrees files.old first held }
+    ensures names { IfErr result (Names path.now) }
 {
     match read_file(alloc, path, MOST_CLASS_BYTES, files) {
         Ok(bytes) => class_in(alloc, path, &bytes),
@@ -88,6 +90,8 @@ pub fn load_classes<'a, F: Files>(
         (F.asked files.new) most_of_class (map string_bytes paths.now) (status_of_result result) }
     ensures file { IfErr result (λ refusal. IsFileRefusal (cause_of refusal)) }
     ensures never_falls { F.faults files.old ≤ F.faults files.new }
+    ensures names { IfErr result
+        (λ refusal. IfSome (named_path refusal) (IsReadLast (F.asked files.new))) }
 {
     let mut classes = Vec::new(alloc);
     'paths: for path in paths {

@@ -5,7 +5,7 @@ ghost use Rattle.et_io.specs.Files.{Held, Answer, Reading, is_failed};
 ghost use Rattle.et_files.specs.Loaded.{file_bytes};
 ghost use Rattle.et_files.specs.Reads.{is_early, Asks};
 ghost use Rattle.et_files.specs.Refusals.{status_of};
-ghost use Rattle.et_files.specs.Told.{Tells, TellsFound, IsFileRefusal, cause_of, is_reading};
+ghost use Rattle.et_files.specs.Told.{Tells, TellsFound, IsFileRefusal, Names, cause_of, is_reading};
 
 use crate::refusal::Refusal;
 use et_io::{Files, Found};
@@ -13,7 +13,8 @@ use std::alloc::Global;
 
 /// The bytes that a read found, or why there are none.
 fn bytes_found<'a>(path: &'a str, found: Found) -> Result<Vec<u8>, Refusal<'a>>
-    ensures { TellsFound found result }
+    ensures tells { TellsFound found result }
+    ensures names { IfErr result (Names path.now) }
 {
     match found {
         Found::Bytes(bytes) => Ok(bytes),
@@ -31,7 +32,8 @@ pub fn read_file<'a, F: Files>(
     files: &mut F,
 ) -> Result<Vec<u8>, Refusal<'a>>
     ensures tells { (first : List Reading) (held : Held) →
-        length first ≤ length (F.asked files.old) → F.agrees files.new first held → Tells (Rose (F.faults files.old) (F.faults files.new))
+        length first ≤ length (F.asked files.old) → F.agrees files.new first held →
+        Tells (Rose (F.faults files.old) (F.faults files.new))
         (λ bytes. bytes.items) (file_bytes most (held path.now)) result }
     ensures faults { F.faults files.new ≡ count_after (is_reading result) (F.faults files.old) }
     ensures asked { (answer : Answer) × Asks (F.asked files.old) (F.asked files.new) path.now most
@@ -39,6 +41,7 @@ pub fn read_file<'a, F: Files>(
     ensures within { IfOk result (λ bytes. length bytes.items ≤ most) }
     ensures early { IfErr result (λ refusal. is_early (status_of refusal) ≡ true) }
     ensures file { IfErr result (λ refusal. IsFileRefusal (cause_of refusal)) }
+    ensures names { IfErr result (Names path.now) }
     ensures never_falls { F.faults files.old ≤ F.faults files.new }
     ensures kept { (first : List Reading) (held : Held) → F.agrees files.new first held →
         F.agrees files.old first held }

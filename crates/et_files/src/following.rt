@@ -9,7 +9,7 @@ ghost use Rattle.et_files.specs.Faults.{Fault};
 ghost use Rattle.et_files.specs.Following.{FollowsBytes, FollowsTrace, TellsOf};
 ghost use Rattle.et_files.specs.Loaded.{file_bytes, most_of_trace, IsTraceOf};
 ghost use Rattle.et_files.specs.Reads.{Asks};
-ghost use Rattle.et_files.specs.Told.{IsFileRefusal, IsOfBytes, cause_of, is_reading};
+ghost use Rattle.et_files.specs.Told.{IsFileRefusal, IsOfBytes, Names, cause_of, is_reading};
 
 use crate::files::read_file;
 use crate::refusal::Refusal;
@@ -36,6 +36,7 @@ fn follow_in<'a, F: Follower>(
     ensures trace { IfOk result (λ follower. (lines : List TraceLine)
         × FollowsBytes F.follows bytes.now lines follower) }
     ensures bytes { IfErr result (λ refusal. IsOfBytes (cause_of refusal)) }
+    ensures names { IfErr result (Names path.now) }
 {
     // Laws: they tell the prover, and do nothing.
     spelling_faults_are_one();
@@ -67,6 +68,7 @@ pub fn follow_file<'a, F: Follower, S: Files>(
         most_of_trace answer }
     ensures file { IfErr result (λ refusal. IsFileRefusal (cause_of refusal)) }
     ensures never_falls { S.faults files.old ≤ S.faults files.new }
+    ensures names { IfErr result (Names path.now) }
 {
     match read_file(alloc, path, MOST_TRACE_BYTES, files) {
         Ok(bytes) => follow_in(alloc, path, &bytes, follower),
@@ -82,6 +84,7 @@ fn checked<'a>(alloc: Global, path: &'a str, bytes: Vec<u8>) -> Result<Vec<u8>, 
     ensures trace { IfOk result (λ same. (lines : List TraceLine)
         × SpellsTrace lines same.items × All HasShortNames lines) }
     ensures bytes { IfErr result (λ refusal. IsOfBytes (cause_of refusal)) }
+    ensures names { IfErr result (Names path.now) }
 {
     // A law: it tells the prover, and does nothing.
     conversions_are_traces();
@@ -109,6 +112,7 @@ pub fn load_bytes<'a, S: Files>(
         most_of_trace answer }
     ensures file { IfErr result (λ refusal. IsFileRefusal (cause_of refusal)) }
     ensures never_falls { S.faults files.old ≤ S.faults files.new }
+    ensures names { IfErr result (Names path.now) }
 {
     match read_file(alloc, path, MOST_TRACE_BYTES, files) {
         Ok(bytes) => checked(alloc, path, bytes),

@@ -5,7 +5,7 @@ ghost use Rattle.et_io.specs.Files.{Held, Answer};
 ghost use Rattle.et_files.specs.Faults.{Fault};
 ghost use Rattle.et_files.specs.Loaded.{file_bytes, most_of_class, IsListingOf};
 ghost use Rattle.et_files.specs.Reads.{Asks};
-ghost use Rattle.et_files.specs.Told.{Tells, IsFileRefusal, IsOfBytes, cause_of, is_reading};
+ghost use Rattle.et_files.specs.Told.{Tells, IsFileRefusal, IsOfBytes, Names, cause_of, is_reading};
 
 use crate::files::read_file;
 use crate::refusal::Refusal;
@@ -22,6 +22,7 @@ pub fn listing_in<'a>(alloc: Global, path: &'a str, text: &[u8]) -> Result<Vec<u
     ensures tells { (class : Result (List ℕ) Fault) →
         IsListingOf (Ok text.now) class → Tells ⊥ (λ bytes. bytes.items) class result }
     ensures bytes { IfErr result (λ refusal. IsOfBytes (cause_of refusal)) }
+    ensures names { IfErr result (Names path.now) }
 {
     // Laws: they tell the prover, and do nothing.
     exactly_one();
@@ -47,6 +48,7 @@ pub fn load_listing<'a, F: Files>(
         most_of_class answer }
     ensures file { IfErr result (λ refusal. IsFileRefusal (cause_of refusal)) }
     ensures never_falls { F.faults files.old ≤ F.faults files.new }
+    ensures names { IfErr result (Names path.now) }
 {
     match read_file(alloc, path, MOST_LISTING_BYTES, files) {
         Ok(text) => listing_in(alloc, path, &text),

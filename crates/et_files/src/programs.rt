@@ -1,5 +1,5 @@
 //! The program of the classes that a command names, or of a listing.
-ghost use Rattle.std.specs.Prelude.{◌≡◌, ◌≤◌, ◌<◌, Ok, Result, All, IfErr, length, map, string_bytes};
+ghost use Rattle.std.specs.Prelude.{◌≡◌, ◌≤◌, ◌<◌, None, Ok, Result, All, IfErr, IfSome, length, map, string_bytes};
 ghost use Rattle.et_io.specs.Faults.{Rose, count_after};
 ghost use Rattle.et_io.specs.Files.{Held};
 ghost use Rattle.et_class.specs.Classes.{class_of, HasItsParts};
@@ -7,8 +7,8 @@ ghost use Rattle.et_program.specs.Entries.{Linked};
 ghost use Rattle.et_files.specs.Faults.{Fault};
 ghost use Rattle.et_link.specs.Declaring.{HasItsFile};
 ghost use Rattle.et_files.specs.Loaded.{IsLinkedOf, IsListingProgram, IsProgramOfFiles, most_of_class};
-ghost use Rattle.et_files.specs.Reads.{ReadsInOrder};
-ghost use Rattle.et_files.specs.Told.{Tells, IsFileRefusal, IsOfBytes, cause_of, is_reading, status_of_result};
+ghost use Rattle.et_files.specs.Reads.{ReadsInOrder, IsReadLast};
+ghost use Rattle.et_files.specs.Told.{Tells, IsFileRefusal, IsOfBytes, Names, cause_of, is_reading, named_path, status_of_result};
 
 use crate::classes::{class_in, load_classes, push};
 use crate::listings::listing_in;
@@ -27,6 +27,7 @@ fn program<'a>(alloc: Global, classes: Vec<ClassFile>) -> Result<Program, Refusa
     ensures tells { (program : Result Linked Fault) →
         IsLinkedOf (Ok (map class_of classes.items)) program → Tells ⊥ (λ p. p) program result }
     ensures bytes { IfErr result (λ refusal. IsOfBytes (cause_of refusal)) }
+    ensures names { IfErr result (λ refusal. named_path refusal ≡ None) }
 {
     // Laws: they tell the prover, and do nothing.
     files_are_classes();
@@ -53,6 +54,8 @@ pub fn load_program<'a, F: Files>(
         (F.asked files.new) most_of_class (map string_bytes paths.now) (status_of_result result) }
     ensures file { IfErr result (λ refusal. IsFileRefusal (cause_of refusal)) }
     ensures never_falls { F.faults files.old ≤ F.faults files.new }
+    ensures names { IfErr result
+        (λ refusal. IfSome (named_path refusal) (IsReadLast (F.asked files.new))) }
 {
     match load_classes(alloc, paths, files) {
         Ok(classes) => program(alloc, classes),
@@ -69,6 +72,7 @@ pub fn program_of_listing<'a>(
     ensures tells { (p : Result Linked Fault) →
         IsListingProgram listing.now p → Tells ⊥ (λ program. program) p result }
     ensures bytes { IfErr result (λ refusal. IsOfBytes (cause_of refusal)) }
+    ensures names { IfErr result (Names path.now) }
 {
     let bytes = listing_in(alloc, path, listing)?;
     let class = class_in(alloc, path, &bytes)?;

@@ -7,7 +7,7 @@ ghost use Rattle.et_text.specs.Ranges.{HasShortNames};
 ghost use Rattle.et_files.specs.Faults.{Fault};
 ghost use Rattle.et_files.specs.Loaded.{file_bytes, most_of_trace, IsTraceOf, last_event, reaching};
 ghost use Rattle.et_files.specs.Reads.{Asks};
-ghost use Rattle.et_files.specs.Told.{Tells, IsFileRefusal, IsOfBytes, cause_of, is_reading};
+ghost use Rattle.et_files.specs.Told.{Tells, IsFileRefusal, IsOfBytes, Names, cause_of, is_reading};
 
 use crate::files::read_file;
 use crate::refusal::Refusal;
@@ -30,6 +30,7 @@ fn trace_in<'a>(alloc: Global, path: &'a str, bytes: &[u8]) -> Result<Trace, Ref
         IsTraceOf (Ok bytes.now) trace → Tells ⊥ (λ lines. lines) trace result }
     ensures short { length bytes.now < 2 ^ 32 → IfOk result (λ trace. All HasShortNames trace) }
     ensures bytes { IfErr result (λ refusal. IsOfBytes (cause_of refusal)) }
+    ensures names { IfErr result (Names path.now) }
 {
     // Laws: they tell the prover, and do nothing.
     spelling_faults_are_one();
@@ -59,6 +60,7 @@ fn load_trace<'a, F: Files>(
         most_of_trace answer }
     ensures file { IfErr result (λ refusal. IsFileRefusal (cause_of refusal)) }
     ensures never_falls { F.faults files.old ≤ F.faults files.new }
+    ensures names { IfErr result (Names path.now) }
 {
     match read_file(alloc, path, MOST_TRACE_BYTES, files) {
         Ok(bytes) => trace_in(alloc, path, &bytes),
@@ -92,6 +94,7 @@ pub fn load_trace_to<'a, F: Files>(
     ensures asked { (answer : Answer) × Asks (F.asked files.old) (F.asked files.new) path.now
         most_of_trace answer }
     ensures file { IfErr result (λ refusal. IsFileRefusal (cause_of refusal)) }
+    ensures names { IfErr result (Names path.now) }
 {
     match load_trace(alloc, path, files) {
         Ok(trace) => {

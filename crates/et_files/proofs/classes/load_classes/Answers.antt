@@ -8,10 +8,10 @@ use Rattle.et_link.specs.Declaring.{HasItsFile}
 use Rattle.et_files.specs.Loaded.{most_of_class}
 use Rattle.et_files.specs.Reads.{HoldsClass}
 use Rattle.et_files.specs.Refusals.{status_of}
-use Rattle.et_files.specs.Told.{cause_of, is_read_cause, status_of_result}
+use Rattle.et_files.specs.Told.{cause_of, is_read_cause, named_path, status_of_result}
 use Rattle.et_files.specs.declared.status.Status.TheVariants as status
 use Rattle.et_files.proofs.FaultLemmas.{counted_from}
-use Rattle.et_files.proofs.ReadLemmas.{ReadSoFar, begin_reads, next_taken, next_read, not_before, read_up_to, read_whole}
+use Rattle.et_files.proofs.ReadLemmas.{ReadSoFar, begin_reads, next_taken, next_read, not_before, read_up_to, read_whole, read_last}
 use Rattle.et_files.proofs.Found.{AreBehind, behind_refused, next_behind, next_path}
 use Rattle.et_files.proofs.classes.load_classes.Goals as goal
 
@@ -63,3 +63,6 @@ returns-in_err-push-in-Ok-clause-reads g c =
 
 pub returns-clause-reads : goal.returns-clause-reads
 returns-clause-reads g c = read_whole _ _ _ _ c.args.paths.now c.paths.path-index status.Done (omega arith) c.paths.invariant.asked c.paths.invariant.good
+
+pub returns-in-Err-clause-names : goal.returns-in-Err-clause-names
+returns-in-Err-clause-names g c = read_last _ _ _ _ c.in-Err.ensures.asked.0 (named_path c.in-Err.refusal) c.in-Err.ensures.asked.1 c.in-Err.ensures.names

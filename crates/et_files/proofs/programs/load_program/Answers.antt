@@ -5,7 +5,7 @@ use Rattle.et_files.specs.Told.{cause_of, is_reading}
 use Rattle.et_files.proofs.FaultLemmas.{same_count, not_reading}
 use Rattle.et_files.proofs.Found.{tells_more, file_refusal}
 use Rattle.et_files.proofs.LinkLemmas.{program_not_read}
-use Rattle.et_files.proofs.ReadLemmas.{reads_whole}
+use Rattle.et_files.proofs.ReadLemmas.{reads_whole, names_none}
 use Rattle.et_files.proofs.programs.load_program.Goals as goal
 
 pub returns-in-Ok-clause-tells : goal.returns-in-Ok-clause-tells
@@ -24,3 +24,6 @@ returns-in-Err-clause-tells g c held told program is =
 
 pub returns-in-Ok-clause-reads : goal.returns-in-Ok-clause-reads
 returns-in-Ok-clause-reads g c = reads_whole _ _ _ _ _ status.Done _ refl c.in-Ok.ensures.reads
+
+pub returns-in-Ok-clause-names : goal.returns-in-Ok-clause-names
+returns-in-Ok-clause-names g c = names_none c.program.result _ c.program.ensures.names
