@@ -1,5 +1,5 @@
 //! The types of local variables, as they are kept, read and written (JVMS 2.6.1).
-ghost use Rattle.std.specs.Prelude.{◌≡◌, ◌+◌, ◌<◌, ◌≤◌, ◌^◌, true, false, length, sum_by, slice_set, Some, IfOk, IfErr, OnOk};
+ghost use Rattle.std.specs.Prelude.{◌≡◌, ◌+◌, ◌<◌, ◌≤◌, ◌^◌, [], true, false, length, sum_by, slice_set, Some, IfOk, IfErr, OnOk};
 ghost use Rattle.et_flow.specs.Locals.{AreInOrder, IsAt, IsGapFor};
 ghost use Rattle.et_flow.specs.Stores.{local_type, holds as holds_kind, without_lower as lower_gone, without_upper as upper_gone, one_set, long_set, where_within};
 ghost use Rattle.et_flow.specs.Types.{joined_lists, rank};
@@ -38,16 +38,13 @@ impl Model for Locals {
     ghost invariant = { λ l. AreHeld l.count l.held.items };
 }
 
-/// Where a local variable stands, or where it would.
+/// Where a local variable stands, or where it would, found by halving.
+#[inline(never)]
 fn search(held: &[Held], local: u16) -> Result<usize, usize>
     requires { AreInOrder held.now }
     ensures found { IfOk result (IsAt held.now local) }
     ensures absent { IfErr result (IsGapFor held.now local) }
 {
-    let guess = local as usize;
-    if guess < held.len() && held[guess].local == local {
-        return Ok(guess);
-    }
     let mut low = 0;
     let mut high = held.len();
     if high == 0 || held[high - 1].local < local {
@@ -68,32 +65,46 @@ fn search(held: &[Held], local: u16) -> Result<usize, usize>
     Err(low)
 }
 
+/// The same. Where something is known of all local variables before it, it stands at its own place.
+#[inline(always)]
+fn place_of(held: &[Held], local: u16) -> Result<usize, usize>
+    requires { AreInOrder held.now }
+    ensures found { IfOk result (IsAt held.now local) }
+    ensures absent { IfErr result (IsGapFor held.now local) }
+{
+    let guess = local as usize;
+    if guess < held.len() && held[guess].local == local {
+        return Ok(guess);
+    }
+    search(held, local)
+}
+
 impl Locals {
-    /// So many local variables, of which the first have these types, and the others are free.
-    pub(crate) fn of(alloc: Global, entries: &[EntryType], count: usize) -> Result<Self, NoMemory>
+    /// There are no local variables.
+    pub(crate) fn new(alloc: Global) -> Self
+        ensures { result ≡ [] }
+    {
+        Locals {
+            count: 0,
+            held: Vec::new(alloc),
+        }
+    }
+
+    /// Makes these types those of so many local variables, of which the first have these types, and the others are free.
+    pub(crate) fn begin(&mut self, entries: &[EntryType], count: usize) -> Result<(), NoMemory>
         requires fits { length entries.now ≤ count }
         requires few { count < 2 ^ 16 }
-        ensures { IfOk result (λ l. l ≡ with_free count entries.now) }
+        ensures { OnOk result (self.new ≡ with_free count entries.now) }
     {
-        let mut held = Vec::with_capacity(alloc, entries.len())?;
+        self.held.clear();
+        self.count = count;
         for i in 0..entries.len() {
-            held.push(Held {
+            self.held.push(Held {
                 local: i as u16,
                 entry: entries[i],
             })?;
         }
-        Ok(Locals { count, held })
-    }
-
-    /// The same types once more.
-    pub(crate) fn copied(&self, alloc: Global) -> Result<Self, NoMemory>
-        ensures { IfOk result (λ l. l ≡ self.now) }
-    {
-        let held = Vec::from_slice(alloc, &self.held)?;
-        Ok(Locals {
-            count: self.count,
-            held,
-        })
+        Ok(())
     }
 
     /// Makes these types the same as others.
@@ -114,13 +125,14 @@ impl Locals {
     }
 
     /// The type of a local variable; Free where there is none.
+    #[inline(always)]
     fn type_at(&self, i: usize) -> EntryType
         ensures { result ≡ local_type self.now i }
     {
         if i >= self.count {
             return EntryType::Free;
         }
-        match search(&self.held, i as u16) {
+        match place_of(&self.held, i as u16) {
             Ok(at) => self.held[at].entry,
             Err(_) => EntryType::Free,
         }
@@ -131,7 +143,7 @@ impl Locals {
         requires { i < length self.old }
         ensures { OnOk result (self.new ≡ slice_set self.old i entry) }
     {
-        match search(&self.held, i as u16) {
+        match place_of(&self.held, i as u16) {
             Ok(at) => self.held[at].entry = entry,
             Err(at) => {
                 let local = i as u16;
@@ -161,6 +173,7 @@ impl Locals {
     }
 
     /// Whether a local variable holds a value of a kind.
+    #[inline(always)]
     pub(crate) fn holds(&self, kind: Operand, i: usize) -> bool
         requires { i < 2 ^ 32 }
         ensures { result ≡ holds_kind kind self.now i }

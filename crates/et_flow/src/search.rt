@@ -25,16 +25,15 @@ pub struct Lead {
 
 impl Lead {
     /// Nowhere.
-    fn nowhere(alloc: Global) -> Result<Self, NoMemory>
-        ensures { IfOk result (λ x. (x.on ≡ None) × (x.nexts.items ≡ []) × (x.handlers.items ≡ [])) }
+    fn nowhere(alloc: Global) -> Self
+        ensures { (result.on ≡ None) × (result.nexts.items ≡ []) × (result.handlers.items ≡ []) }
     {
-        let caught = Types::first(alloc, &[], 0)?;
-        Ok(Lead {
+        Lead {
             on: None,
             nexts: Vec::new(alloc),
             handlers: Vec::new(alloc),
-            caught,
-        })
+            caught: Types::new(alloc),
+        }
     }
 }
 
@@ -55,6 +54,7 @@ pub trait Flow {
 
 /// Joins types with what was found at a place, and notes the place where that changed. It answers `false` where the place has
 /// other operands.
+#[inline(never)]
 fn join_at(
     alloc: Global,
     states: &mut States,
@@ -79,6 +79,7 @@ fn join_at(
 }
 
 /// Joins types with what was found at each of some places. It answers `false` where one has other operands.
+#[inline(always)]
 fn join_each(
     alloc: Global,
     states: &mut States,
@@ -105,6 +106,7 @@ fn join_each(
 
 /// Follows the instruction at a place, and those that come straight behind it, to where they lead. It answers `false` where there
 /// is no typing.
+#[inline(never)]
 fn follow<F: Flow>(
     alloc: Global,
     flow: &F,
@@ -167,15 +169,13 @@ pub struct Search {
 
 impl Search {
     /// No search was made yet.
-    pub fn new(alloc: Global) -> Result<Self, NoMemory> {
-        let types = Types::first(alloc, &[], 0)?;
-        let lead = Lead::nowhere(alloc)?;
-        Ok(Search {
+    pub fn new(alloc: Global) -> Self {
+        Search {
             states: States::new(alloc),
             work: Vec::new(alloc),
-            types,
-            lead,
-        })
+            types: Types::new(alloc),
+            lead: Lead::nowhere(alloc),
+        }
     }
 }
 
@@ -197,8 +197,10 @@ fn search_all<F: Flow>(
     requires within { IsWithin (length states.old) (λ pc ts. F.leads pc flow.now ts) }
     requires monotone { IsMonotone (λ pc ts. F.leads pc flow.now ts) }
     requires straight { IsStraight (λ pc ts. F.leads pc flow.now ts) (λ q. F.straight q flow.now) }
-    ensures found { IfOk result (λ b. b ≡ true → HasTyping (λ pc ts. F.leads pc flow.now ts) entry.now) }
-    ensures none { IfOk result (λ b. b ≡ false → HasTyping (λ pc ts. F.leads pc flow.now ts) entry.now → ⊥) }
+    ensures found { IfOk result (λ b.
+        b ≡ true → HasTyping (λ pc ts. F.leads pc flow.now ts) entry.now) }
+    ensures none { IfOk result (λ b.
+        b ≡ false → HasTyping (λ pc ts. F.leads pc flow.now ts) entry.now → ⊥) }
 {
     if !join_at(alloc, states, work, 0, entry)? {
         return Ok(false);
@@ -224,8 +226,10 @@ pub fn find_typing<F: Flow>(
     requires within { IsWithin count (λ pc ts. F.leads pc flow.now ts) }
     requires monotone { IsMonotone (λ pc ts. F.leads pc flow.now ts) }
     requires straight { IsStraight (λ pc ts. F.leads pc flow.now ts) (λ q. F.straight q flow.now) }
-    ensures found { IfOk result (λ b. b ≡ true → HasTyping (λ pc ts. F.leads pc flow.now ts) entry.now) }
-    ensures none { IfOk result (λ b. b ≡ false → HasTyping (λ pc ts. F.leads pc flow.now ts) entry.now → ⊥) }
+    ensures found { IfOk result (λ b.
+        b ≡ true → HasTyping (λ pc ts. F.leads pc flow.now ts) entry.now) }
+    ensures none { IfOk result (λ b.
+        b ≡ false → HasTyping (λ pc ts. F.leads pc flow.now ts) entry.now → ⊥) }
 {
     search.states.begin(count)?;
     search.work.clear();

@@ -54,8 +54,7 @@ fn make_room(alloc: Global, found: &mut Vec<Types>, used: usize) -> Result<(), N
     ensures long { length found.old.items ≤ length found.new.items }
 {
     if used == found.len() {
-        let none = Types::first(alloc, &[], 0)?;
-        found.push(none)?;
+        found.push(Types::new(alloc))?;
     }
     Ok(())
 }

@@ -42,6 +42,7 @@ impl EntryType {
     }
 
     /// Whether an entry of the type is a value by itself.
+    #[inline(always)]
     pub fn is_single(self) -> bool
         ensures { result ≡ is_single self }
     {
@@ -52,6 +53,7 @@ impl EntryType {
     }
 
     /// Whether the type is no other than `other`.
+    #[inline(always)]
     pub fn is(self, other: EntryType) -> bool
         ensures { IsTrue result ↔ (self ≡ other) }
     {
@@ -91,27 +93,27 @@ fn are_same(some: &[EntryType], others: &[EntryType]) -> bool
 }
 
 impl Types {
-    /// The types with which a method begins: no operands, and so many local variables, of which the first are these.
-    pub fn first(alloc: Global, entries: &[EntryType], count: usize) -> Result<Self, NoMemory>
-        requires fits { length entries.now ≤ count }
-        requires few { count < 2 ^ 16 }
-        ensures operands { IfOk result (λ t. t.operands ≡ []) }
-        ensures locals { IfOk result (λ t. t.locals ≡ with_free count entries.now) }
+    /// No operands, and no local variables.
+    pub fn new(alloc: Global) -> Self
+        ensures operands { result.operands ≡ [] }
+        ensures locals { result.locals ≡ [] }
     {
-        let locals = Locals::of(alloc, entries, count)?;
-        Ok(Types {
+        Types {
             operands: Vec::new(alloc),
-            locals,
-        })
+            locals: Locals::new(alloc),
+        }
     }
 
-    /// The same types once more.
-    pub fn copied(&self, alloc: Global) -> Result<Self, NoMemory>
-        ensures { IfOk result (λ t. t ≡ self.now) }
+    /// Makes these types those with which a method begins: no operands, and so many local variables, of which the first are
+    /// these.
+    pub fn begin(&mut self, entries: &[EntryType], count: usize) -> Result<(), NoMemory>
+        requires fits { length entries.now ≤ count }
+        requires few { count < 2 ^ 16 }
+        ensures operands { OnOk result (self.new.operands ≡ []) }
+        ensures locals { OnOk result (self.new.locals ≡ with_free count entries.now) }
     {
-        let operands = Vec::from_slice(alloc, &self.operands)?;
-        let locals = self.locals.copied(alloc)?;
-        Ok(Types { operands, locals })
+        self.operands.clear();
+        self.locals.begin(entries, count)
     }
 
     /// Whether the operands are the same, and the local variables as many.
@@ -136,6 +138,7 @@ impl Types {
     }
 
     /// Takes the topmost entry of the operands, if there is one.
+    #[inline(always)]
     pub fn pop(&mut self) -> Option<EntryType>
         ensures some { IfSome result (λ t. self.old.operands ≡ t ∷ self.new.operands) }
         ensures none { IfNone result (self.old.operands ≡ []) }
@@ -145,6 +148,7 @@ impl Types {
     }
 
     /// How many entries the operands have.
+    #[inline(always)]
     pub fn depth(&self) -> usize
         ensures { result ≡ length self.now.operands }
     {
@@ -156,9 +160,10 @@ impl Types {
         ensures { OnOk result (self.new ≡ other.now) }
     {
         self.operands.clear();
-        self.operands.extend_from_slice(&other.operands)?;
-        self.locals.copy_from(&other.locals)?;
-        Ok(())
+        if !other.operands.is_empty() {
+            self.operands.extend_from_slice(&other.operands)?;
+        }
+        self.locals.copy_from(&other.locals)
     }
 
     /// Makes these types those with which a handler is entered: the exception, and the local variables as they are in others.
@@ -172,6 +177,7 @@ impl Types {
     }
 
     /// Takes the topmost entry of the operands, and says whether it was of a type.
+    #[inline(always)]
     pub fn pop_entry(&mut self, entry: EntryType) -> bool
         ensures taken { result ≡ true → self.old.operands ≡ entry ∷ self.new.operands }
         ensures refused { (rest : List Entry) → result ≡ false →
@@ -185,6 +191,7 @@ impl Types {
     }
 
     /// Whether a local variable holds a value of a kind.
+    #[inline(always)]
     pub fn holds(&self, kind: Operand, i: usize) -> bool
         requires { i < 2 ^ 31 }
         ensures { result ≡ holds_kind kind self.now.locals i }
@@ -193,6 +200,7 @@ impl Types {
     }
 
     /// Writes a value of a kind to a local variable. `false` where there is none.
+    #[inline(always)]
     pub fn set(&mut self, kind: Operand, i: usize) -> Result<bool, NoMemory>
         requires { i < 2 ^ 31 }
         ensures written { IfOk result (λ b. b ≡ true →
@@ -209,7 +217,7 @@ impl Types {
     }
 
     /// Puts an entry on top of the operands.
-    #[inline]
+    #[inline(always)]
     pub fn push_entry(&mut self, entry: EntryType) -> Result<(), NoMemory>
         ensures operands { OnOk result (self.new.operands ≡ entry ∷ self.old.operands) }
         ensures locals { OnOk result (self.new.locals ≡ self.old.locals) }

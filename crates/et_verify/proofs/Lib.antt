@@ -15,3 +15,4 @@ pub mod Decided
 pub mod Straight
 pub mod Entries
 pub mod Marked
+pub mod Fields

@@ -1,12 +1,15 @@
 -- The places of instructions, and their targets, are flagged one after another.
-use Rattle.std.proofs.Common.{◌≡◌, ℕ, ◌<◌, Bool, true, false, List, length, set, map, refl, sym, ◌∙◌, subst, inl, inr, arith, get_or-set_other}
-use Rattle.std.specs.Prelude.{Result, Ok, Err, Some, None, option_map}
+use Rattle.std.proofs.Common.{◌≡◌, ℕ, ◌<◌, Bool, true, false, List, [], ◌∷◌, ◌==◌, Contains, ap, length, set, map, refl, sym, ◌∙◌, subst, inl, inr, arith, get_or-set_other}
+use Rattle.std.specs.Prelude.{ℤ, if◌then◌else◌, Result, Ok, Err, Some, None, option_map}
 use Rattle.std.specs.Result.{result_ok}
 use Rattle.std.proofs.lemmas.Bool.{cases_eq}
+use Rattle.std.proofs.lemmas.List.Elements.{Contains-push_cases}
 use Rattle.et_code.specs.declared.instr.Instr.{Instr}
 use Rattle.et_code.specs.declared.instr.CodeFault.{CodeFault}
-use Rattle.et_code.specs.Decoding.{instruction_at}
-use Rattle.et_code.specs.Rules.{flag, offsets}
+use Rattle.et_code.specs.declared.opcode.TheConstants.{TABLESWITCH, LOOKUPSWITCH}
+use Rattle.et_code.specs.Decoding.{instruction_at, code_word_at}
+use Rattle.et_code.specs.Switches.{table_rows, lookup_pairs}
+use Rattle.et_code.specs.Rules.{flag, is_branch, offsets}
 use Rattle.et_code.specs.Starts.{is_start}
 use Rattle.et_code.proofs.Starting.{Flagged, flags_last}
 use Rattle.et_event.specs.Sites.{target}
@@ -39,3 +42,19 @@ marked_more code starts old new pc marked kept long here k i next on at = elim (
   | inl same ↦ subst (λ (n : ℕ). AreFlagged new (map (target n) (offsets code i))) (sym same) (here i next (subst (λ (n : ℕ). instruction_at code n ≡ Ok (i, next)) same at))
   | inr ne ↦ λ q there lt. kept q (marked k i next (sym (get_or-set_other starts pc k true false ne) ∙ on) at q there (omega (arith, lt, long)))
 ]
+
+-- THE TARGET of a branch
+
+some_instruction : (i j : Instr) (a b : ℕ) → ◌≡◌ {A = Result (Instr × ℕ) CodeFault} (Ok (i, a)) (Ok (j, b)) → i ≡ j
+some_instruction i j a b e = let same : (i, a) ≡ (j, b) = cc in ap (λ (x : Instr × ℕ). x.0) same
+
+pub branch_flagged : (flags : List Bool) (code : List ℕ) (pc place : ℕ) (j : Instr) (n : ℕ) → instruction_at code pc ≡ Ok (j, n) → is_branch j.opcode ≡ true → place ≡ target pc j.first → (place < length flags → flag flags place ≡ true)
+    → (i : Instr) (next : ℕ) → instruction_at code pc ≡ Ok (i, next) → AreFlagged flags (map (target pc) (offsets code i))
+branch_flagged flags code pc place j n at b is on i next e q there lt =
+    let same : i ≡ j = some_instruction i j next n (sym e ∙ at) in
+    let one : offsets code j ≡ j.first ∷ [] = ap (λ (x : Bool). if x then j.first ∷ [] else (if j.opcode == TABLESWITCH then code_word_at code j.table ∷ table_rows code j.table else (if j.opcode == LOOKUPSWITCH then code_word_at code j.table ∷ map (λ p. p.1) (lookup_pairs code j.table) else []))) b in
+    let all : map (target pc) (offsets code i) ≡ place ∷ [] = ap (λ (k : Instr). map (target pc) (offsets code k)) same ∙ (ap (λ (os : List ℤ). map (target pc) os) one ∙ ap (λ (k : ℕ). k ∷ []) (sym is)) in
+    elim (Contains-push_cases [] place q (subst (λ (ps : List ℕ). Contains ps q) all there)) [
+      | inl none ↦ absurd (omega (arith, none.1))
+      | inr here ↦ subst (λ (k : ℕ). flag flags k ≡ true) here (on (omega (arith, here, lt)))
+    ]

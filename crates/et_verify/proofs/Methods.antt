@@ -1,6 +1,7 @@
 -- Where the code of a method leads, by what is found and tested at a place.
 use Rattle.std.proofs.Common.{◌≡◌, ℕ, ℤ, ◌&&◌, Bool, true, false, List, [], ◌∷◌, ◌++◌, Option, Some, None, refl, sym, ◌∙◌, ap}
 use Rattle.std.specs.Prelude.{if◌then◌else◌, filter, map, Ok}
+use Rattle.std.proofs.lemmas.List.{append-nil}
 use Rattle.et_code.specs.declared.body.TableRow.{TableRow}
 use Rattle.std.specs.List.{list_all}
 use Rattle.et_class.specs.Entries.{Item}
@@ -60,11 +61,16 @@ module _ (p : Linked) (m : ℕ) (body : Body) (pc : ℕ) (ts : TypesOf) (decoded
       ∙ (ap (led body (next_places pc (site_in p m body decoded) row) (handlers_at p m body pc) ts) e
       ∙ ap (λ (xs : List ℕ). led body xs (handlers_at p m body pc) ts (Some after)) (sym n))
 
+-- one without targets goes on behind it, or nowhere
+pub straight_next : (p : Linked) (m : ℕ) (body : Body) (pc : ℕ) (decoded : Instr × ℕ) (row : Row) → offsets body.code decoded.0 ≡ [] → next_places pc (site_in p m body decoded) row ≡ (if goes_past row then decoded.1 ∷ [] else [])
+straight_next p m body pc decoded row none =
+    ap (λ (os : List ℤ). (if goes_past row then decoded.1 ∷ [] else []) ++ map (target pc) os) none
+    ∙ append-nil (if goes_past row then decoded.1 ∷ [] else [])
+
 -- a plain one goes on behind it alone
 pub plain_next : (p : Linked) (m : ℕ) (body : Body) (pc : ℕ) (decoded : Instr × ℕ) (row : Row) → goes_past row ≡ true → offsets body.code decoded.0 ≡ [] → next_places pc (site_in p m body decoded) row ≡ decoded.1 ∷ []
 plain_next p m body pc decoded row past none =
-    ap (λ (b : Bool). (if b then decoded.1 ∷ [] else []) ++ map (target pc) (offsets body.code decoded.0)) past
-    ∙ ap (λ (os : List ℤ). decoded.1 ∷ map (target pc) os) none
+    straight_next p m body pc decoded row none ∙ ap (λ (b : Bool). if b then decoded.1 ∷ [] else []) past
 
 -- THE TESTS of where it leads
 

@@ -7,6 +7,7 @@ pub mod Methods
 pub mod Verdicts
 pub mod Targets
 pub mod Simple
+pub mod Named
 pub use Rattle.et_flow.specs.Types
 pub use Rattle.et_flow.specs.Stores
 pub use Rattle.et_flow.specs.Flows

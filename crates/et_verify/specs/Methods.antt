@@ -1,5 +1,5 @@
 -- THE CODE OF A METHOD, as the search for its typing goes over it.
-use Rattle.std.specs.Prelude.{◌≡◌, ℕ, ◌<◌, ◌^◌, Bool, false, List, length, filter, Some, Ok}
+use Rattle.std.specs.Prelude.{◌≡◌, ℕ, ◌<◌, ◌^◌, Bool, false, List, length, filter, Option, Some, Ok}
 use Rattle.et_code.specs.declared.body.TableRow.{TableRow}
 use Rattle.et_code.specs.Bodies.{Body}
 use Rattle.et_code.specs.Decoding.{instruction_at, Fits}
@@ -14,8 +14,17 @@ use Rattle.et_event.specs.Sound.{returned_of}
 use Rattle.et_event.specs.Table.{row_of}
 use Rattle.et_event.specs.Places.{site_at, is_frame}
 use Rattle.et_event.specs.declared.places.Place.{Place}
+use Rattle.et_flow.specs.Types.{TypesOf}
+use Rattle.et_verify.specs.declared.decoded.Decoded.{Decoded}
 use Rattle.et_verify.specs.Leads.{may_catch, site_in}
+use Rattle.et_verify.specs.Steps.{types_after}
 use Rattle.et_verify.specs.Targets.{HasTargets}
+
+-- an instruction that has a row stands at a place of code
+pub record StandsAt (code : List ℕ) (pc : ℕ) (x : Decoded) : Type 0 where
+  pub decoded : instruction_at code pc ≡ Ok (x.instr, x.next)
+  pub row : row_of x.instr.opcode ≡ Some x.row
+  pub fits : Fits code pc x.instr x.next
 
 -- an instruction that has a row stands at pc of the code of a method, and this is its place
 pub record IsPlaceIn (p : Linked) (m : ℕ) (body : Body) (pc : ℕ) (place : Place) : Type 0 where
@@ -33,6 +42,10 @@ pub record MethodOf : Type 0 where
   pub method : ℕ
   pub body : Body
   pub targets : List Bool
+
+-- the types after an instruction of it
+abbrev pub types_after_it : MethodOf → Decoded → TypesOf → Option TypesOf
+types_after_it f x ts = types_after f.body.max_stack (returned_of (method_at f.program f.method)) (site_in f.program f.method f.body (x.instr, x.next)) x.row ts
 
 -- what is kept of it: the rows of the exception table that may catch anything, and flags
 -- that tell the starts of instructions, and the targets

@@ -1,33 +1,26 @@
-//! What each plain instruction takes and gives, by the rows of the table of events (JVMS 6.5).
-ghost use Rattle.std.specs.Prelude.{◌≡◌, [], ◌∷◌, Some, None};
+//! The kinds of operands that instructions take and give (JVMS 6.5).
+ghost use Rattle.std.specs.Prelude.{◌≡◌, [], ◌∷◌};
 ghost use Rattle.et_event.specs.PoolOperands.Operand.TheVariants as kinds;
-ghost use Rattle.et_verify.specs.Effects.{frame_effect as effect_of, kind_of_number as number_kind, kinds_tested as tested, result_kind, given_by};
+ghost use Rattle.et_verify.specs.Effects.{kind_of_number as number_kind, result_kind, given_by};
 ghost use Rattle.et_event.specs.Kinds.{kind_of_elements as elements_kind};
 
-use et_event::{Condition, Conversion, Elements, FrameRow, Number, Operand};
+use et_event::{Elements, Number, Operand};
 use et_pool::{Returned, kind_of};
-
-/// The kinds of operands that an instruction takes, the topmost first, and the kind of the one that it gives.
-#[derive(Clone, Copy, Debug)]
-pub struct Effect {
-    pub taken: &'static [Operand],
-    pub given: Option<Operand>,
-}
 
 // Operands of these kinds, the topmost first.
 pub(crate) static NONE: [Operand; 0] = [];
 
 pub(crate) static INT: [Operand; 1] = [Operand::Int];
 
-static LONG: [Operand; 1] = [Operand::Long];
+pub(crate) static LONG: [Operand; 1] = [Operand::Long];
 
 pub(crate) static REFERENCE: [Operand; 1] = [Operand::Reference];
 
-static TWO_INTS: [Operand; 2] = [Operand::Int, Operand::Int];
+pub(crate) static TWO_INTS: [Operand; 2] = [Operand::Int, Operand::Int];
 
-static TWO_LONGS: [Operand; 2] = [Operand::Long, Operand::Long];
+pub(crate) static TWO_LONGS: [Operand; 2] = [Operand::Long, Operand::Long];
 
-static TWO_REFERENCES: [Operand; 2] = [Operand::Reference, Operand::Reference];
+pub(crate) static TWO_REFERENCES: [Operand; 2] = [Operand::Reference, Operand::Reference];
 
 static INT_ON_LONG: [Operand; 2] = [Operand::Int, Operand::Long];
 
@@ -62,18 +55,8 @@ pub(crate) fn one_of(kind: Operand) -> &'static [Operand]
     }
 }
 
-/// Two numbers of one kind.
-pub(crate) fn two_of(number: Number) -> &'static [Operand]
-    ensures { result.now ≡ number_kind number ∷ number_kind number ∷ [] }
-{
-    match number {
-        Number::Int => &TWO_INTS,
-        Number::Long => &TWO_LONGS,
-    }
-}
-
 /// A number of a kind below an int.
-fn shifted(number: Number) -> &'static [Operand]
+pub(crate) fn shifted(number: Number) -> &'static [Operand]
     ensures { result.now ≡ kinds.Int ∷ number_kind number ∷ [] }
 {
     match number {
@@ -148,62 +131,5 @@ pub(crate) fn kind_given(returned: Returned) -> Option<Operand>
                 Some(Operand::Int)
             }
         }
-    }
-}
-
-/// What a condition tests.
-fn kinds_tested(condition: Condition) -> &'static [Operand]
-    ensures { result.now ≡ tested condition }
-{
-    match condition {
-        Condition::Always => &NONE,
-        Condition::WithZero(_) => &INT,
-        Condition::OfInts(_) => &TWO_INTS,
-        Condition::SameReference | Condition::OtherReference => &TWO_REFERENCES,
-        Condition::Null | Condition::NotNull => &REFERENCE,
-    }
-}
-
-/// Takes these operands and gives none.
-fn taking(taken: &'static [Operand]) -> Effect
-    ensures taken { result.taken.now ≡ taken.now }
-    ensures given { result.given ≡ None }
-{
-    Effect { taken, given: None }
-}
-
-/// Takes these operands and gives one.
-fn giving(taken: &'static [Operand], kind: Operand) -> Effect
-    ensures taken { result.taken.now ≡ taken.now }
-    ensures given { result.given ≡ Some kind }
-{
-    Effect {
-        taken,
-        given: Some(kind),
-    }
-}
-
-/// What an instruction takes and gives that changes nothing but the topmost frame.
-pub(crate) fn frame_effect(row: FrameRow) -> Effect
-    ensures taken { result.taken.now ≡ (effect_of row).taken }
-    ensures given { result.given ≡ (effect_of row).given }
-{
-    match row {
-        FrameRow::Null => giving(&NONE, Operand::Reference),
-        FrameRow::Int(_) | FrameRow::Immediate => giving(&NONE, Operand::Int),
-        FrameRow::Long(_) => giving(&NONE, Operand::Long),
-        FrameRow::Load(kind, _) => giving(&NONE, kind),
-        FrameRow::Store(kind, _) => taking(one_of(kind)),
-        FrameRow::Increment | FrameRow::Rearrange(_) => taking(&NONE),
-        FrameRow::Arithmetic(number, _) => giving(two_of(number), kind_of_number(number)),
-        FrameRow::Negate(number) => giving(one_of(kind_of_number(number)), kind_of_number(number)),
-        FrameRow::Shift(number, _) => giving(shifted(number), kind_of_number(number)),
-        FrameRow::Convert(Conversion::IntToLong) => giving(&INT, Operand::Long),
-        FrameRow::Convert(Conversion::LongToInt) => giving(&LONG, Operand::Int),
-        FrameRow::Convert(Conversion::IntToByte | Conversion::IntToChar | Conversion::IntToShort) =>
-            giving(&INT, Operand::Int),
-        FrameRow::CompareLongs => giving(&TWO_LONGS, Operand::Int),
-        FrameRow::Branch(condition) => taking(kinds_tested(condition)),
-        FrameRow::Switch => taking(&INT),
     }
 }

@@ -1,10 +1,11 @@
 //! What the instructions on fields, arrays, classes and constants take of the operands, and give (JVMS 6.5).
-ghost use Rattle.std.specs.Prelude.{◌≡◌, ◌<◌, ◌^◌, List, ◌∷◌, true, false, Some, None, IfOk, option_map, replicate};
+ghost use Rattle.std.specs.Prelude.{◌≡◌, ◌<◌, ◌^◌, List, ◌∷◌, length, true, false, Some, None, IfOk, option_map, replicate};
 ghost use Rattle.et_event.specs.PoolOperands.Operand.TheVariants as kinds;
-ghost use Rattle.et_event.specs.Sites.{natural_of, constant_at};
+ghost use Rattle.et_event.specs.Sites.{natural_of, constant_at, pool_index, pool_of_class};
 ghost use Rattle.et_event.specs.declared.rows.HeapRow.TheVariants as heap;
 ghost use Rattle.et_event.specs.Places.{site_at};
 ghost use Rattle.et_verify.specs.Effects.{constant_effect, field_read, field_type as type_of_field, field_written, heap_effect, kind_of_constant, naming_class as where_class};
+ghost use Rattle.et_verify.specs.Named.{descriptor_in as descriptor_of};
 ghost use Rattle.et_verify.specs.Steps.{below_taken, moved_by, moved_where};
 
 use crate::effects::{
@@ -13,27 +14,60 @@ use crate::effects::{
 };
 use crate::operands::{exchange, give, take};
 use et_base::NoMemory;
-use et_event::{HeapRow, Operand, Place, class_operand, index_of, member_at};
+use et_event::{HeapRow, Operand, Place, class_operand, index_of};
 use et_flow::Types;
-use et_pool::descriptor::is_field_descriptor;
 use et_pool::{Pool, kind_of};
+use et_program::Program;
 
-/// The type of the field that an instruction names; `None` where it names none.
-fn field_type<'a>(place: &Place<'a>) -> Option<&'a [u8]>
+/// The descriptor of the member that the entry at an index of a pool gives, whatever its owner and its name.
+#[inline]
+fn descriptor_in(pool: &Pool, index: u16) -> Option<&[u8]>
+    ensures { option_map (λ s. s.now) result ≡ descriptor_of pool.now.slots index }
+{
+    let (_owner, named) = pool.member(index)?;
+    let (_name, descriptor) = pool.name_and_type(named)?;
+    pool.utf8(descriptor)
+}
+
+/// The descriptor of the member that an instruction names, whatever its owner and its name.
+#[inline]
+fn descriptor_at<'a>(place: &Place<'a>) -> Option<&'a [u8]>
     requires { natural_of place.now.instr.first < 2 ^ 16 }
+    ensures { option_map (λ s. s.now) result
+        ≡ descriptor_of (site_at place.now).pool (pool_index (site_at place.now)) }
+{
+    match place.pool {
+        Some(pool) => descriptor_in(pool, index_of(place)),
+        None => None,
+    }
+}
+
+/// The type of the field that an instruction names; `None` where it names none. Whether its text is one was found out as the
+/// program was linked.
+fn field_type<'a>(program: &Program, place: &Place<'a>) -> Option<&'a [u8]>
+    requires index { natural_of place.now.instr.first < 2 ^ 16 }
+    requires class { place.now.class < length program.now.classes }
+    requires pool { (site_at place.now).pool ≡ pool_of_class program.now place.now.class }
     ensures { option_map (λ s. s.now) result ≡ type_of_field (site_at place.now) }
 {
-    let member = member_at(place)?;
-    if !is_field_descriptor(member.descriptor) {
+    if !program.is_field_at_index(place.class, index_of(place)) {
         return None;
     }
-    Some(member.descriptor)
+    descriptor_at(place)
 }
 
 /// Takes operands of kinds, the topmost first, and gives what a field holds. `false` where no field is named, or the operands
 /// aren't there.
-fn read_field(types: &mut Types, place: &Place<'_>, taken: &[Operand]) -> Result<bool, NoMemory>
-    requires { natural_of place.now.instr.first < 2 ^ 16 }
+#[inline]
+fn read_field(
+    types: &mut Types,
+    program: &Program,
+    place: &Place<'_>,
+    taken: &[Operand],
+) -> Result<bool, NoMemory>
+    requires index { natural_of place.now.instr.first < 2 ^ 16 }
+    requires class { place.now.class < length program.now.classes }
+    requires pool { (site_at place.now).pool ≡ pool_of_class program.now place.now.class }
     ensures done { IfOk result (λ b. b ≡ true → moved_where
         (field_read (site_at place.now) taken.now) types.old.operands
         ≡ Some types.new.operands) }
@@ -41,7 +75,7 @@ fn read_field(types: &mut Types, place: &Place<'_>, taken: &[Operand]) -> Result
         (field_read (site_at place.now) taken.now) types.old.operands ≡ None) }
     ensures locals { IfOk result (λ b. types.new.locals ≡ types.old.locals) }
 {
-    let Some(descriptor) = field_type(place) else {
+    let Some(descriptor) = field_type(program, place) else {
         return Ok(false);
     };
     let done = exchange(types, taken, Some(kind_of_result(descriptor)))?;
@@ -50,8 +84,15 @@ fn read_field(types: &mut Types, place: &Place<'_>, taken: &[Operand]) -> Result
 
 /// Takes what is written to a field, and under it the object, if the field is no static one. `false` where no field is named,
 /// or the operands aren't there.
-fn write_field(types: &mut Types, place: &Place<'_>, is_static: bool) -> Result<bool, NoMemory>
-    requires { natural_of place.now.instr.first < 2 ^ 16 }
+fn write_field(
+    types: &mut Types,
+    program: &Program,
+    place: &Place<'_>,
+    is_static: bool,
+) -> Result<bool, NoMemory>
+    requires index { natural_of place.now.instr.first < 2 ^ 16 }
+    requires class { place.now.class < length program.now.classes }
+    requires pool { (site_at place.now).pool ≡ pool_of_class program.now place.now.class }
     ensures done { IfOk result (λ b. b ≡ true → moved_where
         (field_written (site_at place.now) is_static) types.old.operands
         ≡ Some types.new.operands) }
@@ -59,7 +100,7 @@ fn write_field(types: &mut Types, place: &Place<'_>, is_static: bool) -> Result<
         (field_written (site_at place.now) is_static) types.old.operands ≡ None) }
     ensures locals { IfOk result (λ b. types.new.locals ≡ types.old.locals) }
 {
-    let Some(descriptor) = field_type(place) else {
+    let Some(descriptor) = field_type(program, place) else {
         return Ok(false);
     };
     let Some(kind) = kind_of(descriptor) else {
@@ -138,10 +179,13 @@ fn step_multi(types: &mut Types, place: &Place<'_>) -> Result<bool, NoMemory>
 /// entries may be gone then.
 pub(crate) fn step_heap(
     types: &mut Types,
+    program: &Program,
     place: &Place<'_>,
     row: HeapRow,
 ) -> Result<bool, NoMemory>
-    requires { natural_of place.now.instr.first < 2 ^ 16 }
+    requires index { natural_of place.now.instr.first < 2 ^ 16 }
+    requires class { place.now.class < length program.now.classes }
+    requires pool { (site_at place.now).pool ≡ pool_of_class program.now place.now.class }
     ensures done { IfOk result (λ b. b ≡ true → moved_where
         (heap_effect (site_at place.now) row) types.old.operands ≡ Some types.new.operands) }
     ensures refused { IfOk result (λ b. b ≡ false → moved_where
@@ -149,10 +193,10 @@ pub(crate) fn step_heap(
     ensures locals { IfOk result (λ b. types.new.locals ≡ types.old.locals) }
 {
     let done = match row {
-        HeapRow::GetStatic => read_field(types, place, &NONE)?,
-        HeapRow::PutStatic => write_field(types, place, true)?,
-        HeapRow::GetField => read_field(types, place, &REFERENCE)?,
-        HeapRow::PutField => write_field(types, place, false)?,
+        HeapRow::GetStatic => read_field(types, program, place, &NONE)?,
+        HeapRow::PutStatic => write_field(types, program, place, true)?,
+        HeapRow::GetField => read_field(types, program, place, &REFERENCE)?,
+        HeapRow::PutField => write_field(types, program, place, false)?,
         HeapRow::LoadElement(elements) => {
             exchange(types, &INT_ON_REFERENCE, Some(kind_of_elements(elements)))?
         }

@@ -1,5 +1,5 @@
 //! The places at which the code goes on behind an instruction, and the handlers that may be entered at it.
-ghost use Rattle.std.specs.Prelude.{◌&&◌, ◌≡◌, ◌+◌, ◌<◌, ◌≤◌, ◌^◌, ◌++◌, length, map, filter, int_lt, false, true, ◌⊎◌, ℕ, [], ◌∷◌, Contains, OnOk, IfOk, IfSome};
+ghost use Rattle.std.specs.Prelude.{◌&&◌, if◌then◌else◌, ◌≡◌, ◌+◌, ◌<◌, ◌≤◌, ◌^◌, ◌++◌, length, map, filter, int_lt, false, true, ◌⊎◌, ℕ, [], ◌∷◌, Contains, OnOk, IfOk, IfSome};
 ghost use Rattle.std.specs.List.{list_all};
 ghost use Rattle.std.specs.Option.{option_copied};
 ghost use Rattle.et_class.specs.Looks.{class_name_at};
@@ -8,19 +8,19 @@ ghost use Rattle.et_code.specs.Rules.{flag, is_branch as branches, offsets};
 ghost use Rattle.et_code.specs.Switches.{table_rows, lookup_pairs};
 ghost use Rattle.et_code.specs.declared.body.TableRow.{TableRow as RowOf};
 ghost use Rattle.et_event.specs.Sites.{target as target_at};
-ghost use Rattle.et_event.specs.Places.{site_at};
 ghost use Rattle.et_event.specs.Pools.{pool_slots};
 ghost use Rattle.et_verify.specs.Typings.{has_room as room_for};
 ghost use Rattle.et_flow.specs.Flows.{some_place};
 ghost use Rattle.et_flow.specs.Types.{caught as caught_types};
 ghost use Rattle.et_verify.specs.Simple.{turns};
-ghost use Rattle.et_verify.specs.Leads.{goes_past as past, next_places as places_next, is_of_program, covers as covering, may_catch as catches};
+ghost use Rattle.et_verify.specs.Leads.{goes_past as past, is_of_program, covers as covering, may_catch as catches};
 
+use crate::decoded::Decoded;
 use byteorder::{BigEndian, ByteOrder};
 use et_base::NoMemory;
 use et_code::opcode::{GOTO, GOTO_W, IFEQ, IFNULL, LOOKUPSWITCH, TABLESWITCH};
 use et_code::{Instr, TableRow};
-use et_event::{CallRow, Condition, FrameRow, Place, Row};
+use et_event::{CallRow, Condition, FrameRow, Row};
 use et_flow::{Lead, Types};
 use et_pool::Pool;
 use et_program::Program;
@@ -40,7 +40,8 @@ fn goes_past(row: Row) -> bool
 }
 
 /// The place so far from an instruction.
-fn target(pc: u32, offset: i32) -> u32
+#[inline]
+pub(crate) fn target(pc: u32, offset: i32) -> u32
     requires { pc < 2 ^ 16 }
     ensures { result ≡ target_at pc offset }
 {
@@ -95,7 +96,8 @@ fn push_pairs(targets: &mut Vec<u32>, pc: u32, code: &[u8], table: usize) -> Res
 }
 
 /// Whether an opcode is that of a branch.
-fn is_branch(opcode: u8) -> bool
+#[inline]
+pub(crate) fn is_branch(opcode: u8) -> bool
     ensures { result ≡ branches opcode }
 {
     (IFEQ <= opcode && opcode <= GOTO) || (IFNULL <= opcode && opcode <= GOTO_W)
@@ -156,8 +158,8 @@ pub(crate) fn push_targets(
     push_turns(targets, pc, code, instr)
 }
 
-/// The code goes on at the place behind a plain instruction alone.
-#[inline]
+/// The code goes on behind an instruction that has no targets.
+#[inline(always)]
 pub(crate) fn go_past(targets: &[bool], next: u32, lead: &mut Lead) -> Result<(), NoMemory>
     ensures places { OnOk result (some_place lead.new.on ++ lead.new.nexts.items ≡ next ∷ []) }
     ensures on { OnOk result (IfSome lead.new.on (λ q. flag targets.now q ≡ false)) }
@@ -176,34 +178,48 @@ pub(crate) fn go_past(targets: &[bool], next: u32, lead: &mut Lead) -> Result<()
     Ok(())
 }
 
+/// The code goes on behind an instruction without targets that has a row, or nowhere.
+#[inline]
+pub(crate) fn go_on(targets: &[bool], row: Row, next: u32, lead: &mut Lead) -> Result<(), NoMemory>
+    ensures places { OnOk result (some_place lead.new.on ++ lead.new.nexts.items
+        ≡ (if past row then next ∷ [] else [])) }
+    ensures on { OnOk result (IfSome lead.new.on (λ q. flag targets.now q ≡ false)) }
+    ensures behind { OnOk result ((q : ℕ) → Contains lead.new.nexts.items q →
+        flag targets.now q ≡ true) }
+    ensures handlers { OnOk result (lead.new.handlers.items ≡ lead.old.handlers.items) }
+    ensures caught { OnOk result (lead.new.caught ≡ lead.old.caught) }
+{
+    if goes_past(row) {
+        return go_past(targets, next, lead);
+    }
+    lead.on = None;
+    lead.nexts.clear();
+    Ok(())
+}
+
 /// The places at which the code goes on from the instruction at a place: behind it, and at the targets of a branch or switch.
+#[inline]
 pub(crate) fn next_places(
     targets: &[bool],
+    code: &[u8],
     pc: u32,
-    place: &Place<'_>,
+    at: &Decoded,
     lead: &mut Lead,
 ) -> Result<(), NoMemory>
     requires pc { pc < 2 ^ 16 }
-    requires fits { Fits place.now.code.now pc place.now.instr place.now.next }
+    requires fits { Fits code.now pc at.now.instr at.now.next }
     ensures places { OnOk result (some_place lead.new.on ++ lead.new.nexts.items
-        ≡ places_next pc (site_at place.now) place.now.row) }
+        ≡ (if past at.now.row then at.now.next ∷ [] else [])
+        ++ map (target_at pc) (offsets code.now at.now.instr)) }
     ensures on { OnOk result (IfSome lead.new.on (λ q. flag targets.now q ≡ false)) }
     ensures behind { OnOk result ((q : ℕ) → Contains lead.new.nexts.items q →
-        Contains (map (target_at pc) (offsets place.now.code.now place.now.instr)) q
+        Contains (map (target_at pc) (offsets code.now at.now.instr)) q
         ⊎ (flag targets.now q ≡ true)) }
     ensures handlers { OnOk result (lead.new.handlers.items ≡ lead.old.handlers.items) }
     ensures caught { OnOk result (lead.new.caught ≡ lead.old.caught) }
 {
-    lead.on = None;
-    lead.nexts.clear();
-    if goes_past(place.row) {
-        if is_flagged(targets, place.next) {
-            lead.nexts.push(place.next)?;
-        } else {
-            lead.on = Some(place.next);
-        }
-    }
-    push_targets(&mut lead.nexts, pc, place.code, &place.instr)
+    go_on(targets, at.row, at.next, lead)?;
+    push_targets(&mut lead.nexts, pc, code, &at.instr)
 }
 
 /// Whether the Class entry at an index of a pool names a class of the program.
@@ -247,7 +263,7 @@ pub(crate) fn catching_rows(
 }
 
 /// Finds the handlers that may be entered at a place where types are these, with those that they are entered with.
-#[inline]
+#[inline(always)]
 pub(crate) fn find_handlers(
     rows: &[TableRow],
     pc: u32,
@@ -291,7 +307,7 @@ fn are_flagged(flags: &[bool], places: &[u32]) -> bool
 }
 
 /// Whether instructions start at all places at which the code goes on.
-#[inline]
+#[inline(always)]
 pub(crate) fn may_go(starts: &[bool], lead: &Lead) -> bool
     ensures { result ≡ list_all (flag starts.now) (some_place lead.now.on ++ lead.now.nexts.items) }
 {
@@ -302,7 +318,7 @@ pub(crate) fn may_go(starts: &[bool], lead: &Lead) -> bool
 }
 
 /// Whether instructions start at all handlers, and there is room for the exception.
-#[inline]
+#[inline(always)]
 pub(crate) fn may_enter(starts: &[bool], lead: &Lead, room: usize) -> bool
     ensures { result ≡ (list_all (flag starts.now) lead.now.handlers.items
         && room_for room lead.now.handlers.items) }

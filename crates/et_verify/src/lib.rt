@@ -3,6 +3,7 @@
 #![tactic(auto)]
 
 mod calls;
+mod decoded;
 mod effects;
 mod heap;
 pub mod laws;

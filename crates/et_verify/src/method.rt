@@ -2,31 +2,33 @@
 ghost use Rattle.std.specs.Prelude.{◌≡◌, ℕ, ◌+◌, ◌<◌, ◌≤◌, ◌^◌, ◌++◌, [], true, false, length, map, None, Some, IfSome, IfNone, IfOk, OnOk, IsSome, ◌||◌};
 ghost use Rattle.std.specs.List.{flat_map};
 ghost use Rattle.std.specs.Int.{w8, w16};
+ghost use Rattle.std.specs.Option.{option_copied};
 ghost use Rattle.et_base.specs.Numbers.{number_at};
 ghost use Rattle.et_code.specs.Bodies.{Body, body_of};
-ghost use Rattle.et_code.specs.Decoding.{instruction_at};
 ghost use Rattle.et_program.specs.Entries.{Linked, is_static as static_at, method_at};
 ghost use Rattle.et_event.specs.Programs.{is_initializing};
+ghost use Rattle.et_event.specs.Sites.{pool_of_class};
+ghost use Rattle.et_event.specs.Pools.{pool_slots};
 ghost use Rattle.et_pool.specs.Operands.{shape_in};
-ghost use Rattle.et_verify.specs.Methods.{IsPlaceIn};
-ghost use Rattle.et_flow.specs.Types.{TypesOf};
+ghost use Rattle.et_verify.specs.Methods.{IsPlaceIn, StandsAt};
 ghost use Rattle.et_flow.specs.Stores.{with_free};
-ghost use Rattle.et_verify.specs.Typings.{parameter_entries, argument_entries, leads_by, HasTyping};
+ghost use Rattle.et_verify.specs.Typings.{parameter_entries, argument_entries, HasTyping};
 
+use crate::decoded::{Decoded, decoded_at, simple_decoded_at};
 use crate::leads::{
-    catching_rows, find_handlers, go_past, is_flagged, may_enter, may_go, next_places,
+    catching_rows, find_handlers, go_on, go_past, is_flagged, may_enter, may_go, next_places,
 };
-use crate::plain::plain_at;
-use crate::rows::{step, step_within};
-use crate::simple::instruction_at;
+use crate::plain::plain_row;
+use crate::rows::{step, step_returned, step_within};
+use crate::simple::simple_at;
 use crate::targets::mark_method;
 use et_base::numbers::{u8_at, u16_at};
-use et_base::{MethodId, NoMemory};
+use et_base::{ClassId, MethodId, NoMemory};
 use et_class::flags::{STATIC, has};
 use et_code::{RawCode, TableRow};
-use et_event::{Operand, Place, code_of, row_of};
+use et_event::{CallRow, Operand, Place, Row, code_of};
 use et_flow::{EntryType, Flow, Lead, Search, Types, find_typing};
-use et_pool::{CallShape, Returned};
+use et_pool::{CallShape, Pool, Returned};
 use et_program::{MethodInfo, Program};
 use std::alloc::Global;
 use std::marker::Model;
@@ -45,35 +47,34 @@ fn short_is_small(code: &[u8], at: usize)
     if let Some((_short, _at)) = u16_at(code, at) {}
 }
 
-/// The instruction at a place of the code of a method; `None` where none stands there, or one without a row.
-fn place_at<'a>(
-    program: &'a Program,
-    method: MethodId,
-    info: &'a MethodInfo,
+/// An instruction of the code of a method of a class that has such a pool.
+#[inline(always)]
+fn place_in<'a>(
+    class: ClassId,
+    pool: Option<&'a Pool>,
     code: &'a [u8],
     pc: u32,
-) -> Option<Place<'a>>
-    requires pc { pc < length code.now }
-    requires few { length code.now < 2 ^ 16 }
-    requires info { info.now ≡ method_at program.now method }
-    requires class { info.now.class < length program.now.classes }
-    ensures found { IfSome result (λ place. (body : Body) → body.code ≡ code.now →
-        IsPlaceIn program.now method body pc place) }
-    ensures none { IfNone result ((body : Body) (ts : TypesOf) → leads_by program.now method body pc
-        ts (instruction_at code.now pc) ≡ None) }
+    at: &Decoded,
+) -> Place<'a>
+    requires { StandsAt code.now pc at.now }
+    ensures is { (p : Linked) (m : ℕ) (body : Body) → body.code ≡ code.now →
+        class ≡ (method_at p m).class →
+        pool_slots (option_copied pool.entry) ≡ pool_of_class p (method_at p m).class →
+        IsPlaceIn p m body pc result }
+    ensures row { result.row ≡ at.now.row }
+    ensures instr { result.instr ≡ at.now.instr }
+    ensures next { result.next ≡ at.now.next }
 {
     byte_is_small(code, pc as usize + 1);
     short_is_small(code, pc as usize + 1);
-    let (instr, next) = instruction_at(code, pc as usize)?;
-    let row = row_of(instr.opcode)?;
-    Some(Place {
-        row,
-        instr,
-        next: next as u32,
+    Place {
+        row: at.row,
+        instr: at.instr,
+        next: at.next,
         code,
-        pool: program.pool(info.class),
-        class: info.class,
-    })
+        pool,
+        class,
+    }
 }
 
 /// The code of a method, and what is read off the method once.
@@ -135,7 +136,61 @@ impl<'a> MethodFlow<'a> {
     ghost use Rattle.et_code.specs.Starts.{is_start};
     ghost use Rattle.et_flow.specs.Flows.{some_place};
     ghost use Rattle.et_verify.specs.Leads.{handlers_at};
+    ghost use Rattle.et_verify.specs.Methods.{StandsAt, types_after_it};
     ghost use Rattle.et_verify.specs.Typings.{leads_by, led};
+
+    /// Makes types those after an instruction that may name an entry of the pool. `false` where it doesn't accept them; some
+    /// entries may be gone then.
+    #[inline(always)]
+    fn step_named(&self, pc: u32, at: &Decoded, types: &mut Types) -> Result<bool, NoMemory>
+        requires { StandsAt self.now.body.code pc at.now }
+        ensures done { IfOk result (λ b. b ≡ true →
+            types_after_it self.now at.now types.old ≡ Some types.new) }
+        ensures refused { IfOk result (λ b. b ≡ false →
+            types_after_it self.now at.now types.old ≡ None) }
+    {
+        let code = self.code.code.as_slice();
+        let class = self.info.class;
+        let pool = self.program.pool(class);
+        let place = place_in(class, pool, code, pc, at);
+        let room = self.code.max_stack as usize;
+        let done = step(types, self.program, &place, self.returned, room)?;
+        Ok(done)
+    }
+
+    /// The same. One that changes the frame alone names no entry.
+    #[inline(always)]
+    fn step_decoded(&self, pc: u32, at: &Decoded, types: &mut Types) -> Result<bool, NoMemory>
+        requires { StandsAt self.now.body.code pc at.now }
+        ensures done { IfOk result (λ b. b ≡ true →
+            types_after_it self.now at.now types.old ≡ Some types.new) }
+        ensures refused { IfOk result (λ b. b ≡ false →
+            types_after_it self.now at.now types.old ≡ None) }
+    {
+        let room = self.code.max_stack as usize;
+        let done = match at.row {
+            Row::Frame(row) => step_within(types, row, &at.instr, room)?,
+            _ => self.step_named(pc, at, types)?,
+        };
+        Ok(done)
+    }
+
+    /// The same. A return names no entry.
+    #[inline(always)]
+    fn step_other(&self, pc: u32, at: &Decoded, types: &mut Types) -> Result<bool, NoMemory>
+        requires { StandsAt self.now.body.code pc at.now }
+        ensures done { IfOk result (λ b. b ≡ true →
+            types_after_it self.now at.now types.old ≡ Some types.new) }
+        ensures refused { IfOk result (λ b. b ≡ false →
+            types_after_it self.now at.now types.old ≡ None) }
+    {
+        let room = self.code.max_stack as usize;
+        let done = match at.row {
+            Row::Call(CallRow::Return(kind)) => step_returned(types, kind, self.returned, room),
+            _ => self.step_named(pc, at, types)?,
+        };
+        Ok(done)
+    }
 
     /// Makes types those after the instruction at a place, and finds the places at which the code goes on. `false` where no
     /// instruction with a row stands there, or it doesn't accept the types.
@@ -158,19 +213,48 @@ impl<'a> MethodFlow<'a> {
         ensures caught { IfOk result (λ b. b ≡ true → lead.new.caught ≡ lead.old.caught) }
     {
         let code = self.code.code.as_slice();
-        let Some(at) = place_at(self.program, self.method, self.info, code, pc) else {
+        let Some(at) = decoded_at(code, pc) else {
             return Ok(false);
         };
-        let room = self.code.max_stack as usize;
-        if !step(types, self.program, &at, self.returned, room)? {
+        if !self.step_decoded(pc, &at, types)? {
             return Ok(false);
         }
-        next_places(self.targets, pc, &at, lead)?;
+        next_places(self.targets, code, pc, &at, lead)?;
         Ok(true)
     }
 
-    /// The same, without what only instructions that are not plain have to look up.
-    #[inline]
+    /// The same of a simple instruction.
+    #[inline(never)]
+    fn step_simple(&self, pc: u32, types: &mut Types, lead: &mut Lead) -> Result<bool, NoMemory>
+        requires { is_start self.now.body.code pc ≡ true }
+        ensures done { IfOk result (λ b. b ≡ true → leads_by self.now.program self.now.method
+            self.now.body pc types.old (stands_at self.now.body.code pc)
+            ≡ led self.now.body (some_place lead.new.on ++ lead.new.nexts.items)
+            (handlers_at self.now.program self.now.method self.now.body pc) types.old
+            (Some types.new)) }
+        ensures refused { IfOk result (λ b. b ≡ false → leads_by self.now.program self.now.method
+            self.now.body pc types.old (stands_at self.now.body.code pc) ≡ None) }
+        ensures on { IfOk result (λ b. b ≡ true →
+            IfSome lead.new.on (λ q. flag self.now.targets q ≡ false)) }
+        ensures turns { IfOk result (λ b. b ≡ true → (q : ℕ) → Contains lead.new.nexts.items q →
+            is_start self.now.body.code q ≡ true → flag self.now.targets q ≡ true) }
+        ensures handlers { IfOk result (λ b. b ≡ true →
+            lead.new.handlers.items ≡ lead.old.handlers.items) }
+        ensures caught { IfOk result (λ b. b ≡ true → lead.new.caught ≡ lead.old.caught) }
+    {
+        let code = self.code.code.as_slice();
+        let Some(at) = simple_decoded_at(code, pc) else {
+            return self.step_any(pc, types, lead);
+        };
+        if !self.step_other(pc, &at, types)? {
+            return Ok(false);
+        }
+        go_on(self.targets, at.row, at.next, lead)?;
+        Ok(true)
+    }
+
+    /// The same of any instruction. A plain and simple one, as most are, is looked up by its opcode alone.
+    #[inline(always)]
     fn step_at(&self, pc: u32, types: &mut Types, lead: &mut Lead) -> Result<bool, NoMemory>
         requires { is_start self.now.body.code pc ≡ true }
         ensures done { IfOk result (λ b. b ≡ true → leads_by self.now.program self.now.method
@@ -188,14 +272,17 @@ impl<'a> MethodFlow<'a> {
             lead.new.handlers.items ≡ lead.old.handlers.items) }
         ensures caught { IfOk result (λ b. b ≡ true → lead.new.caught ≡ lead.old.caught) }
     {
-        let Some(plain) = plain_at(self.code.code.as_slice(), pc as usize) else {
+        let Some((instr, next)) = simple_at(self.code.code.as_slice(), pc as usize) else {
             return self.step_any(pc, types, lead);
         };
+        let Some(row) = plain_row(instr.opcode) else {
+            return self.step_simple(pc, types, lead);
+        };
         let room = self.code.max_stack as usize;
-        if !step_within(types, plain.row, &plain.instr, room)? {
+        if !step_within(types, row, &instr, room)? {
             return Ok(false);
         }
-        go_past(self.targets, plain.next, lead)?;
+        go_past(self.targets, next as u32, lead)?;
         Ok(true)
     }
 }
@@ -242,50 +329,51 @@ fn has_no_receiver(info: &MethodInfo) -> bool
     has(info.flags, STATIC) || info.name.as_slice() == b"<clinit>".as_slice()
 }
 
-/// The types with which a method begins; `None` where its arguments are more than its local variables.
-fn first_types(
-    alloc: Global,
+/// Makes types those with which a method begins. `false` where its arguments are more than its local variables.
+fn begin_types(
+    types: &mut Types,
     arguments: &mut Vec<EntryType>,
     is_static: bool,
     kinds: &[Option<Operand>],
     count: usize,
-) -> Result<Option<Types>, NoMemory>
+) -> Result<bool, NoMemory>
     requires { count < 2 ^ 16 }
-    ensures some { IfOk result (λ r. IfSome r (λ ts. (ts.operands ≡ [])
-        × (ts.locals ≡ with_free count (argument_entries is_static kinds.now)))) }
-    ensures fits { IfOk result (λ r. IfSome r (λ ts. length ts.locals ≡ count)) }
-    ensures none { IfOk result (λ r. IfNone r
-        (count < length (argument_entries is_static kinds.now))) }
+    ensures some { IfOk result (λ b. b ≡ true → (types.new.operands ≡ [])
+        × (types.new.locals ≡ with_free count (argument_entries is_static kinds.now))) }
+    ensures fits { IfOk result (λ b. b ≡ true → length types.new.locals ≡ count) }
+    ensures none { IfOk result (λ b. b ≡ false →
+        count < length (argument_entries is_static kinds.now)) }
 {
     put_arguments(arguments, is_static, kinds)?;
     if arguments.len() > count {
-        return Ok(None);
+        return Ok(false);
     }
-    let types = Types::first(alloc, arguments, count)?;
-    Ok(Some(types))
+    types.begin(arguments, count)?;
+    Ok(true)
 }
 
-/// What is kept from one method to the next: the room of its flags, its arguments and the search.
+/// What is kept from one method to the next: the room of its flags, its arguments, its first types and the search.
 #[derive(Drop)]
 pub(crate) struct Room {
     starts: Vec<bool>,
     targets: Vec<bool>,
     places: Vec<u32>,
     arguments: Vec<EntryType>,
+    entry: Types,
     search: Search,
 }
 
 impl Room {
     /// Nothing is kept yet.
-    pub(crate) fn new(alloc: Global) -> Result<Self, NoMemory> {
-        let search = Search::new(alloc)?;
-        Ok(Room {
+    pub(crate) fn new(alloc: Global) -> Self {
+        Room {
             starts: Vec::new(alloc),
             targets: Vec::new(alloc),
             places: Vec::new(alloc),
             arguments: Vec::new(alloc),
-            search,
-        })
+            entry: Types::new(alloc),
+            search: Search::new(alloc),
+        }
     }
 }
 
@@ -308,17 +396,15 @@ fn code_has_typing(
 {
     let info = program.method(method);
     let count = code.max_locals as usize;
-    let arguments = &mut room.arguments;
-    let Some(entry) = first_types(
-        alloc,
-        arguments,
+    if !begin_types(
+        &mut room.entry,
+        &mut room.arguments,
         has_no_receiver(info),
         shape.kinds(),
         count,
-    )?
-    else {
+    )? {
         return Ok(false);
-    };
+    }
     mark_method(
         &mut room.starts,
         &mut room.targets,
@@ -337,7 +423,7 @@ fn code_has_typing(
         starts: &room.starts,
         targets: &room.targets,
     };
-    let found = find_typing(alloc, &mut room.search, &flow, code.code.len(), &entry)?;
+    let found = find_typing(alloc, &mut room.search, &flow, code.code.len(), &room.entry)?;
     Ok(found)
 }
 

@@ -4,12 +4,12 @@ ghost use Rattle.et_flow.specs.Types.{operand_entries};
 ghost use Rattle.et_verify.specs.Steps.{below_taken, with_given};
 ghost use Rattle.et_flow.specs.declared.types.EntryType.{EntryType as Entry};
 
-use crate::effects::Effect;
 use et_base::NoMemory;
 use et_event::Operand;
 use et_flow::{EntryType, Types};
 
 /// Takes an operand of a kind. `false` where the topmost one is of no such kind; some entries may be gone then.
+#[inline(always)]
 pub fn take(types: &mut Types, kind: Operand) -> bool
     ensures taken { result ≡ true →
         below_taken (kind ∷ []) types.old.operands ≡ Some types.new.operands }
@@ -26,6 +26,7 @@ pub fn take(types: &mut Types, kind: Operand) -> bool
 }
 
 /// Takes operands of kinds, the topmost first. `false` where one is of no such kind; some entries may be gone then.
+#[inline(always)]
 pub fn take_all(types: &mut Types, kinds: &[Operand]) -> bool
     ensures taken { result ≡ true →
         below_taken kinds.now types.old.operands ≡ Some types.new.operands }
@@ -41,7 +42,7 @@ pub fn take_all(types: &mut Types, kinds: &[Operand]) -> bool
 }
 
 /// Gives an operand of a kind.
-#[inline]
+#[inline(always)]
 pub fn give(types: &mut Types, kind: Operand) -> Result<(), NoMemory>
     ensures operands { OnOk result
         (types.new.operands ≡ operand_entries kind ++ types.old.operands) }
@@ -58,6 +59,7 @@ pub fn give(types: &mut Types, kind: Operand) -> Result<(), NoMemory>
 }
 
 /// Gives an operand of a kind, or none.
+#[inline(always)]
 pub fn give_some(types: &mut Types, kind: Option<Operand>) -> Result<(), NoMemory>
     ensures operands { OnOk result (types.new.operands ≡ with_given kind types.old.operands) }
     ensures locals { OnOk result (types.new.locals ≡ types.old.locals) }
@@ -70,6 +72,7 @@ pub fn give_some(types: &mut Types, kind: Option<Operand>) -> Result<(), NoMemor
 
 /// Takes operands of kinds, the topmost first, and gives one of a kind, or none. `false` where one is of no such kind; some
 /// entries may be gone then.
+#[inline(always)]
 pub(crate) fn exchange(
     types: &mut Types,
     taken: &[Operand],

@@ -1,6 +1,7 @@
 //! The types after an instruction, from those before it, by the row of the table of events that it has (JVMS 6.5).
-ghost use Rattle.std.specs.Prelude.{◌≡◌, ℕ, List, ◌<◌, ◌^◌, ◌⊎◌, true, false, Some, None, IfOk};
+ghost use Rattle.std.specs.Prelude.{◌≡◌, ℕ, List, length, ◌<◌, ◌^◌, ◌⊎◌, true, false, Some, None, IfOk};
 ghost use Rattle.et_event.specs.Sites.{Site, natural_of, pool_of_class};
+ghost use Rattle.et_event.specs.declared.rows.CallRow.TheVariants as calls;
 ghost use Rattle.et_event.specs.declared.rows.Row.TheVariants as rows;
 ghost use Rattle.et_event.specs.Places.{is_frame, site_at};
 ghost use Rattle.et_pool.specs.Operands.{return_of};
@@ -8,11 +9,11 @@ ghost use Rattle.et_verify.specs.Calling.{returned_taken};
 ghost use Rattle.et_verify.specs.Steps.{locals_by, locals_after, operands_after, types_after};
 
 use crate::calls::step_call;
-use crate::effects::{REFERENCE, kind_of_number, two_of};
+use crate::effects::REFERENCE;
 use crate::heap::{step_constant, step_heap};
 use crate::operands::{exchange, take};
 use crate::stack::rearrange;
-use crate::steps::step_plain;
+use crate::steps::{combine, step_plain};
 use et_base::NoMemory;
 use et_code::Instr;
 use et_event::{CallRow, FrameRow, Operand, Place, Row};
@@ -22,7 +23,7 @@ use et_program::Program;
 
 /// An instruction that changes nothing but the topmost frame. `false` where it doesn't accept the types; some entries may be
 /// gone then.
-#[inline]
+#[inline(always)]
 #[tactic(auto, using(crate::proofs::Rowing::plain_operands))]
 fn step_frame(types: &mut Types, row: FrameRow, instr: &Instr) -> Result<bool, NoMemory>
     ensures done { IfOk result (λ b. (at : Site) (bytes : List ℕ) → at.instr ≡ instr.now →
@@ -42,7 +43,7 @@ fn step_frame(types: &mut Types, row: FrameRow, instr: &Instr) -> Result<bool, N
 }
 
 /// The same, with so much room for operands.
-#[inline]
+#[inline(always)]
 #[tactic(auto, using(crate::proofs::Rowing::both_fit, crate::proofs::Rowing::one_missing, crate::proofs::Rowing::too_many))]
 pub(crate) fn step_within(
     types: &mut Types,
@@ -79,6 +80,23 @@ fn step_return(types: &mut Types, kind: Option<Operand>, returned: Returned) -> 
     }
 }
 
+/// A return, of a method with so much room for operands.
+#[inline]
+#[tactic(auto, using(crate::proofs::Rowing::both_fit, crate::proofs::Rowing::one_missing, crate::proofs::Rowing::too_many))]
+pub(crate) fn step_returned(
+    types: &mut Types,
+    kind: Option<Operand>,
+    returned: Returned,
+    room: usize,
+) -> bool
+    ensures done { result ≡ true → (at : Site) (bytes : List ℕ) → return_of bytes ≡ returned →
+        types_after room bytes at (rows.Call (calls.Return kind)) types.old ≡ Some types.new }
+    ensures refused { result ≡ false → (at : Site) (bytes : List ℕ) → return_of bytes ≡ returned →
+        types_after room bytes at (rows.Call (calls.Return kind)) types.old ≡ None }
+{
+    step_return(types, kind, returned) && types.depth() <= room
+}
+
 /// What the instruction at a place does with the types of a frame, of a method that returns such. `false` where it doesn't
 /// accept them; some entries may be gone then.
 #[tactic(auto, using(crate::proofs::Rowing::return_moved))]
@@ -89,6 +107,7 @@ fn step_row(
     returned: Returned,
 ) -> Result<bool, NoMemory>
     requires index { is_frame place.now.row ≡ false → natural_of place.now.instr.first < 2 ^ 16 }
+    requires class { place.now.class < length program.now.classes }
     requires pool { (site_at place.now).pool ≡ pool_of_class program.now place.now.class }
     ensures done { IfOk result (λ b. (bytes : List ℕ) → return_of bytes ≡ returned → b ≡ true →
         (operands_after bytes (site_at place.now) place.now.row types.old.operands
@@ -103,8 +122,8 @@ fn step_row(
     let done = match place.row {
         Row::Frame(row) => step_frame(types, row, &place.instr)?,
         Row::PoolConstant => step_constant(types, place)?,
-        Row::Divide(number, _) => exchange(types, two_of(number), Some(kind_of_number(number)))?,
-        Row::Heap(row) => step_heap(types, place, row)?,
+        Row::Divide(number, _) => combine(types, number)?,
+        Row::Heap(row) => step_heap(types, program, place, row)?,
         Row::Call(CallRow::Invoke(kind)) => step_call(types, program, place, kind)?,
         Row::Call(CallRow::Return(kind)) => step_return(types, kind, returned),
         Row::Throw | Row::Monitor(_) => exchange(types, &REFERENCE, None)?,
@@ -114,6 +133,7 @@ fn step_row(
 
 /// Makes types those after the instruction at a place, in a method with so much room for operands that returns such. `false`
 /// where it doesn't accept them; some entries may be gone then.
+#[inline(never)]
 #[tactic(auto, using(crate::proofs::Rowing::both_fit, crate::proofs::Rowing::one_missing, crate::proofs::Rowing::too_many))]
 pub(crate) fn step(
     types: &mut Types,
@@ -123,6 +143,7 @@ pub(crate) fn step(
     room: usize,
 ) -> Result<bool, NoMemory>
     requires index { is_frame place.now.row ≡ false → natural_of place.now.instr.first < 2 ^ 16 }
+    requires class { place.now.class < length program.now.classes }
     requires pool { (site_at place.now).pool ≡ pool_of_class program.now place.now.class }
     ensures done { IfOk result (λ b. (bytes : List ℕ) → return_of bytes ≡ returned → b ≡ true →
         types_after room bytes (site_at place.now) place.now.row types.old ≡ Some types.new) }

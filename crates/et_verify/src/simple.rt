@@ -1,13 +1,12 @@
 //! Simple instructions: those without an operand, or with one unsigned number, that neither branch nor switch. Most are. They
 //! are decoded in place.
 ghost use Rattle.std.specs.Prelude.{◌≡◌, ◌<◌, [], pos, false, length, IfSome, Ok, slice_index_or};
-ghost use Rattle.std.specs.Result.{result_ok};
 ghost use Rattle.et_code.specs.Decoding.{instr as instruction, instruction_at as stands_at};
 ghost use Rattle.et_code.specs.Rules.{offsets};
 ghost use Rattle.et_verify.specs.Simple.{IsSimple};
 
 use et_base::numbers::{u8_at, u16_at};
-use et_code::{Instr, decode};
+use et_code::Instr;
 
 /// For each opcode how many bytes a simple instruction with it takes, and 0 where there is none.
 static LENGTHS: [u8; 256] = [
@@ -59,7 +58,7 @@ fn with_operand(opcode: u8, first: u16) -> Instr
 }
 
 /// The instruction at a place, and the place behind it, where it is a simple one.
-#[inline]
+#[inline(always)]
 pub(crate) fn simple_at(code: &[u8], pc: usize) -> Option<(Instr, usize)>
     requires { pc < length code.now }
     ensures found { IfSome result (λ x. stands_at code.now pc ≡ Ok x) }
@@ -77,17 +76,5 @@ pub(crate) fn simple_at(code: &[u8], pc: usize) -> Option<(Instr, usize)>
             Some((with_operand(opcode, first), at))
         }
         _ => None,
-    }
-}
-
-/// The instruction at a place, and the place behind it; `None` where none stands there.
-#[inline]
-pub(crate) fn instruction_at(code: &[u8], pc: usize) -> Option<(Instr, usize)>
-    requires { pc < length code.now }
-    ensures { result ≡ result_ok (stands_at code.now pc) }
-{
-    match simple_at(code, pc) {
-        Some(found) => Some(found),
-        None => decode(code, pc).ok(),
     }
 }

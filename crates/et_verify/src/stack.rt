@@ -190,6 +190,7 @@ fn swap(types: &mut Types) -> Result<bool, NoMemory>
 }
 
 /// Rearranges the topmost operands. `false` where they are not there, or a long would be cut in two; some may be gone then.
+#[inline(never)]
 pub(crate) fn rearrange(types: &mut Types, rearrangement: Rearrangement) -> Result<bool, NoMemory>
     ensures done { IfOk result (λ b. b ≡ true →
         rearranged_types rearrangement types.old.operands ≡ Some types.new.operands) }

@@ -9,7 +9,7 @@ ghost use Rattle.et_code.specs.declared.instr.Instr.{Instr as InstrOf};
 ghost use Rattle.et_event.specs.Sites.{target as target_at};
 ghost use Rattle.et_verify.specs.Targets.{KeepsFlags, AreFlagged, HasTargets, place_behind};
 
-use crate::leads::push_targets;
+use crate::leads::{is_branch, push_targets, target};
 use crate::simple::simple_at;
 use et_base::NoMemory;
 use et_code::{TableRow, decode};
@@ -34,8 +34,8 @@ fn mark_all(flags: &mut [bool], places: &[u32])
     }
 }
 
-/// Flags the targets of the instruction at a place, and answers the place behind it; `None` where none stands there. The
-/// targets are put into `targets` first.
+/// Flags the targets of the instruction at a place, and answers the place behind it; `None` where none stands there. Those of
+/// a switch are put into `targets` first.
 fn mark_targets(
     flags: &mut [bool],
     targets: &mut Vec<u32>,
@@ -56,6 +56,10 @@ fn mark_targets(
     let Ok((instr, next)) = decode(code, pc as usize) else {
         return Ok(None);
     };
+    if is_branch(instr.opcode) {
+        mark(flags, target(pc, instr.first));
+        return Ok(Some(next));
+    }
     targets.clear();
     push_targets(targets, pc, code, &instr)?;
     mark_all(flags, targets);
@@ -63,7 +67,7 @@ fn mark_targets(
 }
 
 /// Flags the targets of all instructions in `flags`, and makes `starts` a flag for each place of the code: whether an instruction
-/// begins there. The targets of each instruction are put into `targets` first.
+/// begins there. The targets of each switch are put into `targets` first.
 fn mark_code(
     flags: &mut [bool],
     starts: &mut Vec<bool>,
@@ -102,7 +106,7 @@ fn mark_handlers(flags: &mut [bool], table: &[TableRow])
 }
 
 /// Makes flags for each place of a method's code: whether an instruction begins there, and whether it is a target. `places` is
-/// room for the targets of one instruction.
+/// room for the targets of one switch.
 pub(crate) fn mark_method(
     starts: &mut Vec<bool>,
     targets: &mut Vec<bool>,

@@ -46,7 +46,7 @@ pub fn verify(alloc: Global, program: &Program) -> Result<u32, VerifyFault>
     // A law: it tells the prover, and does nothing.
     program.is_linked();
     let methods = program.file_methods();
-    let mut room = Room::new(alloc)?;
+    let mut room = Room::new(alloc);
     let mut count = 0;
     for method in methods {
         if !has_typing(alloc, &mut room, program, *method)? {

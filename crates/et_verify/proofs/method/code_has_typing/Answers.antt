@@ -1,5 +1,5 @@
 use Rattle.std.proofs.Common.{◌≡◌, ℕ, ◌<◌, ◌||◌, Bool, List, [], length, map, Option, sym, ap, subst, ◌∙◌, arith, rules}
-use Rattle.std.specs.Prelude.{IfSome, IfNone, not, filter}
+use Rattle.std.specs.Prelude.{not, filter}
 use Rattle.std.specs.Option.{option_copied}
 use Rattle.et_class.specs.Entries.{Item}
 use Rattle.et_program.specs.Entries.{method_at}
@@ -28,15 +28,15 @@ use Rattle.et_verify.proofs.Leading.{leads_monotone}
 use Rattle.et_verify.proofs.Decided.{HasType, has_type, first_are, typing_found, no_typing, no_locals}
 use Rattle.et_verify.proofs.method.code_has_typing.Goals as goal
 
-pub returns-in_default-clause-no : goal.returns-in_default-clause-no
-returns-in_default-clause-no c = λ e has.
+pub returns-then-not-branch-clause-no : goal.returns-then-not-branch-clause-no
+returns-then-not-branch-clause-no c = λ e has.
     let p = c.args.program.now in
     let m : ℕ = c.args.method in
     let body : Body = body_of c.args.code.now in
     let h : HasType p m c.args.shape.now = has_type p m c.args.shape.now c.requires.shape in
     let static : c.has_no_receiver.result ≡ (is_static p m || is_initializing p m) = c.has_no_receiver.ensures p m c.method-info.ensures.value in
     let kinds : c.kinds.result.now ≡ map operand_kind h.type.parameters = c.kinds.ensures ∙ ap (λ (x : Shape). x.kinds) h.is in
-    let more : body.max_locals < length (argument_entries c.has_no_receiver.result c.kinds.result.now) = subst (λ (o : Option TypesOf). IfNone o (body.max_locals < length (argument_entries c.has_no_receiver.result c.kinds.result.now))) c.in_default.is c.in_ok-entry.ensures.none in
+    let more : body.max_locals < length (argument_entries c.has_no_receiver.result c.kinds.result.now) = c.in_ok-begin_types.ensures.none c.if-not-branch.true in
     no_locals p m body h.type h.typed c.requires.code
     (subst (λ (ks : List (Option Operand)). body.max_locals < length (argument_entries (is_static p m || is_initializing p m) ks)) kinds
     (subst (λ (b : Bool). body.max_locals < length (argument_entries b c.kinds.result.now)) static more)) has
@@ -88,15 +88,15 @@ invariant_of-flow c =
     }
 
 -- the types with which the search begins
-entry_is : (c : goal.After-drop-entry-inside-3) → (h : HasType c.args.program.now c.args.method c.args.shape.now) → c.in-Some.entry ≡ first_types c.args.program.now c.args.method (body_of c.args.code.now) h.type
+entry_is : (c : goal.After-drop-handling-2) → (h : HasType c.args.program.now c.args.method c.args.shape.now) → c.begin_types.new.types ≡ first_types c.args.program.now c.args.method (body_of c.args.code.now) h.type
 entry_is c h =
     let p = c.args.program.now in
     let m : ℕ = c.args.method in
     let body : Body = body_of c.args.code.now in
     let static : c.has_no_receiver.result ≡ (is_static p m || is_initializing p m) = c.has_no_receiver.ensures p m c.method-info.ensures.value in
-    let are : (c.in-Some.entry.operands ≡ []) × (c.in-Some.entry.locals ≡ with_free body.max_locals (argument_entries c.has_no_receiver.result c.kinds.result.now)) =
-    subst (λ (o : Option TypesOf). IfSome o (λ (ts : TypesOf). (ts.operands ≡ []) × (ts.locals ≡ with_free body.max_locals (argument_entries c.has_no_receiver.result c.kinds.result.now)))) c.in-Some.is c.in_ok-entry.ensures.some in
-    first_are p m body c.args.shape.now h c.in-Some.entry c.has_no_receiver.result static are.0 (are.1 ∙ ap (λ (ks : List (Option Operand)). with_free body.max_locals (argument_entries c.has_no_receiver.result ks)) c.kinds.ensures)
+    let are : (c.begin_types.new.types.operands ≡ []) × (c.begin_types.new.types.locals ≡ with_free body.max_locals (argument_entries c.has_no_receiver.result c.kinds.result.now)) =
+    c.in_ok-begin_types.ensures.some c.if-not-branch.false in
+    first_are p m body c.args.shape.now h c.begin_types.new.types c.has_no_receiver.result static are.0 (are.1 ∙ ap (λ (ks : List (Option Operand)). with_free body.max_locals (argument_entries c.has_no_receiver.result ks)) c.kinds.ensures)
 
 pub returns-clause-yes : goal.returns-clause-yes
 returns-clause-yes c = λ e.
@@ -104,8 +104,8 @@ returns-clause-yes c = λ e.
     let m : ℕ = c.args.method in
     let body : Body = body_of c.args.code.now in
     let h : HasType p m c.args.shape.now = has_type p m c.args.shape.now c.requires.shape in
-    let long : length c.in-Some.entry.locals ≡ body.max_locals = subst (λ (o : Option TypesOf). IfSome o (λ (ts : TypesOf). length ts.locals ≡ body.max_locals)) c.in-Some.is c.in_ok-entry.ensures.fits in
-    typing_found p m body h.type h.typed c.requires.code c.in-Some.entry (entry_is c h) c.requires.some long (c.in_ok-found.ensures.found e)
+    let long : length c.begin_types.new.types.locals ≡ body.max_locals = c.in_ok-begin_types.ensures.fits c.if-not-branch.false in
+    typing_found p m body h.type h.typed c.requires.code c.begin_types.new.types (entry_is c h) c.requires.some long (c.in_ok-found.ensures.found e)
 
 pub returns-clause-no : goal.returns-clause-no
 returns-clause-no c = λ e.
@@ -113,4 +113,4 @@ returns-clause-no c = λ e.
     let m : ℕ = c.args.method in
     let body : Body = body_of c.args.code.now in
     let h : HasType p m c.args.shape.now = has_type p m c.args.shape.now c.requires.shape in
-    no_typing p m body h.type h.typed c.requires.code c.in-Some.entry (entry_is c h) (c.in_ok-found.ensures.none e)
+    no_typing p m body h.type h.typed c.requires.code c.begin_types.new.types (entry_is c h) (c.in_ok-found.ensures.none e)

@@ -1,4 +1,4 @@
-use Rattle.std.proofs.Common.{◌≡◌, ℕ, ◌+◌, ◌<◌, List, length, set, Option, Some, ap, ◌∙◌, arith}
+use Rattle.std.proofs.Common.{ℕ, ◌+◌, ◌<◌, List, length, set, Option, Some, ap, ◌∙◌, arith}
 use Rattle.et_flow.specs.Types.{TypesOf}
 use Rattle.et_flow.specs.Slots.{shown}
 use Rattle.et_flow.proofs.Slots.{long_shown, put_over}
