@@ -1,9 +1,8 @@
-mod InFrame
+pub mod InFrame
 mod Groups
 mod Storing
 mod Switching
-mod Dividing
 mod Texts
-mod Loading
-mod Stepping
-mod Lifting
+mod Ending
+pub mod Stepping
+pub mod Lifting

@@ -1,6 +1,5 @@
 -- The frames of a thread are lifted out of the machine, and put back.
-use Rattle.std.proofs.Common.{◌≡◌, ℕ, ◌+◌, ◌<◌, List, [], ◌∷◌, ◌++◌, length, Bool, true, false, Option, Some, None, get_or-set_same, set-set, sym, ap, subst, ◌∙◌, append-nil, arith}
-use Rattle.std.proofs.lemmas.List.{length-set}
+use Rattle.std.proofs.Common.{◌≡◌, ℕ, ◌<◌, List, [], ◌∷◌, ◌++◌, length, true, Option, Some, None, get_or-set_same, set-set, sym, ap, subst, ◌∙◌, append-nil, arith}
 use Rattle.et_state.specs.Running.{RunningState, MovesInFrame, passed, with_frames}
 use Rattle.et_state.specs.Threads.{FrameState, ThreadState, no_thread, rest_of}
 use Rattle.et_state.specs.State.{GuestState, Kept, MachineState, kept_of}
@@ -20,10 +19,6 @@ lifted m t = steps_thread m t (with_frames [] (thread_at m.guest t)) []
 -- .. and with these
 abbrev pub landed : MachineState → ℕ → RunningState → MachineState
 landed m t r = steps_thread m t (with_frames (r.frame ∷ r.below) (thread_at m.guest t)) []
-
--- there are as many threads
-pub lifted_thread : (m : MachineState) (t : ℕ) → t < length m.guest.threads → t < length (lifted m t).guest.threads
-lifted_thread m t lt = subst (λ (n : ℕ). t < n) (sym (length-set m.guest.threads t (with_frames [] (thread_at m.guest t)))) lt
 
 pub rest_short : (fs : List FrameState) → 0 < length fs → length (rest_of fs) < length fs
 rest_short [] h = absurd (omega arith)
@@ -57,19 +52,6 @@ landed_led m t r r' (Some f) sound has e b h =
       event = subst (λ (os : List ℕ). IsEventOf (kept_of m) (record { heap = m.heap; guest = with_top (ticked m.guest) t f }) os) (sym lost)
           (frame_led (kept_of m) t f r'.lost sound has (subst (λ (g : FrameState). MovesInFrame g f r'.lost) e h.2));
     }
-
--- .. which had no meaning
-pub landed_back : (m : MachineState) (t : ℕ) (r r' : RunningState) (o : Option FrameState) → HasFrame m.guest t → r.frame ≡ top m.guest t → r.below ≡ rest_of (thread_at m.guest t).frames
-    → StepsRunning o false r r' → StepsFrame o false t m (landed (lifted m t) t r')
-landed_back m t r r' None has e b h = ap (λ (q : RunningState). landed (lifted m t) t q) h ∙ landed_same m t r has e b
-landed_back m t r r' (Some f) has e b h = absurd h
-
--- what stands below the frame stays there
-pub below_kept : (o : Option FrameState) (done : Bool) (r r' : RunningState) → StepsRunning o done r r' → r'.below ≡ r.below
-below_kept None true r r' h = absurd h
-below_kept None false r r' h = ap (λ (q : RunningState). q.below) h
-below_kept (Some f) true r r' h = h.1
-below_kept (Some f) false r r' h = absurd h
 
 -- so many events were done
 pub passed_landed : (m : MachineState) (t : ℕ) (r : RunningState) (count : ℕ) (m₁ m₂ m₃ : MachineState) → HasFrame m.guest t → r.below ≡ rest_of (thread_at m.guest t).frames

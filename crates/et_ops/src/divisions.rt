@@ -1,33 +1,19 @@
 //! Division.
-ghost use Rattle.et_event.specs.Moments.{moment};
-ghost use Rattle.std.specs.Prelude.{◌≡◌, ℕ, ◌<◌, ◌^◌, List, Option, IfOk, OnErr};
+ghost use Rattle.std.specs.Prelude.{◌≡◌};
 ghost use Rattle.std.specs.Int.{w32, w64};
-ghost use Rattle.et_pool.specs.Entries.{Item};
-ghost use Rattle.et_code.specs.declared.instr.Instr.{Instr as Decoded};
-ghost use Rattle.et_state.specs.State.{kept_of};
-ghost use Rattle.et_state.specs.Words.{HasFrame, top};
-ghost use Rattle.et_state.specs.Sound.{IsSound};
 ghost use Rattle.et_event.specs.declared.rows.Number.TheVariants as numbers;
-ghost use Rattle.et_event.specs.Answered.{EventAnswers};
-ghost use Rattle.et_event.specs.Plain.{divided, divides};
-ghost use Rattle.et_ops.specs.Divisions.{DividesFrame, quotients};
+ghost use Rattle.et_event.specs.declared.rows.Row.TheVariants as rows;
+ghost use Rattle.et_event.specs.Plain.{divided};
+ghost use Rattle.et_event.specs.Sites.{Site};
+ghost use Rattle.et_ops.specs.Plain.{KeepsLocals, RunsPlain};
 
-use et_base::{NoMemory, ThreadId, Value, div32, div64, rem32, rem64};
-use et_event::{Division, GuestError, Number, ill_typed, int_at, long_at, replace, throw_error};
-use et_program::Program;
-use et_state::{EventEnd, Lines, Machine};
+use crate::ends::{PlainEnd, end_of};
+use crate::operands::{int_at, long_at, replace};
+use et_base::{Value, div32, div64, rem32, rem64};
+use et_event::{Division, Number};
+use et_state::Running;
 
-/// How a division ends.
-#[derive(Clone, Copy, Debug, PartialEq, Eq)]
-pub(crate) enum Divided {
-    /// The result is on top.
-    Done,
-    /// It has no meaning, and nothing was done.
-    IllTyped,
-    /// The divisor is 0, and nothing was done.
-    ByZero,
-}
-
+#[inline(always)]
 fn divide32(division: Division, a: i32, b: i32) -> Option<i32>
     ensures { result ≡ divided w32 division a b }
 {
@@ -37,6 +23,7 @@ fn divide32(division: Division, a: i32, b: i32) -> Option<i32>
     }
 }
 
+#[inline(always)]
 fn divide64(division: Division, a: i64, b: i64) -> Option<i64>
     ensures { result ≡ divided w64 division a b }
 {
@@ -47,104 +34,52 @@ fn divide64(division: Division, a: i64, b: i64) -> Option<i64>
 }
 
 /// `idiv` and `irem`.
-fn divide_ints(machine: &mut Machine, thread: ThreadId, division: Division, next: u32) -> Divided
-    requires frame { HasFrame machine.old.guest thread }
-    requires sound { IsSound (kept_of machine.old) }
-    requires clock { machine.old.guest.clock < 2 ^ 40 }
-    ensures { DividesFrame next (quotients numbers.Int division
-        (top machine.old.guest thread).operands) result thread machine.old machine.new }
+#[inline(always)]
+fn divide_ints(running: &mut Running, division: Division, next: u32) -> PlainEnd
+    ensures ends { (at : Site) → at.next ≡ next →
+        RunsPlain at (rows.Divide numbers.Int division) result running.old running.new }
+    ensures stays { KeepsLocals running.old.frame running.new.frame }
 {
-    let Some(b) = int_at(machine, thread, 0) else {
-        return Divided::IllTyped;
+    let Some(b) = int_at(running, 0) else {
+        return PlainEnd::IllTyped;
     };
-    let Some(a) = int_at(machine, thread, 1) else {
-        return Divided::IllTyped;
+    let Some(a) = int_at(running, 1) else {
+        return PlainEnd::IllTyped;
     };
-    let Some(n) = divide32(division, a, b) else {
-        return Divided::ByZero;
-    };
-    if replace(machine, thread, 2, &[Value::Int(n)], next) {
-        Divided::Done
-    } else {
-        Divided::IllTyped
+    match divide32(division, a, b) {
+        Some(n) => end_of(replace(running, 2, &[Value::Int(n)], next)),
+        None => PlainEnd::More,
     }
 }
 
 /// `ldiv` and `lrem`.
-fn divide_longs(machine: &mut Machine, thread: ThreadId, division: Division, next: u32) -> Divided
-    requires frame { HasFrame machine.old.guest thread }
-    requires sound { IsSound (kept_of machine.old) }
-    requires clock { machine.old.guest.clock < 2 ^ 40 }
-    ensures { DividesFrame next (quotients numbers.Long division
-        (top machine.old.guest thread).operands) result thread machine.old machine.new }
+#[inline(always)]
+fn divide_longs(running: &mut Running, division: Division, next: u32) -> PlainEnd
+    ensures ends { (at : Site) → at.next ≡ next →
+        RunsPlain at (rows.Divide numbers.Long division) result running.old running.new }
+    ensures stays { KeepsLocals running.old.frame running.new.frame }
 {
-    let Some(b) = long_at(machine, thread, 0) else {
-        return Divided::IllTyped;
+    let Some(b) = long_at(running, 0) else {
+        return PlainEnd::IllTyped;
     };
-    let Some(a) = long_at(machine, thread, 2) else {
-        return Divided::IllTyped;
+    let Some(a) = long_at(running, 2) else {
+        return PlainEnd::IllTyped;
     };
-    let Some(n) = divide64(division, a, b) else {
-        return Divided::ByZero;
-    };
-    if replace(machine, thread, 4, &[Value::LongHigh, Value::Long(n)], next) {
-        Divided::Done
-    } else {
-        Divided::IllTyped
+    match divide64(division, a, b) {
+        Some(n) => end_of(replace(running, 4, &[Value::LongHigh, Value::Long(n)], next)),
+        None => PlainEnd::More,
     }
 }
 
-/// A number is divided, where the divisor isn't 0.
-fn divide(
-    machine: &mut Machine,
-    thread: ThreadId,
-    number: Number,
-    division: Division,
-    next: u32,
-) -> Divided
-    requires frame { HasFrame machine.old.guest thread }
-    requires sound { IsSound (kept_of machine.old) }
-    requires clock { machine.old.guest.clock < 2 ^ 40 }
-    ensures { DividesFrame next (quotients number division
-        (top machine.old.guest thread).operands) result thread machine.old machine.new }
+/// Does an `idiv`, `irem`, `ldiv` or `lrem` (JVMS 6.5) whose divisor isn't 0, over the frame that runs, in front of the pc `next`.
+#[inline(always)]
+pub fn divide(running: &mut Running, number: Number, division: Division, next: u32) -> PlainEnd
+    ensures ends { (at : Site) → at.next ≡ next →
+        RunsPlain at (rows.Divide number division) result running.old running.new }
+    ensures stays { KeepsLocals running.old.frame running.new.frame }
 {
     match number {
-        Number::Int => divide_ints(machine, thread, division, next),
-        Number::Long => divide_longs(machine, thread, division, next),
-    }
-}
-
-/// The event of `idiv`, `irem`, `ldiv` or `lrem` in front of the pc `next`. A divisor of 0 throws ArithmeticException. After
-/// `NoMemory` the machine may have one object more, to which nothing refers, and there may be its record; all else is as
-/// before.
-#[tactic(auto, using(crate::proofs::Dividing::refused_same, crate::proofs::Dividing::zero_same))]
-pub(crate) fn divide_event(
-    program: &Program,
-    machine: &mut Machine,
-    thread: ThreadId,
-    number: Number,
-    division: Division,
-    next: u32,
-    out: &mut Lines,
-) -> Result<EventEnd, NoMemory>
-    requires frame { HasFrame machine.old.guest thread }
-    requires sound { IsSound (kept_of machine.old) }
-    requires clock { machine.old.guest.clock < 2 ^ 40 }
-    ensures ok { IfOk result (λ end. (instr : Decoded) (code : List ℕ) (pool : List (Option Item))
-        (class : ℕ) → EventAnswers (divides (moment program.now machine.old thread)
-        (record { instr = instr; next = next; code = code; pool = pool; class = class })
-        number division) end machine.old machine.new out.old out.new) }
-    ensures err { OnErr result (machine.new.guest ≡ machine.old.guest) }
-{
-    match divide(machine, thread, number, division, next) {
-        Divided::Done => Ok(EventEnd::Done),
-        Divided::IllTyped => Ok(ill_typed(machine, thread)),
-        Divided::ByZero => throw_error(
-            program,
-            machine,
-            thread,
-            GuestError::ArithmeticException,
-            out,
-        ),
+        Number::Int => divide_ints(running, division, next),
+        Number::Long => divide_longs(running, division, next),
     }
 }

@@ -1,10 +1,11 @@
 //! The plain instructions: those that read and change nothing but the topmost frame, the constants of the pool, and
-//! division.
+//! division. Also the parts of instructions that are done while the frames of a thread are lifted out of the machine.
 #![tactic(auto)]
 
 mod branches;
 mod constants;
 mod divisions;
+mod ends;
 mod event;
 mod frames;
 mod lifted;
@@ -19,5 +20,10 @@ mod stores;
 mod strings;
 mod switches;
 
+pub use constants::push_constant;
+pub use divisions::divide;
+pub use ends::PlainEnd;
 pub use event::ops_event;
-pub use step::frame_events;
+pub use lifted::lose_each;
+pub use operands::{give, int_at, reference_at, take};
+pub use step::run_frame;

@@ -1,23 +1,27 @@
-//! An instruction that reads and changes nothing but the topmost frame of a thread, as an event of the machine.
-ghost use Rattle.std.specs.Prelude.{◌≡◌, ℕ, ◌+◌, ◌<◌, ◌≤◌, ◌^◌, List, Option, length};
-ghost use Rattle.et_pool.specs.Entries.{Item};
+//! A plain instruction of a thread that changes nothing but the topmost frame, as an event of the machine.
+ghost use Rattle.std.specs.Prelude.{◌≡◌, ◌+◌, ◌<◌, ◌≤◌, ◌^◌, true, length};
 ghost use Rattle.et_code.specs.Switches.{IsSwitch};
 ghost use Rattle.et_state.specs.State.{kept_of};
 ghost use Rattle.et_state.specs.Sound.{IsSound};
 ghost use Rattle.et_state.specs.Threads.{lost_room, most_frames};
 ghost use Rattle.et_state.specs.Words.{HasFrame, losing, thread_at, top};
-ghost use Rattle.et_event.specs.declared.rows.FrameRow.TheVariants as rows;
-ghost use Rattle.et_event.specs.Answered.{StepsFrame};
-ghost use Rattle.et_event.specs.Plain.{frame_after};
+ghost use Rattle.et_event.specs.declared.rows.FrameRow.TheVariants as frame_rows;
+ghost use Rattle.et_event.specs.declared.rows.Row.TheVariants as rows;
+ghost use Rattle.et_event.specs.PlainRows.{is_plain};
+ghost use Rattle.et_event.specs.Places.{site_at};
+ghost use Rattle.et_event.specs.Sites.{natural_of};
+ghost use Rattle.et_ops.specs.Plain.{DoesPlain, RunsPlain};
 
-use crate::frames::frame_event;
+use crate::constants::push_constant;
+use crate::divisions::divide;
+use crate::ends::{PlainEnd, end_of};
+use crate::frames::{frame_event, natural};
 use et_base::{ObjectId, ThreadId};
-use et_code::Instr;
-use et_event::FrameRow;
-use et_state::Machine;
+use et_event::{Place, Row};
+use et_state::{Machine, Running};
 
 /// Adds the objects to those that the event has lost.
-fn lose_each(machine: &mut Machine, objects: &[ObjectId])
+pub fn lose_each(machine: &mut Machine, objects: &[ObjectId])
     requires { length machine.old.lost + length objects.now ≤ lost_room }
     ensures { machine.new ≡ losing machine.old objects.now }
 {
@@ -26,33 +30,53 @@ fn lose_each(machine: &mut Machine, objects: &[ObjectId])
     }
 }
 
-/// The event of an instruction of this row, decoded from this code, in front of the pc `next`: it is done over the frames of the
-/// thread while they are lifted out of the machine. `true` exactly where it has a meaning, and then a legal step leads to the
-/// state after it. Where it has none, the machine is as before.
-pub(crate) fn frame_done(
+/// Does the plain instruction of this row at a place, over the frame that runs.
+#[inline(always)]
+fn plain_step(running: &mut Running, place: &Place<'_>, row: Row) -> PlainEnd
+    requires pc { running.old.frame.pc < 2 ^ 31 }
+    requires switch { row ≡ rows.Frame frame_rows.Switch →
+        IsSwitch place.now.code.now place.now.instr }
+    requires index { row ≡ rows.PoolConstant → natural_of place.now.instr.first < 2 ^ 16 }
+    requires plain { is_plain row ≡ true }
+    ensures { RunsPlain (site_at place.now) row result running.old running.new }
+{
+    match row {
+        Row::Frame(row) => end_of(frame_event(running, row, place.code, &place.instr, place.next)),
+        Row::PoolConstant => {
+            let index = natural(place.instr.first) as u16;
+            push_constant(running, place.pool, index, place.next)
+        }
+        Row::Divide(number, division) => divide(running, number, division, place.next),
+        Row::Heap(_) | Row::Call(_) | Row::Throw | Row::Monitor(_) => unreachable!(),
+    }
+}
+
+/// The event of the plain instruction of this row at a place, where it changes nothing but the topmost frame: it is done over the
+/// frames of the thread while they are lifted out of the machine, and a legal step leads to the state after it. Where it has no
+/// meaning or changes more, the machine is as before.
+pub(crate) fn plain_done(
     machine: &mut Machine,
     thread: ThreadId,
-    row: FrameRow,
-    code: &[u8],
-    instr: &Instr,
-    next: u32,
-) -> bool
+    place: &Place<'_>,
+    row: Row,
+) -> PlainEnd
     requires frame { HasFrame machine.old.guest thread }
     requires sound { IsSound (kept_of machine.old) }
     requires clock { machine.old.guest.clock < 2 ^ 40 }
     requires few { length (thread_at machine.old.guest thread).frames ≤ most_frames }
     requires pc { (top machine.old.guest thread).pc < 2 ^ 31 }
-    requires switch { row ≡ rows.Switch → IsSwitch code.now instr.now }
-    ensures { (pool : List (Option Item)) (class : ℕ) → StepsFrame (frame_after
-        (record { instr = instr.now; next = next; code = code.now; pool = pool; class = class }) row
-        (top machine.old.guest thread)) result thread machine.old machine.new }
+    requires switch { row ≡ rows.Frame frame_rows.Switch →
+        IsSwitch place.now.code.now place.now.instr }
+    requires index { row ≡ rows.PoolConstant → natural_of place.now.instr.first < 2 ^ 16 }
+    requires plain { is_plain row ≡ true }
+    ensures { DoesPlain (site_at place.now) row result thread machine.old machine.new }
 {
     let mut running = machine.lift(thread);
-    let done = frame_event(&mut running, row, code, instr, next);
-    if done {
+    let end = plain_step(&mut running, place, row);
+    if end.is_done() {
         machine.begin_event();
         lose_each(machine, running.lost());
     }
     machine.land(thread, running);
-    done
+    end
 }

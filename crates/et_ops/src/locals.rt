@@ -31,7 +31,8 @@ fn load_int(running: &mut Running, i: u32, next: u32) -> bool
     requires small { i + 1 < 2 ^ 32 }
     ensures { StepsRunning (put_some next
         (option_map (λ vs. vs ++ running.old.frame.operands)
-        (loaded operand.Int i running.old.frame)) running.old.frame) result running.old running.new }
+        (loaded operand.Int i running.old.frame)) running.old.frame)
+        result running.old running.new }
 {
     match local_at(running, i) {
         Value::Int(n) => replace(running, 0, &[Value::Int(n)], next),
@@ -45,7 +46,8 @@ fn load_long(running: &mut Running, i: u32, next: u32) -> bool
     requires small { i + 1 < 2 ^ 32 }
     ensures { StepsRunning (put_some next
         (option_map (λ vs. vs ++ running.old.frame.operands)
-        (loaded operand.Long i running.old.frame)) running.old.frame) result running.old running.new }
+        (loaded operand.Long i running.old.frame)) running.old.frame)
+        result running.old running.new }
 {
     match (local_at(running, i), local_at(running, i + 1)) {
         (Value::Long(n), Value::LongHigh) => {

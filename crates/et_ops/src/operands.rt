@@ -27,7 +27,7 @@ pub(crate) fn operand_at(running: &Running, k: u32) -> Value
 
 /// The int so far below the top.
 #[inline(always)]
-pub(crate) fn int_at(running: &Running, k: u32) -> Option<i32>
+pub fn int_at(running: &Running, k: u32) -> Option<i32>
     ensures { result ≡ int_of (operand_of running.now.frame k) }
 {
     match operand_at(running, k) {
@@ -51,7 +51,7 @@ pub(crate) fn long_at(running: &Running, k: u32) -> Option<i64>
 
 /// The reference so far below the top.
 #[inline(always)]
-pub(crate) fn reference_at(running: &Running, k: u32) -> Option<Option<ObjectId>>
+pub fn reference_at(running: &Running, k: u32) -> Option<Option<ObjectId>>
     ensures { result ≡ entry_reference (operand_of running.now.frame k) }
 {
     match operand_at(running, k) {
@@ -103,7 +103,7 @@ pub(crate) fn is_pair(running: &Running, k: u32) -> bool
 
 /// Takes so many operands.
 #[inline(always)]
-pub(crate) fn take(running: &mut Running, count: u32)
+pub fn take(running: &mut Running, count: u32)
     requires operands { count ≤ length running.old.frame.operands }
     requires lost { length running.old.lost + count ≤ most_lost }
     ensures { running.new ≡ steps_running running.old (popped count running.old.frame)
@@ -116,7 +116,7 @@ pub(crate) fn take(running: &mut Running, count: u32)
 
 /// Puts these operands on top, the first of them topmost.
 #[inline(always)]
-pub(crate) fn give(running: &mut Running, values: &[Value])
+pub fn give(running: &mut Running, values: &[Value])
     requires { length values.now + length running.old.frame.operands ≤ running.old.frame.room }
     ensures { running.new ≡ steps_running running.old (record running.old.frame
         { operands = values.now ++ running.old.frame.operands }) [] }

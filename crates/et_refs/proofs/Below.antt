@@ -164,11 +164,14 @@ named_by LongHigh r o e f = cc
 named_by Null r o e f = cc
 named_by (Ref x) r o e f = let same : x ≡ o = cc in subst (λ (k : ℕ). Contains (x ∷ []) k) same (Contains-here x [])
 
+pub reference_in : (f : FrameState) (k : ℕ) (r : Reference) → Some r ≡ entry_reference (operand_of f k) → (o : ℕ) → r ≡ Some o → Contains (frame_roots f) o
+reference_in f k r e o named = operand_is_in f k (reference_deep f.operands k r e) o (named_by (operand_of f k) r o e named)
+
 pub reference_named : (m : MachineState) (t k : ℕ) (r : Reference) → HasFrame m.guest t → IsSound (kept_of m) → Some r ≡ entry_reference (operand_of (top m.guest t) k) → IsNamedReference m (top m.guest t) r
 reference_named m t k r has sound e =
     let f = top m.guest t in
     λ o named.
-    let inside : Contains (frame_roots f) o = operand_is_in f k (reference_deep f.operands k r e) o (named_by (operand_of f k) r o e named) in
+    let inside : Contains (frame_roots f) o = reference_in f k r e o named in
     (sound.roots o (top_root m.guest t o has inside), inside)
 
 -- .. and as a value it refers to that object alone

@@ -1,6 +1,8 @@
 -- The rows in parts: what goes on behind each check.
 use Rattle.std.proofs.Common.{◌≡◌, ℕ, ◌++◌, ◌∷◌, ℤ, List, Some, Result, Ok, Err, IfOk, Bool, true, false, unwrap_or, drop, not, refl, sym, ◌∙◌, ap}
-use Rattle.std.specs.Prelude.{pos}
+use Rattle.std.specs.Prelude.{pos, ◌+◌, nat_le, length}
+use Rattle.et_class.specs.Descriptors.{width_of}
+use Rattle.et_state.specs.Threads.{FrameState}
 use Rattle.et_base.specs.declared.value.Value.{Value}
 use Rattle.et_base.specs.declared.value.Value.TheVariants.{Int, Ref}
 use Rattle.et_program.specs.Entries.{class_at, field_at}
@@ -39,6 +41,20 @@ gets_fitting e at m r below = ill_typed_unless e (field_fits e below m) (gets_sl
 
 abbrev pub gets : Moment → Site → Member → Outcome Kept
 gets e at m = with_reference (ill_typed e) (current_frame e).operands (gets_fitting e at m)
+
+-- THE FRAME of a moment, where it is the frame that runs
+
+pub on_int : (e : Moment) (f : FrameState) (go : ℤ → List Value → Outcome Kept) → current_frame e ≡ f → with_int (ill_typed e) (current_frame e).operands go ≡ with_int (ill_typed e) f.operands go
+on_int e f go same = ap (λ (x : FrameState). with_int (ill_typed e) x.operands go) same
+
+pub on_reference : (e : Moment) (f : FrameState) (go : Reference → List Value → Outcome Kept) → current_frame e ≡ f → with_reference (ill_typed e) (current_frame e).operands go ≡ with_reference (ill_typed e) f.operands go
+on_reference e f go same = ap (λ (x : FrameState). with_reference (ill_typed e) x.operands go) same
+
+pub on_fitting : (e : Moment) (f : FrameState) (m : Member) (below : List Value) (go : Outcome Kept) → current_frame e ≡ f → ill_typed_unless e (field_fits e below m) go ≡ ill_typed_unless e (nat_le (width_of m.descriptor + length below) f.room) go
+on_fitting e f m below go same = ap (λ (x : FrameState). ill_typed_unless e (nat_le (width_of m.descriptor + length below) x.room) go) same
+
+pub put_back : (e : Moment) (at : Site) (f : FrameState) (n : ℕ) (v : Value) → current_frame e ≡ f → goes (leaving_values e at (entries_of v ++ drop n f.operands) (begins e)) ≡ put_outcome e at (drop n (current_frame e).operands) v
+put_back e at f n v same = ap (λ (x : FrameState). goes (leaving_values e at (entries_of v ++ drop n x.operands) (begins e))) (sym same)
 
 -- PUTFIELD
 

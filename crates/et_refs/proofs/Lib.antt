@@ -29,3 +29,5 @@ pub mod OutPlaces
 pub mod OutFound
 pub mod OutMaking
 pub mod OutReading
+pub mod Over
+pub mod Lifting

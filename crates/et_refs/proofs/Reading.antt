@@ -1,5 +1,5 @@
--- What stands in a slot, and which field a name means.
-use Rattle.std.proofs.Common.{◌≡◌, ℕ, suc, ◌+◌, Bool, true, false, cond, List, [], ◌∷◌, get_or, Option, None, Some, IfSome, IfOk, refl, subst, arith, Contains}
+-- What stands in a slot, of which class an object is, and which field a name means.
+use Rattle.std.proofs.Common.{◌≡◌, ℕ, suc, ◌+◌, ◌<◌, Bool, true, false, cond, List, [], ◌∷◌, length, get_or, Option, None, Some, IfSome, IfOk, refl, subst, arith, Contains}
 use Rattle.std.specs.List.{position_from}
 use Rattle.std.specs.Option.{ok_or, option_or}
 use Rattle.std.specs.Str.{bytes_eq}
@@ -9,6 +9,7 @@ use Rattle.std.proofs.lemmas.Slice.Eq.{bytes_eq-Decides}
 use Rattle.et_base.specs.declared.value.Value.{Value}
 use Rattle.et_base.specs.declared.value.Value.TheVariants.{Unset, Int, Long, LongHigh, Null, Ref}
 use Rattle.et_base.proofs.Lists.{Contains-none}
+use Rattle.et_heap.specs.Objects.{ObjectState, Objects, IsHeld, at, found, is_there, object_at}
 use Rattle.et_heap.specs.Refs.{refs_of_value}
 use Rattle.et_program.specs.declared.info.FieldInfo.{FieldInfo}
 use Rattle.et_program.specs.Entries.{Linked, field_at, no_field}
@@ -19,6 +20,17 @@ use Rattle.et_event.specs.declared.rows.Elements.TheVariants as elements
 use Rattle.et_event.specs.PoolOperands.Operand.{Operand}
 use Rattle.et_event.specs.PoolOperands.Operand.TheVariants as operand
 use Rattle.et_event.specs.Kinds.{or_zero, zero_of, narrowed, kept_element}
+use Rattle.et_refs.specs.Reads.{IsSoundHeap}
+
+-- OBJECTS
+
+there_is : (x : Option ObjectState) → is_there x → x ≡ Some (found x)
+there_is None h = absurd h
+there_is (Some x) h = refl
+
+-- the class of one that is held is a class of the program
+pub class_within : (p : Linked) (heap : Objects) (o : ℕ) → IsSoundHeap p heap → IsHeld heap o → (object_at heap o).class < length p.classes
+class_within p heap o sound held = (sound.objects o (object_at heap o) (there_is (at heap o) held)).class
 
 -- SLOTS
 

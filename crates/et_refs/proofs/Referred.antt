@@ -1,39 +1,77 @@
 -- The field that an instruction names is what the entry of the pool at its index refers to.
-use Rattle.std.proofs.Common.{◌≡◌, ℕ, List, Option, Some, None, is_some, true, refl, sym, ◌∙◌, ap, subst}
-use Rattle.std.specs.Prelude.{Result, Ok, Err, IfOk, option_map}
+use Rattle.std.proofs.Common.{◌≡◌, ℕ, ◌<◌, Bool, true, false, List, length, Option, Some, None, unwrap_or, refl, sym, ◌∙◌, ap, subst}
+use Rattle.std.specs.Prelude.{Result, Ok, Err, IfOk, IsSome, option_map}
+use Rattle.std.specs.Option.{option_map_or}
+use Rattle.et_class.specs.Descriptors.{is_field_descriptor}
 use Rattle.et_pool.specs.Entries.{Item}
 use Rattle.et_program.specs.Entries.{Linked, field_at}
 use Rattle.et_program.specs.declared.errors.LinkError.{LinkError}
-use Rattle.et_program.specs.Referring.{Member, pool_of_class, member_described, field_in_owner, field_of_member, field_referred}
+use Rattle.et_program.specs.Referring.{Member, pool_of_class, member_described, field_in_owner, field_of_member}
 use Rattle.et_program.specs.Resolution.{resolve_class, resolve_field}
 use Rattle.et_state.specs.Outcome.{Outcome}
 use Rattle.et_state.specs.State.{Kept}
-use Rattle.et_event.specs.Checks.{resolved}
-use Rattle.et_event.specs.Heap.{resolved_field}
-use Rattle.et_event.specs.Moments.{Moment, begins}
+use Rattle.et_event.specs.Checks.{ill_typed_unless, resolved}
+use Rattle.et_event.specs.Heap.{resolved_field, with_field}
+use Rattle.et_event.specs.Moments.{Moment, begins, ill_typed}
 use Rattle.et_event.specs.Sites.{Site, site_member, pool_index}
+use Rattle.et_refs.specs.NamedFields.{IsNamedBy, named_as, no_member}
+use Rattle.et_refs.specs.declared.fields.NamedField.{NamedField}
 use Rattle.et_refs.proofs.Reading.{field_described}
 
--- WHAT THE TABLE HAS
-
-referred_is : (p : Linked) (class index : ℕ) (at : Site) → at.pool ≡ pool_of_class p class → index ≡ pool_index at → field_referred p class index ≡ option_map (field_of_member p) (site_member at)
-referred_is p class index at pool same =
-    ap (λ (s : List (Option Item)). option_map (field_of_member p) (member_described s index)) (sym pool) ∙ ap (λ (i : ℕ). option_map (field_of_member p) (member_described at.pool i)) same
+-- WHAT AN ENTRY NAMES
 
 same_answer : (a b : Result ℕ LinkError) → Some a ≡ Some b → a ≡ b
 same_answer a b e = cc
 
-pub field_found : (p : Linked) (class index : ℕ) (at : Site) (answer : Result ℕ LinkError) → at.pool ≡ pool_of_class p class → index ≡ pool_index at → Some answer ≡ field_referred p class index
-    → (m : Member) → site_member at ≡ Some m → answer ≡ field_of_member p m
-field_found p class index at answer pool same found m is =
-    same_answer answer (field_of_member p m) (found ∙ (referred_is p class index at pool same ∙ ap (option_map (field_of_member p)) is))
+-- a member that is a field, and what it means
+pub record IsFieldFound (p : Linked) (o : Option Member) (answer : Result ℕ LinkError) : Type 0 where
+  pub member : Member
+  pub there : o ≡ Some member
+  pub field : is_field_descriptor member.descriptor ≡ true
+  pub answered : answer ≡ field_of_member p member
 
-nothing_there : (f : Member → Result ℕ LinkError) (o : Option Member) → None ≡ option_map f o → is_some o ≡ true → ⊥
-nothing_there f None none some = absurd (cc)
-nothing_there f (Some m) none some = absurd (cc)
+pub found_field : (p : Linked) (o : Option Member) (answer : Result ℕ LinkError) → option_map_or (λ (m : Member). is_field_descriptor m.descriptor) o false ≡ true → Some answer ≡ option_map (field_of_member p) o → IsFieldFound p o answer
+found_field p None answer h e = cc
+found_field p (Some m) answer h e = record { member = m; there = refl; field = h; answered = same_answer answer (field_of_member p m) e }
 
-pub field_there : (p : Linked) (class index : ℕ) (at : Site) → at.pool ≡ pool_of_class p class → index ≡ pool_index at → None ≡ field_referred p class index → is_some (site_member at) ≡ true → ⊥
-field_there p class index at pool same none some = nothing_there (field_of_member p) (site_member at) (none ∙ referred_is p class index at pool same) some
+-- there is one where there is a field
+pub field_there : (f : Member → Result ℕ LinkError) (o : Option Member) → option_map_or (λ (m : Member). is_field_descriptor m.descriptor) o false ≡ true → None ≡ option_map f o → ⊥
+field_there f None h e = cc
+field_there f (Some m) h e = cc
+
+pub some_field : (o : Option Member) → option_map_or (λ (m : Member). is_field_descriptor m.descriptor) o false ≡ true → IsSome o
+some_field None h = cc
+some_field (Some m) h = refl
+
+pub not_there : (o : Option Member) → None ≡ o → IsSome o → ⊥
+not_there None e h = cc
+not_there (Some m) e h = cc
+
+pub no_field : (e : Moment) (o : Option Member) (go : Member → Outcome Kept) → option_map_or (λ (m : Member). is_field_descriptor m.descriptor) o false ≡ false → with_field e o go ≡ ill_typed e
+no_field e None go h = refl
+no_field e (Some m) go h = ap (λ (b : Bool). ill_typed_unless e b (go m)) h
+
+pub site_described : (p : Linked) (class index : ℕ) (at : Site) → at.pool ≡ pool_of_class p class → pool_index at ≡ index → site_member at ≡ member_described (pool_of_class p class) index
+site_described p class index at pool same =
+    ap (λ (s : List (Option Item)). member_described s (pool_index at)) pool ∙ ap (λ (i : ℕ). member_described (pool_of_class p class) i) same
+
+-- .. as it is named
+module _ (p : Linked) (class index : ℕ) (x : NamedField) (f : IsFieldFound p (member_described (pool_of_class p class) index) x.answer) (same : x.descriptor.now ≡ f.member.descriptor) where
+  named_is : named_as p class index x ≡ f.member
+  named_is =
+      ap (λ (o : Option Member). record (unwrap_or o no_member) { descriptor = x.descriptor.now }) f.there
+      ∙ ap (λ (d : List ℕ). record f.member { descriptor = d }) same
+
+  pub field_goes : (e : Moment) (at : Site) (go : Member → Outcome Kept) → at.pool ≡ pool_of_class p class → pool_index at ≡ index → with_field e (site_member at) go ≡ go (named_as p class index x)
+  field_goes e at go pool is =
+      ap (λ (o : Option Member). with_field e o go) (site_described p class index at pool is ∙ f.there)
+      ∙ (ap (λ (b : Bool). ill_typed_unless e b (go f.member)) f.field ∙ ap go (sym named_is))
+
+  pub field_typed : is_field_descriptor x.descriptor.now ≡ true
+  field_typed = ap (λ (d : List ℕ). is_field_descriptor d) same ∙ f.field
+
+  pub named_by : IfOk x.answer (λ k. k < length p.fields) → IsNamedBy p (named_as p class index x) x
+  named_by within = record { descriptor = refl; answer = f.answered ∙ ap (field_of_member p) (sym named_is); within = within }
 
 -- WHAT THE TABLE OF EVENTS SAYS of what was resolved
 

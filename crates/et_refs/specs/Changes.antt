@@ -3,18 +3,18 @@
 use Rattle.std.specs.Prelude.{◌≡◌, ℕ, ◌+◌, ◌<◌, ◌≤◌, List, ◌∷◌, ◌++◌, length, drop, Some, Contains}
 use Rattle.et_base.specs.declared.value.Value.{Value}
 use Rattle.et_base.specs.declared.value.Value.TheVariants.{Ref}
-use Rattle.et_heap.specs.Objects.{IsHeld, object_at}
+use Rattle.et_heap.specs.Objects.{Objects, IsHeld, object_at}
 use Rattle.et_heap.specs.Refs.{refs_of_value}
 use Rattle.et_state.specs.Threads.{FrameState}
 use Rattle.et_state.specs.ThreadRoots.{frame_roots}
 use Rattle.et_state.specs.State.{Kept, MachineState}
-use Rattle.et_state.specs.Moves.{AreInHeap}
 use Rattle.et_state.specs.Outcome.{Outcome}
 use Rattle.et_event.specs.Moments.{Moment, current_frame, begins, next_object, array_made, slot_written, goes, ends_event}
 use Rattle.et_event.specs.Checks.{Reference, entries_of}
 use Rattle.et_event.specs.Heap.{leaving_values}
 use Rattle.et_event.specs.Sites.{Site}
 use Rattle.et_event.specs.Tops.{IsIn}
+use Rattle.et_refs.specs.Reads.{AreHeld}
 use Rattle.et_refs.specs.declared.changes.Exchange.{Exchange}
 use Rattle.et_refs.specs.declared.changes.Store.{Store}
 use Rattle.et_refs.specs.declared.changes.NewArray.{NewArray}
@@ -42,11 +42,11 @@ change_outcome e at (change.Make x) = new_array_outcome e at x
 -- WHAT HOLDS OF SUCH A CHANGE
 
 -- the operands are there, the value that is put in their place fits, and what it refers to is held
-pub record MayExchange (m : MachineState) (f : FrameState) (x : Exchange) : Type 0 where
+pub record MayExchange (heap : Objects) (f : FrameState) (x : Exchange) : Type 0 where
   pub taken : x.taken ≤ length f.operands
-  pub few : x.taken ≤ 16
+  pub few : x.taken ≤ 8
   pub room : length (entries_of x.value) + length (drop x.taken f.operands) ≤ f.room
-  pub held : AreInHeap m (refs_of_value x.value)
+  pub held : AreHeld heap (refs_of_value x.value)
 
 -- the operands are there, the object stands in the frame and has the slot, and what the value refers to stands in the frame
 pub record MayStore (m : MachineState) (f : FrameState) (x : Store) : Type 0 where
@@ -62,7 +62,7 @@ pub record MayMake (f : FrameState) : Type 0 where
   pub room : length f.operands ≤ f.room
 
 abbrev pub MayChange : MachineState → FrameState → Change → Type 0
-MayChange m f (change.Put x) = MayExchange m f x
+MayChange m f (change.Put x) = MayExchange m.heap f x
 MayChange m f (change.Write x) = MayStore m f x
 MayChange m f (change.Make x) = MayMake f
 

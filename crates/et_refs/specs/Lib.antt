@@ -1,5 +1,7 @@
 pub mod Refusals
 pub mod Changes
+pub mod Steps
+pub mod Reads
 pub mod Slots
 pub mod NamedFields
 pub mod NamedClasses

@@ -3,8 +3,7 @@ use Rattle.std.specs.Prelude.{◌≡◌, ℕ, ◌<◌, true, false, List, length
 use Rattle.et_class.specs.Names.{has}
 use Rattle.et_class.specs.declared.flags.TheConstants.{STATIC}
 use Rattle.et_program.specs.Entries.{Linked, field_at}
-use Rattle.et_heap.specs.Objects.{IsHeld, object_at, slot_of}
-use Rattle.et_state.specs.State.{MachineState}
+use Rattle.et_heap.specs.Objects.{Objects, IsHeld, object_at, slot_of}
 use Rattle.et_event.specs.PoolOperands.Operand.{Operand}
 use Rattle.et_event.specs.PoolOperands.Operand.TheVariants as operand
 use Rattle.et_event.specs.Sound.{is_of_kind}
@@ -17,10 +16,10 @@ pub record IsInstanceField (p : Linked) (type : List ℕ) (f : ℕ) : Type 0 whe
   pub descriptor : (field_at p f).descriptor ≡ type
 
 -- the object is held and has this slot, which holds nothing yet or a value of the kind
-pub record IsSlotAt (m : MachineState) (kind : Option Operand) (x : SlotAt) : Type 0 where
-  pub held : IsHeld m.heap x.object
-  pub slot : x.slot < length (object_at m.heap x.object).slots
-  pub value : is_of_kind kind (slot_of (object_at m.heap x.object) x.slot) ≡ true
+pub record IsSlotAt (heap : Objects) (kind : Option Operand) (x : SlotAt) : Type 0 where
+  pub held : IsHeld heap x.object
+  pub slot : x.slot < length (object_at heap x.object).slots
+  pub value : is_of_kind kind (slot_of (object_at heap x.object) x.slot) ≡ true
 
 -- how many entries a value of a kind takes
 abbrev pub entries : Option Operand → ℕ

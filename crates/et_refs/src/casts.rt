@@ -206,7 +206,8 @@ pub(crate) fn check_cast<L: Ledger>(
     ensures is { check_casting (moment program.now machine.now thread) (site_at place.now)
         ≡ outcome_of (moment program.now machine.now thread) result
         (exchange_outcome (moment program.now machine.now thread) (site_at place.now)) }
-    ensures may { IfOk result (λ x. MayExchange machine.now (top machine.now.guest thread) x) }
+    ensures may { IfOk result
+        (λ x. MayExchange machine.now.heap (top machine.now.guest thread) x) }
     ensures visits { visits.new ≤ visits.old + 1 }
 {
     operands_fit(machine, thread);
@@ -235,7 +236,8 @@ pub(crate) fn instance_of<L: Ledger>(
     ensures is { instance_testing (moment program.now machine.now thread) (site_at place.now)
         ≡ outcome_of (moment program.now machine.now thread) result
         (exchange_outcome (moment program.now machine.now thread) (site_at place.now)) }
-    ensures may { IfOk result (λ x. MayExchange machine.now (top machine.now.guest thread) x) }
+    ensures may { IfOk result
+        (λ x. MayExchange machine.now.heap (top machine.now.guest thread) x) }
     ensures visits { visits.new ≤ visits.old + 1 }
 {
     operands_fit(machine, thread);

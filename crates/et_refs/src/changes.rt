@@ -97,7 +97,7 @@ fn put_value(machine: &mut Machine, thread: ThreadId, next: u32, x: Exchange)
     requires frame { HasFrame machine.old.guest thread }
     requires sound { IsSound (kept_of machine.old) }
     requires clock { machine.old.guest.clock < 2 ^ 40 }
-    requires may { MayExchange machine.old (top machine.old.guest thread) x }
+    requires may { MayExchange machine.old.heap (top machine.old.guest thread) x }
     ensures { Led (kept_of machine.old)
         (record {
           heap = machine.old.heap;
@@ -205,7 +205,7 @@ fn write_slot<L: Ledger>(
         object: x.object,
         slot: x.slot,
     };
-    let old = slot_value(machine, &at, visits);
+    let old = slot_value(&machine.heap, &at, visits);
     let event = machine.clock() + 1;
     tell_update(out, event, thread, x.object, x.slot, old, x.value)?;
     set_slot(machine, thread, place.next, x, visits);

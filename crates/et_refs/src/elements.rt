@@ -1,11 +1,10 @@
 //! Elements of arrays (JVMS 6.5, arraylength, iaload, iastore and their kin).
 ghost use Rattle.std.specs.Prelude.{◌≡◌, ℕ, ◌+◌, ◌<◌, ◌≤◌, ◌^◌, true, length, pos, Some, IfOk};
 ghost use Rattle.et_base.specs.declared.value.Value.TheVariants.{Int, Ref};
-ghost use Rattle.et_state.specs.State.{Kept, kept_of};
+ghost use Rattle.et_state.specs.State.{GuestState, Kept, kept_of};
 ghost use Rattle.et_heap.specs.Refs.{refs_of_value};
-ghost use Rattle.et_program.specs.Entries.{class_at};
+ghost use Rattle.et_program.specs.Entries.{Linked, class_at};
 ghost use Rattle.et_state.specs.Words.{HasFrame, top};
-ghost use Rattle.et_state.specs.Sound.{IsSound};
 ghost use Rattle.et_state.specs.Moves.{AreInHeap};
 ghost use Rattle.et_event.specs.Checks.{entries_of};
 ghost use Rattle.et_state.specs.Outcome.{Outcome};
@@ -14,9 +13,9 @@ ghost use Rattle.et_event.specs.Heap.{with_element, load_element, store_element,
 ghost use Rattle.et_event.specs.Kinds.{kind_of_elements as elements_kind, or_zero as zero_or, is_array_element as is_such};
 ghost use Rattle.et_event.specs.Sites.{Site, natural_of};
 ghost use Rattle.et_event.specs.Sound.{IsSoundFor};
-ghost use Rattle.et_event.specs.Places.{site_at};
-ghost use Rattle.et_refs.specs.Changes.{IsNamedReference, MayExchange, MayStore, exchange_outcome, store_outcome};
+ghost use Rattle.et_refs.specs.Changes.{MayExchange, MayStore, exchange_outcome, store_outcome};
 ghost use Rattle.et_event.specs.Moments.{moment};
+ghost use Rattle.et_refs.specs.Reads.{AreHeld, IsReadable, IsSoundHeap, moment_over};
 ghost use Rattle.et_refs.specs.Refusals.{outcome_of};
 ghost use Rattle.et_refs.specs.Slots.{IsSlotAt};
 ghost use Rattle.et_event.specs.Programs.{IsElementWithin, AreElementsWithin};
@@ -24,76 +23,81 @@ ghost use Rattle.et_event.specs.Programs.{IsElementWithin, AreElementsWithin};
 use crate::casts::passes;
 use crate::changes::{Exchange, Store};
 use crate::checks::{ill_typed_unless, not_null, throws_unless};
+use crate::frame_operands::{running_int, running_operands_fit, running_reference};
 use crate::kinds::{are_elements, in_bounds, is_array, kept_element, kind_of_elements, natural};
-use crate::operands::{operands_fit, take_element, take_int, take_reference};
+use crate::operands::{take_element, take_int, take_reference};
 use crate::refusals::Refusal;
 use crate::slots::{SlotAt, read_slot};
 use et_base::{ObjectId, Steps, ThreadId, Value};
-use et_event::{Elements, GuestError, Place};
+use et_event::{Elements, GuestError};
+use et_heap::Heap;
 use et_program::{Element, Program};
-use et_state::Machine;
+use et_state::{Machine, Running};
 use std::sync::ledger::Ledger;
 
 /// What an object has as its elements.
+#[inline(always)]
 fn element_of<L: Ledger>(
     program: &Program,
-    machine: &Machine,
-    thread: ThreadId,
+    heap: &Heap,
     object: ObjectId,
     visits: &mut Steps<L>,
 ) -> Element
-    requires sound { IsSoundFor program.now (kept_of machine.now) }
-    requires held { IsHeld machine.now.heap object }
-    ensures value { result ≡ elements_of (moment program.now machine.now thread) object }
+    requires sound { IsSoundHeap program.now heap.now }
+    requires held { IsHeld heap.now object }
+    ensures value { result
+        ≡ (class_at program.now (object_at heap.now object).class).info.element }
     ensures visits { visits.new ≡ visits.old + 1 }
 {
-    let class = machine.heap.class_of(object, visits);
+    let class = heap.class_of(object, visits);
     program.class(class).element
 }
 
 /// The length of an array, which has a slot for each element.
+#[inline(always)]
 fn length_of<L: Ledger>(
     program: &Program,
-    machine: &Machine,
+    heap: &Heap,
     object: ObjectId,
     visits: &mut Steps<L>,
 ) -> u32
-    requires sound { IsSoundFor program.now (kept_of machine.now) }
-    requires held { IsHeld machine.now.heap object }
+    requires sound { IsSoundHeap program.now heap.now }
+    requires held { IsHeld heap.now object }
     requires array { is_such
-        (class_at program.now (object_at machine.now.heap object).class).info.element ≡ true }
-    ensures value { result ≡ (object_at machine.now.heap object).length }
-    ensures slots { result ≡ length (object_at machine.now.heap object).slots }
+        (class_at program.now (object_at heap.now object).class).info.element ≡ true }
+    ensures value { result ≡ (object_at heap.now object).length }
+    ensures slots { result ≡ length (object_at heap.now object).slots }
     ensures few { result < 2 ^ 31 }
     ensures visits { visits.new ≡ visits.old + 1 }
 {
-    let _slots = machine.heap.slots();
-    machine.heap.length_of(object, visits)
+    let _slots = heap.slots();
+    heap.length_of(object, visits)
 }
 
 /// The element of an index of the array that a reference names, where the array has such elements.
+#[inline(always)]
 fn element_slot<L: Ledger>(
     program: &Program,
-    machine: &Machine,
-    thread: ThreadId,
+    heap: &Heap,
     elements: Elements,
     reference: Option<ObjectId>,
     index: i32,
     visits: &mut Steps<L>,
 ) -> Result<SlotAt, Refusal>
-    requires sound { IsSoundFor program.now (kept_of machine.now) }
-    requires named { IsNamedReference machine.now (top machine.now.guest thread) reference }
-    ensures is { (go : ℕ → ℕ → Outcome Kept) → with_element (moment program.now machine.now thread)
+    requires sound { IsSoundHeap program.now heap.now }
+    requires held { (o : ℕ) → reference ≡ Some o → IsHeld heap.now o }
+    ensures is { (g : GuestState) (t : ℕ) (go : ℕ → ℕ → Outcome Kept) →
+        with_element (moment_over program.now heap.now g t)
         elements reference index (λ o. go o (natural_of index))
-        ≡ outcome_of (moment program.now machine.now thread) result (λ x. go x.object x.slot) }
+        ≡ outcome_of (moment_over program.now heap.now g t) result (λ x. go x.object x.slot) }
     ensures object { IfOk result (λ x. reference ≡ Some x.object) }
-    ensures at { IfOk result (λ x. IsSlotAt machine.now (Some (elements_kind elements)) x) }
+    ensures at { IfOk result (λ x. IsSlotAt heap.now (Some (elements_kind elements)) x) }
     ensures visits { visits.new ≤ visits.old + 2 }
 {
     let object = not_null(reference)?;
-    let element = element_of(program, machine, thread, object, visits);
+    let element = element_of(program, heap, object, visits);
     ill_typed_unless(are_elements(elements, element))?;
-    let length = length_of(program, machine, object, visits);
+    let length = length_of(program, heap, object, visits);
     throws_unless(
         GuestError::ArrayIndexOutOfBoundsException,
         in_bounds(index, length),
@@ -105,89 +109,93 @@ fn element_slot<L: Ledger>(
 }
 
 /// What an element gives.
+#[inline(always)]
 fn element_value<L: Ledger>(
-    machine: &Machine,
+    heap: &Heap,
     elements: Elements,
     at: &SlotAt,
     visits: &mut Steps<L>,
 ) -> Value
-    requires sound { IsSound (kept_of machine.now) }
-    requires at { IsSlotAt machine.now (Some (elements_kind elements)) at.now }
+    requires at { IsSlotAt heap.now (Some (elements_kind elements)) at.now }
     ensures value { result ≡ zero_or (Some (elements_kind elements))
-        (slot_of (object_at machine.now.heap at.now.object) at.now.slot) }
+        (slot_of (object_at heap.now at.now.object) at.now.slot) }
     ensures few { length (entries_of result) ≤ 2 }
-    ensures held { AreInHeap machine.now (refs_of_value result) }
+    ensures held { (p : Linked) → IsSoundHeap p heap.now →
+        AreHeld heap.now (refs_of_value result) }
     ensures visits { visits.new ≡ visits.old + 1 }
 {
     let kind = Some(kind_of_elements(elements));
-    read_slot(machine, kind, at, visits)
+    read_slot(heap, kind, at, visits)
 }
 
 /// What `iaload` or one of its kin puts in the place of the array and the index.
+#[inline(always)]
 pub(crate) fn read_element<L: Ledger>(
     program: &Program,
-    machine: &Machine,
-    thread: ThreadId,
+    heap: &Heap,
+    running: &Running,
     elements: Elements,
     visits: &mut Steps<L>,
 ) -> Result<Exchange, Refusal>
-    requires frame { HasFrame machine.now.guest thread }
-    requires sound { IsSoundFor program.now (kept_of machine.now) }
-    ensures is { (at : Site) → load_element (moment program.now machine.now thread) at elements
-        ≡ outcome_of (moment program.now machine.now thread) result
-        (exchange_outcome (moment program.now machine.now thread) at) }
-    ensures may { IfOk result (λ x. MayExchange machine.now (top machine.now.guest thread) x) }
+    requires sound { IsReadable program.now heap.now running.now.frame }
+    ensures is { (g : GuestState) (t : ℕ) (at : Site) → top g t ≡ running.now.frame →
+        load_element (moment_over program.now heap.now g t) at elements
+        ≡ outcome_of (moment_over program.now heap.now g t) result
+        (exchange_outcome (moment_over program.now heap.now g t) at) }
+    ensures may { IfOk result (λ x. MayExchange heap.now running.now.frame x) }
     ensures visits { visits.new ≤ visits.old + 3 }
 {
-    operands_fit(machine, thread);
-    let index = take_int(machine, thread, 0)?;
-    let reference = take_reference(machine, thread, 1)?;
-    let at = element_slot(program, machine, thread, elements, reference, index, visits)?;
-    let value = element_value(machine, elements, &at, visits);
+    running_operands_fit(running);
+    let index = running_int(running, 0)?;
+    let reference = running_reference(running, 1)?;
+    let at = element_slot(program, heap, elements, reference, index, visits)?;
+    let value = element_value(heap, elements, &at, visits);
     Ok(Exchange { taken: 2, value })
 }
 
 /// The length of an array as a value.
+#[inline(always)]
 fn length_value<L: Ledger>(
     program: &Program,
-    machine: &Machine,
+    heap: &Heap,
     object: ObjectId,
     visits: &mut Steps<L>,
 ) -> Value
-    requires sound { IsSoundFor program.now (kept_of machine.now) }
-    requires held { IsHeld machine.now.heap object }
+    requires sound { IsSoundHeap program.now heap.now }
+    requires held { IsHeld heap.now object }
     requires array { is_such
-        (class_at program.now (object_at machine.now.heap object).class).info.element ≡ true }
-    ensures value { result ≡ Int (pos (object_at machine.now.heap object).length) }
+        (class_at program.now (object_at heap.now object).class).info.element ≡ true }
+    ensures value { result ≡ Int (pos (object_at heap.now object).length) }
     ensures few { length (entries_of result) ≤ 1 }
-    ensures held { AreInHeap machine.now (refs_of_value result) }
+    ensures held { AreHeld heap.now (refs_of_value result) }
     ensures visits { visits.new ≡ visits.old + 1 }
 {
-    let length = length_of(program, machine, object, visits);
+    let length = length_of(program, heap, object, visits);
     Value::Int(length as i32)
 }
 
 /// What `arraylength` puts in the place of the array.
+#[inline(always)]
 pub(crate) fn read_length<L: Ledger>(
     program: &Program,
-    machine: &Machine,
-    thread: ThreadId,
+    heap: &Heap,
+    running: &Running,
     visits: &mut Steps<L>,
 ) -> Result<Exchange, Refusal>
-    requires frame { HasFrame machine.now.guest thread }
-    requires sound { IsSoundFor program.now (kept_of machine.now) }
-    ensures is { (at : Site) → array_length (moment program.now machine.now thread) at
-        ≡ outcome_of (moment program.now machine.now thread) result
-        (exchange_outcome (moment program.now machine.now thread) at) }
-    ensures may { IfOk result (λ x. MayExchange machine.now (top machine.now.guest thread) x) }
+    requires sound { IsReadable program.now heap.now running.now.frame }
+    ensures is { (g : GuestState) (t : ℕ) (at : Site) → top g t ≡ running.now.frame →
+        array_length (moment_over program.now heap.now g t) at
+        ≡ outcome_of (moment_over program.now heap.now g t) result
+        (exchange_outcome (moment_over program.now heap.now g t) at) }
+    ensures may { IfOk result (λ x. MayExchange heap.now running.now.frame x) }
     ensures visits { visits.new ≤ visits.old + 2 }
 {
-    operands_fit(machine, thread);
-    let reference = take_reference(machine, thread, 0)?;
+    running_operands_fit(running);
+    let reference = running_reference(running, 0)?;
     let object = not_null(reference)?;
-    let element = element_of(program, machine, thread, object, visits);
+    let element = element_of(program, heap, object, visits);
     ill_typed_unless(is_array(element))?;
-    let value = length_value(program, machine, object, visits);
+    let value = length_value(program, heap, object, visits);
     Ok(Exchange { taken: 1, value })
 }
 
@@ -231,7 +239,7 @@ fn passes_element<L: Ledger>(
         (elements_of (moment program.now machine.now thread) array) }
     ensures visits { visits.new ≤ visits.old + 2 }
 {
-    let element = element_of(program, machine, thread, array, visits);
+    let element = element_of(program, &machine.heap, array, visits);
     match value {
         Value::Ref(object) => passes_for(program, machine, thread, object, element, visits),
         Value::Unset | Value::Int(_) | Value::Long(_) | Value::LongHigh | Value::Null => true,
@@ -258,7 +266,7 @@ pub(crate) fn write_element<L: Ledger>(
     let taken = take_element(machine, thread, elements)?;
     let index = take_int(machine, thread, taken.width)?;
     let reference = take_reference(machine, thread, taken.width + 1)?;
-    let at = element_slot(program, machine, thread, elements, reference, index, visits)?;
+    let at = element_slot(program, &machine.heap, elements, reference, index, visits)?;
     let may_be = passes_element(program, machine, thread, taken.value, at.object, visits);
     throws_unless(GuestError::ArrayStoreException, may_be)?;
     Ok(Store {

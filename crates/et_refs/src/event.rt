@@ -1,13 +1,13 @@
 //! The event call of the instructions on fields, arrays and classes.
-ghost use Rattle.std.specs.Prelude.{◌≡◌, ◌↔◌, ℕ, ◌+◌, ◌-◌, ◌≤◌, Some, unwrap_or, IfOk, IsSome, length};
+ghost use Rattle.std.specs.Prelude.{◌≡◌, ◌↔◌, ℕ, ◌+◌, ◌-◌, ◌≤◌, Some, true, unwrap_or, IfOk, IsSome, length};
 ghost use Rattle.et_event.specs.declared.families.Family.TheVariants as families;
 ghost use Rattle.et_event.specs.declared.rows.HeapRow.TheVariants as heap_rows;
 ghost use Rattle.et_event.specs.declared.rows.Row.TheVariants as row_kinds;
-ghost use Rattle.et_event.specs.Answered.{DefersOrAnswers};
+ghost use Rattle.et_event.specs.Answered.{DefersOrAnswers, EventAnswers};
 ghost use Rattle.et_event.specs.Beginning.{BeginsEvent};
 ghost use Rattle.et_event.specs.Event.{does, event};
 ghost use Rattle.et_event.specs.Families.{family_of, family_of_row};
-ghost use Rattle.et_event.specs.Heap.{get_static};
+ghost use Rattle.et_event.specs.Heap.{get_static, heap_event};
 ghost use Rattle.et_event.specs.Moments.{moment};
 ghost use Rattle.et_event.specs.Out.{out_method, out_turn};
 ghost use Rattle.et_state.specs.declared.ends.EventEnd.TheVariants as ends;
@@ -17,15 +17,18 @@ ghost use Rattle.et_state.specs.State.{kept_of};
 ghost use Rattle.et_state.specs.Threads.{turn_of};
 ghost use Rattle.et_state.specs.Words.{HasFrame, thread_at, top};
 ghost use Rattle.et_event.specs.Places.{IsPlace, site_at};
+ghost use Rattle.et_refs.specs.Reads.{is_read_row};
 
 use crate::changes::carry_out;
 use crate::class_events::access_event;
 use crate::events::multi_array_event;
+use crate::reads::{exchange, is_read, read_row};
 use crate::refusals::refuse;
 use crate::rows::{Plan, is_static_read, plan_of};
 use crate::static_fields::{is_out_class, read_field};
 use et_base::{MethodId, NoMemory, Steps, ThreadId};
-use et_event::{HeapRow, Place, Row, ill_typed, place_of};
+use et_event::{HeapRow, Place, Row, ill_typed, index_of, place_of};
+use et_ops::lose_each;
 use et_program::Program;
 use et_state::{EventEnd, Lines, Machine};
 use std::alloc::Global;
@@ -88,6 +91,53 @@ fn static_read_event(
     access_event(alloc, program, machine, thread, place, &read.wanted(), out)
 }
 
+/// The event of an instruction that reads the heap and changes nothing but its frame, at the place where the thread stands: it is
+/// done over the frames of the thread while they are lifted out of the machine. It visits objects three times at most. After
+/// `NoMemory` the machine may have one object more, to which nothing refers, and there may be its record; all else is as before.
+fn read_event<L: Ledger>(
+    program: &Program,
+    machine: &mut Machine,
+    thread: ThreadId,
+    place: &Place<'_>,
+    row: HeapRow,
+    out: &mut Lines,
+    visits: &mut Steps<L>,
+) -> Result<EventEnd, NoMemory>
+    requires begins { BeginsEvent program.now machine.old thread }
+    requires frame { HasFrame machine.old.guest thread }
+    requires place { IsPlace program.now (top machine.old.guest thread) place.now }
+    requires row { place.now.row ≡ row_kinds.Heap row }
+    requires read { is_read_row row ≡ true }
+    ensures event { IfOk result (λ end. EventAnswers
+        (heap_event (moment program.now machine.old thread) (site_at place.now) row)
+        end machine.old machine.new out.old out.new) }
+    ensures visits { visits.new ≤ visits.old + 3 }
+{
+    let mut running = machine.lift(thread);
+    let index = index_of(place);
+    match read_row(
+        program,
+        &machine.heap,
+        &running,
+        place.class,
+        index,
+        row,
+        visits,
+    ) {
+        Ok(x) => {
+            exchange(&mut running, x, place.next);
+            machine.begin_event();
+            lose_each(machine, running.lost());
+            machine.land(thread, running);
+            Ok(EventEnd::Done)
+        }
+        Err(refusal) => {
+            machine.land(thread, running);
+            refuse(program, machine, thread, refusal, out)
+        }
+    }
+}
+
 /// The event of the instruction on fields, arrays and classes at a place; `Native` where a `getstatic` reads System.out, with
 /// nothing changed. It visits six objects at most, and one for each that the event makes. After `NoMemory` the event may be
 /// half done.
@@ -120,6 +170,9 @@ fn heap_row_event<L: Ledger>(
     let row = heap_row(place);
     if is_static_read(row) {
         return static_read_event(alloc, program, machine, thread, place, out);
+    }
+    if is_read(row) {
+        return read_event(program, machine, thread, place, row, out, visits);
     }
     match plan_of(program, machine, thread, place, row, visits) {
         Ok(Plan::Change(change)) => {

@@ -1,6 +1,6 @@
 //! The operands that a row takes.
-ghost use Rattle.std.specs.Prelude.{◌≡◌, ℕ, ℤ, ◌+◌, ◌<◌, ◌≤◌, ◌^◌, List, length, drop, nat_le, true, Some, IfOk, OnOk};
-ghost use Rattle.et_pool.specs.Descriptors.{is_field_descriptor, width_of as descriptor_width};
+ghost use Rattle.std.specs.Prelude.{◌≡◌, ℕ, ℤ, ◌+◌, ◌<◌, ◌≤◌, ◌^◌, List, length, drop, true, Some, IfOk};
+ghost use Rattle.et_pool.specs.Descriptors.{is_field_descriptor};
 ghost use Rattle.et_event.specs.Kinds.{kind_of_field, kind_of_elements as elements_kind};
 ghost use Rattle.et_base.specs.declared.value.Value.{Value as Entry};
 ghost use Rattle.et_state.specs.State.{Kept, kept_of};
@@ -8,13 +8,12 @@ ghost use Rattle.et_state.specs.Sound.{IsSound};
 ghost use Rattle.et_state.specs.Words.{HasFrame, top};
 ghost use Rattle.et_state.specs.Outcome.{Outcome};
 ghost use Rattle.et_event.specs.Moments.{Moment, ill_typed};
-ghost use Rattle.et_event.specs.Checks.{Reference, with_int, with_long, with_reference, with_value, ill_typed_unless as ill_unless};
+ghost use Rattle.et_event.specs.Checks.{Reference, with_int, with_long, with_reference, with_value};
 ghost use Rattle.et_event.specs.Tops.{IsIn};
 ghost use Rattle.et_refs.specs.Refusals.{outcome_of};
 ghost use Rattle.et_refs.specs.Changes.{IsNamedReference};
 
-use crate::checks::ill_typed_unless;
-use crate::kinds::{kind_of_elements, width_of};
+use crate::kinds::kind_of_elements;
 use crate::refusals::Refusal;
 use et_base::{ObjectId, ThreadId, Value};
 use et_event::{Elements, Operand, int_at, long_at, reference_at};
@@ -129,36 +128,6 @@ pub fn operands_fit(machine: &Machine, thread: ThreadId)
     ensures { length (top machine.now.guest thread).operands ≤ (top machine.now.guest thread).room }
 {
     let _depth = machine.depth(thread);
-}
-
-/// Whether so many entries fit in the place of the topmost operand.
-fn fits(machine: &Machine, thread: ThreadId, width: u32) -> bool
-    requires frame { HasFrame machine.now.guest thread }
-    requires operands { 0 < length (top machine.now.guest thread).operands }
-    requires small { width ≤ 2 }
-    ensures { result ≡ nat_le (width + length (drop 1 (top machine.now.guest thread).operands))
-        (top machine.now.guest thread).room }
-{
-    let room = machine.room(thread) as u32;
-    let left = machine.depth(thread) - 1;
-    width + left <= room
-}
-
-/// The event has no meaning unless a value of a type fits in the place of the topmost operand.
-pub(crate) fn type_fits(
-    machine: &Machine,
-    thread: ThreadId,
-    descriptor: &[u8],
-) -> Result<(), Refusal>
-    requires frame { HasFrame machine.now.guest thread }
-    requires operands { 0 < length (top machine.now.guest thread).operands }
-    ensures is { (e : Moment) (go : Outcome Kept) → ill_unless e (nat_le
-        (descriptor_width descriptor.now + length (drop 1 (top machine.now.guest thread).operands))
-        (top machine.now.guest thread).room) go ≡ outcome_of e result (λ u. go) }
-    ensures fits { OnOk result (descriptor_width descriptor.now + length
-        (drop 1 (top machine.now.guest thread).operands) ≤ (top machine.now.guest thread).room) }
-{
-    ill_typed_unless(fits(machine, thread, width_of(descriptor)))
 }
 
 /// The value of a type on top.

@@ -11,6 +11,7 @@ ghost use Rattle.et_program.specs.Entries.{Linked};
 ghost use Rattle.et_program.specs.Referring.{pool_of_class};
 ghost use Rattle.et_refs.specs.Accesses.{MayWant, wanted_outcome};
 ghost use Rattle.et_refs.specs.Changes.{MayExchange, MayStore, MayMake, exchange_outcome, store_outcome, new_array_outcome};
+ghost use Rattle.et_refs.specs.Reads.{is_read_row};
 ghost use Rattle.et_refs.specs.Refusals.{outcome_of};
 ghost use Rattle.et_refs.specs.Rows.{MayDo, is_get_static, plan_outcome};
 ghost use Rattle.et_state.specs.State.{MachineState, kept_of};
@@ -21,8 +22,8 @@ use crate::accesses::Wanted;
 use crate::arrays::{new_array, new_reference_array};
 use crate::casts::{check_cast, instance_of};
 use crate::changes::{Change, Exchange, NewArray, Store};
-use crate::elements::{read_element, read_length, write_element};
-use crate::fields::{read_field, write_field};
+use crate::elements::write_element;
+use crate::fields::write_field;
 use crate::instances::new_object;
 use crate::refusals::Refusal;
 use crate::static_fields::write_field as write_static_field;
@@ -48,7 +49,7 @@ fn put(answer: Result<Exchange, Refusal>) -> Result<Plan, Refusal>
     ensures is { (e : Moment) (at : Site) →
         outcome_of e answer (exchange_outcome e at) ≡ outcome_of e result (plan_outcome e at) }
     ensures may { (p : Linked) (m : MachineState) (f : FrameState) (r : OfHeap) →
-        IfOk answer (λ x. MayExchange m f x) → IfOk result (λ x. MayDo p m f r x) }
+        IfOk answer (λ x. MayExchange m.heap f x) → IfOk result (λ x. MayDo p m f r x) }
 {
     match answer {
         Ok(x) => Ok(Plan::Change(Change::Put(x))),
@@ -116,8 +117,8 @@ pub(crate) fn is_static_read(row: HeapRow) -> bool
     }
 }
 
-/// What the instruction of a row at the place where the thread stands comes to, or what refuses (JVMS 6.5). A `getstatic` comes
-/// to no plan. It visits objects four times at most.
+/// What the instruction of a row at the place where the thread stands comes to, or what refuses (JVMS 6.5). A `getstatic`, and
+/// what reads the heap and changes nothing but its frame, comes to no plan. It visits objects four times at most.
 pub fn plan_of<L: Ledger>(
     program: &Program,
     machine: &Machine,
@@ -134,6 +135,7 @@ pub fn plan_of<L: Ledger>(
     requires elements { AreElementsWithin program.now }
     requires slots { HasSlots program.now }
     requires other { is_get_static row ≡ false }
+    requires no_read { is_read_row row ≡ false }
     ensures is { heap_event (moment program.now machine.now thread) (site_at place.now) row
         ≡ outcome_of (moment program.now machine.now thread) result
         (plan_outcome (moment program.now machine.now thread) (site_at place.now)) }
@@ -142,15 +144,11 @@ pub fn plan_of<L: Ledger>(
     ensures visits { visits.new ≤ visits.old + 4 }
 {
     match row {
-        HeapRow::GetStatic => unreachable!(),
+        HeapRow::GetStatic | HeapRow::GetField | HeapRow::LoadElement(_) | HeapRow::ArrayLength =>
+            unreachable!(),
         HeapRow::PutStatic => access(write_static_field(program, machine, thread, place)),
         HeapRow::New => access(new_object(program, machine, thread, place)),
-        HeapRow::GetField => put(read_field(program, machine, thread, place, visits)),
         HeapRow::PutField => write(write_field(program, machine, thread, place, visits)),
-        HeapRow::LoadElement(elements) => put(read_element(
-            program, machine, thread, elements, visits,
-        )),
-        HeapRow::ArrayLength => put(read_length(program, machine, thread, visits)),
         HeapRow::StoreElement(elements) => write(write_element(
             program, machine, thread, elements, visits,
         )),

@@ -7,12 +7,11 @@ ghost use Rattle.et_event.specs.declared.errors.GuestError.TheVariants.{Incompat
 ghost use Rattle.et_event.specs.Checks.{ill_typed_unless as ill_unless, throws_unless as throwing_unless};
 ghost use Rattle.et_event.specs.Heap.{resolved_field, is_out as is_field_out, is_static_at, put_static, with_static_field};
 ghost use Rattle.et_event.specs.Moments.{Moment, moment, begins};
-ghost use Rattle.et_event.specs.Sites.{natural_of};
+ghost use Rattle.et_event.specs.Sites.{Member, natural_of};
 ghost use Rattle.et_event.specs.Sound.{IsSoundFor};
-ghost use Rattle.et_program.specs.Resolved.{shown_names};
 ghost use Rattle.et_event.specs.Places.{site_at};
 ghost use Rattle.et_program.specs.Referring.{pool_of_class};
-ghost use Rattle.et_refs.specs.NamedFields.{IsAnswered};
+ghost use Rattle.et_refs.specs.NamedFields.{IsAnswered, IsNamedBy};
 ghost use Rattle.et_refs.specs.Refusals.{outcome_of};
 ghost use Rattle.et_event.specs.Programs.{HasSlots};
 ghost use Rattle.et_refs.specs.Accesses.{IsStaticField, MayWant, wanted_outcome};
@@ -27,7 +26,7 @@ use crate::operands::take_typed;
 use crate::refusals::Refusal;
 use et_base::{ClassId, FieldId, ThreadId};
 use et_class::flags::{STATIC, has};
-use et_event::{GuestError, Place, class_called};
+use et_event::{GuestError, Place, class_called, index_of};
 use et_pool::kind_of;
 use et_program::{BuiltInClass, Program};
 use et_state::{ClassState, Machine};
@@ -59,14 +58,15 @@ pub(crate) fn width_fits(machine: &Machine, thread: ThreadId, width: u32) -> Res
 /// The static field that an instruction names.
 fn static_field(program: &Program, named: &NamedField<'_>) -> Result<FieldId, Refusal>
     requires { IsAnswered program.now named.now }
-    ensures is { (s : Kept) (t : ℕ) (go : ℕ → Outcome Kept) →
+    ensures is { (m : Member) (s : Kept) (t : ℕ) (go : ℕ → Outcome Kept) →
+        IsNamedBy program.now m named.now →
         resolved_field (record { program = program.now; before = s; thread = t }) (begins
-        (record { program = program.now; before = s; thread = t })) (shown_names named.now.member)
+        (record { program = program.now; before = s; thread = t })) m
         (λ f. throwing_unless (record { program = program.now; before = s; thread = t }) (begins
         (record { program = program.now; before = s; thread = t })) IncompatibleClassChangeError
         (is_static_at program.now f) (go f))
         ≡ outcome_of (record { program = program.now; before = s; thread = t }) result go }
-    ensures field { IfOk result (λ f. IsStaticField program.now named.now.member.descriptor.now f) }
+    ensures field { IfOk result (λ f. IsStaticField program.now named.now.descriptor.now f) }
 {
     let field = match named.answer {
         Ok(field) => field,
@@ -88,9 +88,10 @@ fn is_out(program: &Program, field: FieldId) -> bool
 /// The static field that `putstatic` names. No instruction writes System.out.
 fn written_field(program: &Program, named: &NamedField<'_>) -> Result<FieldId, Refusal>
     requires { IsAnswered program.now named.now }
-    ensures is { (s : Kept) (t : ℕ) (go : ℕ → Outcome Kept) →
+    ensures is { (m : Member) (s : Kept) (t : ℕ) (go : ℕ → Outcome Kept) →
+        IsNamedBy program.now m named.now →
         resolved_field (record { program = program.now; before = s; thread = t }) (begins
-        (record { program = program.now; before = s; thread = t })) (shown_names named.now.member)
+        (record { program = program.now; before = s; thread = t })) m
         (λ f. throwing_unless (record { program = program.now; before = s; thread = t }) (begins
         (record { program = program.now; before = s; thread = t })) IncompatibleClassChangeError
         (is_static_at program.now f)
@@ -98,7 +99,7 @@ fn written_field(program: &Program, named: &NamedField<'_>) -> Result<FieldId, R
         (record { program = program.now; before = s; thread = t })) NoSuchFieldError
         (not (is_field_out program.now f)) (go f)))
         ≡ outcome_of (record { program = program.now; before = s; thread = t }) result go }
-    ensures field { IfOk result (λ f. IsStaticField program.now named.now.member.descriptor.now f) }
+    ensures field { IfOk result (λ f. IsStaticField program.now named.now.descriptor.now f) }
 {
     let field = static_field(program, named)?;
     throws_unless(GuestError::NoSuchFieldError, !is_out(program, field))?;
@@ -146,18 +147,18 @@ pub(crate) fn read_field(
     ensures may { IfOk result
         (λ x. MayWant program.now (top machine.now.guest thread) (wanted_by x)) }
 {
-    let named = match field_named(program, place) {
+    let named = match field_named(program, place.class, index_of(place)) {
         Ok(named) => named,
         Err(refusal) => return Err(refusal),
     };
-    width_fits(machine, thread, width_of(named.member.descriptor))?;
+    width_fits(machine, thread, width_of(named.descriptor))?;
     let field = static_field(program, &named)?;
     let info = program.field(field);
     Ok(StaticRead {
         class: info.class,
         read: Read {
             slot: info.slot,
-            kind: kind_of(named.member.descriptor),
+            kind: kind_of(named.descriptor),
         },
     })
 }
@@ -189,11 +190,11 @@ pub(crate) fn write_field(
         (wanted_outcome (moment program.now machine.now thread) (site_at place.now)) }
     ensures may { IfOk result (λ x. MayWant program.now (top machine.now.guest thread) x) }
 {
-    let named = match field_named(program, place) {
+    let named = match field_named(program, place.class, index_of(place)) {
         Ok(named) => named,
         Err(refusal) => return Err(refusal),
     };
-    let taken = take_typed(machine, thread, named.member.descriptor)?;
+    let taken = take_typed(machine, thread, named.descriptor)?;
     let field = written_field(program, &named)?;
     let info = program.field(field);
     Ok(Wanted {
@@ -201,7 +202,7 @@ pub(crate) fn write_field(
         access: Access::Write(Write {
             slot: info.slot,
             taken: taken.width,
-            value: narrowed(named.member.descriptor, taken.value),
+            value: narrowed(named.descriptor, taken.value),
         }),
     })
 }

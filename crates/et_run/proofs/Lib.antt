@@ -3,6 +3,7 @@ mod Counting
 mod Flushing
 mod Forgotten
 mod FrameKept
+mod Lifting
 mod QuietFrames
 mod Starting
 mod Running

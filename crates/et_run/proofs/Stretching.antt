@@ -129,8 +129,8 @@ module _ (p : Linked) (place most e : ℕ) (s : Kept) (old : List ℕ) (thread t
 
     -- SO MANY MORE QUIET ONES
     pub going_quietly : (k : ℕ) (s' : Kept) (new' : List ℕ) → k ≤ most - 1 - quiet → ((at : ℕ) → slice_index (unended_threads mid) at ≡ thread → Quiets p at k mid.guest.clock mid s' new new')
-        → s'.guest.clock ≡ mid.guest.clock + k → IsSoundRun p s' → IsGoing (quiet + k) s' new' out bytes visits
-    going_quietly k s' new' few each clock sound =
+        → s'.guest.clock ≡ mid.guest.clock + k → IsSoundRun p s' → (visits' : ℕ) → visits' ≤ visits + 8 * k → IsGoing (quiet + k) s' new' out bytes visits'
+    going_quietly k s' new' few each clock sound visits' seen =
         let quiets : Quiets p place k (e + quiet) mid s' new new' = subst (λ (n : ℕ). Quiets p place k n mid s' new new') g.clock (each place g.same_thread) in
         let same : Leaves p place mid s' new new' = quiet_leaves p place k (e + quiet) mid s' new new' quiets in
         record {
@@ -145,7 +145,7 @@ module _ (p : Linked) (place most e : ℕ) (s : Kept) (old : List ℕ) (thread t
           same_objects = same.made ∙ g.same_objects;
           same_threads = same.count ∙ g.same_threads;
           same_thread = same.turn ∙ g.same_thread;
-          allowed = omega (arith, g.allowed);
+          allowed = omega (arith, seen, g.allowed);
         }
 
     -- ITS NEXT EVENT

@@ -1,11 +1,11 @@
 -- Which turns are of texts, and what the table of events says of the others.
-use Rattle.std.proofs.Common.{◌≡◌, ℕ, ◌+◌, ◌-◌, ◌≤◌, Bool, true, false, inl, inr, List, [], length, append-nil, Option, Some, None, Result, Ok, Err, refl, sym, ◌∙◌, ap, subst}
-use Rattle.std.specs.Prelude.{◌⊎◌, ◌++◌, if◌then◌else◌, is_some, option_and_then, option_map, unwrap_or, IsSome}
+use Rattle.std.proofs.Common.{◌≡◌, ℕ, Bool, true, false, inl, inr, List, [], length, append-nil, Option, Some, None, Result, Ok, Err, refl, sym, ◌∙◌, ap, subst}
+use Rattle.std.specs.Prelude.{◌⊎◌, if◌then◌else◌, is_some, option_and_then, option_map, unwrap_or, IsSome}
 use Rattle.std.specs.Option.{option_or, option_map_or}
 use Rattle.et_base.specs.declared.value.Value.{Value}
 use Rattle.et_code.specs.declared.instr.Instr.{Instr}
 use Rattle.et_code.specs.declared.instr.CodeFault.{CodeFault}
-use Rattle.et_program.specs.BuiltIns.{is_deferred, text_method_of}
+use Rattle.et_program.specs.BuiltIns.{text_method_of}
 use Rattle.et_program.specs.BootTexts.TextMethod.{TextMethod}
 use Rattle.et_program.specs.Entries.{Linked}
 use Rattle.et_program.specs.Members.{kept}
@@ -17,11 +17,11 @@ use Rattle.et_state.specs.declared.stage.Turn.TheVariants.{Unwind, EndThread, En
 use Rattle.et_state.specs.Answers.{SaysWhereDone}
 use Rattle.et_state.specs.Outcome.{Outcome, state_after}
 use Rattle.et_state.specs.Outcome as outcome
-use Rattle.et_state.specs.Spoken.{spoken, silent}
+use Rattle.et_state.specs.Spoken.{spoken}
 use Rattle.et_state.specs.State.{Kept, MachineState, kept_of}
 use Rattle.et_state.specs.Texts.{Texts, no_texts}
 use Rattle.et_state.specs.Threads.{turn_of}
-use Rattle.et_state.specs.Words.{thread_at, top}
+use Rattle.et_state.specs.Words.{top}
 use Rattle.et_event.specs.declared.families.Family.{Family}
 use Rattle.et_event.specs.declared.families.Family.TheVariants.{Calls, Refs}
 use Rattle.et_event.specs.declared.rows.CallRow.TheVariants.{Invoke, Return}

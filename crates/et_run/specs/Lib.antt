@@ -3,3 +3,4 @@ pub mod WithTexts
 pub use Rattle.et_history.specs.Whole
 pub use Rattle.et_history.specs.Settings
 pub use Rattle.et_event.specs.Start
+pub mod Lifted

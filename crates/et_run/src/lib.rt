@@ -5,6 +5,7 @@ mod families;
 mod first;
 mod forgetting;
 mod guest;
+mod lifted;
 mod named;
 mod program_run;
 mod room;

@@ -71,11 +71,11 @@ fn run_from<O: Sink, G: Sink, L: Ledger>(
         (IsCut reached (setting program.now options.now) flush_visits_of (kept_of machine) made.now
         (O.taken sink.old) (O.taken sink.new) visits.old visits.new) }
     ensures said { (reached : Graph → ℕ → Bool) → Decides reached → IfOk result (λ ran.
-        Says reached (setting program.now options.now) (said_by program.now) (kept_of machine) made.now
-        ran (G.taken guest.old) (G.taken guest.new)) }
+        Says reached (setting program.now options.now) (said_by program.now) (kept_of machine)
+        made.now ran (G.taken guest.old) (G.taken guest.new)) }
     ensures said_prefix { (reached : Graph → ℕ → Bool) → Decides reached → OnErr result
-        (SaysPrefix reached (setting program.now options.now) (said_by program.now) (kept_of machine)
-        made.now (G.taken guest.old) (G.taken guest.new)) }
+        (SaysPrefix reached (setting program.now options.now) (said_by program.now)
+        (kept_of machine) made.now (G.taken guest.old) (G.taken guest.new)) }
     ensures said_cut { (reached : Graph → ℕ → Bool) → Decides reached → OnErr result
         (IsCutSaid reached (setting program.now options.now) (said_by program.now) (kept_of machine)
         made.now flush_visits_of (G.taken guest.old) (G.taken guest.new) visits.old visits.new) }
@@ -140,12 +140,13 @@ pub fn run<O: Sink, G: Sink, L: Ledger>(
         (whole_start program.now) (start_records program.now)
         ran (G.taken guest.old) (G.taken guest.new)) }
     ensures said_prefix { (reached : Graph → ℕ → Bool) → Decides reached → OnErr result
-        (SaysPrefix reached (whole_setting program.now options.now) (whole_said (said_by program.now))
-        (whole_start program.now) (start_records program.now)
+        (SaysPrefix reached (whole_setting program.now options.now)
+        (whole_said (said_by program.now)) (whole_start program.now) (start_records program.now)
         (G.taken guest.old) (G.taken guest.new)) }
     ensures said_cut { (reached : Graph → ℕ → Bool) → Decides reached → OnErr result
-        (IsCutSaid reached (whole_setting program.now options.now) (whole_said (said_by program.now))
-        (whole_start program.now) (start_records program.now) whole_visits_of
+        (IsCutSaid reached (whole_setting program.now options.now)
+        (whole_said (said_by program.now)) (whole_start program.now)
+        (start_records program.now) whole_visits_of
         (G.taken guest.old) (G.taken guest.new) visits.old visits.new) }
     ensures write { CountsWrite (is_write_fault result)
         (O.faults sink.old) (O.faults sink.new) (G.faults guest.old) (G.faults guest.new) }

@@ -1,5 +1,5 @@
 //! Events of a machine that one thread does at once.
-ghost use Rattle.std.specs.Prelude.{◌≡◌, ℕ, ◌+◌, ◌<◌, ◌≤◌, ◌^◌, [], None, All, Contains, IfOk, IsTrue, OnErr, OnOk, length, slice_index};
+ghost use Rattle.std.specs.Prelude.{◌≡◌, ℕ, ◌+◌, ◌*◌, ◌<◌, ◌≤◌, ◌^◌, [], None, All, Contains, IfOk, IsTrue, OnErr, OnOk, length, slice_index};
 ghost use Rattle.et_event.specs.Told.{event_with_texts, said_by};
 ghost use Rattle.et_heap.specs.Objects.{made_count};
 ghost use Rattle.et_history.specs.Settings.{IsSoundRun, unended_threads};
@@ -13,6 +13,7 @@ ghost use Rattle.et_state.specs.Roots.{graph_of};
 ghost use Rattle.et_run.specs.WithTexts.{state_of};
 ghost use Rattle.et_state.specs.Threads.{unended_of};
 
+use crate::lifted::lifted_events;
 use crate::steps::running_event;
 use crate::threads::nth_unended;
 use crate::waits::waiting_events;
@@ -21,7 +22,6 @@ use et_base::{NoMemory, Steps, ThreadId};
 use et_graph::{Stamps, stamp_each};
 use et_history::spoken_laws::{events_lead_to_sound_states, texts_stay_sound};
 use et_loop::{Output, Stretch, TimeSlice};
-use et_ops::frame_events;
 use et_program::Program;
 use et_state::{EventEnd, Machine, Turn};
 use std::alloc::Global;
@@ -82,16 +82,18 @@ fn is_quiet(machine: &Machine, standing: &Standing, end: &EventEnd, out: &Output
         && stands(machine, standing)
 }
 
-/// Events of a thread that has not ended which are instructions that read and change nothing but its topmost frame: as many as
-/// come one after the other, up to `most`. They are quiet. Where the thread does no instruction next there are none.
+/// Events of a thread that has not ended which are instructions that change nothing but its topmost frame, and read nothing else
+/// but the heap: as many as come one after the other, up to `most`. They are quiet. Where the thread does no instruction next
+/// there are none.
 #[tactic(auto, unfolding(et_loop::specs::Quiet::AreQuiet))]
 #[inline(always)]
-fn frame_stretch(
+fn frame_stretch<L: Ledger>(
     program: &Program,
     running: &mut MachineWithTexts,
     thread: ThreadId,
     stamps: &mut Stamps,
     most: u64,
+    visits: &mut Steps<L>,
 ) -> u64
     requires clock { running.old.machine.guest.clock + most ≤ 2 ^ 40 }
     requires sound { IsSoundRun program.now (state_of running.old) }
@@ -107,6 +109,7 @@ fn frame_stretch(
     ensures sound { IsSoundRun program.now (state_of running.new) }
     ensures clock { running.new.machine.guest.clock
         ≡ running.old.machine.guest.clock + result }
+    ensures visits { visits.new ≤ visits.old + 8 * result }
 {
     // Laws: they tell the prover, and do nothing.
     events_lead_to_sound_states();
@@ -116,7 +119,9 @@ fn frame_stretch(
         return 0;
     }
     match running.machine.turn(thread) {
-        Turn::Instruction => frame_events(program, &mut running.machine, thread, stamps, most),
+        Turn::Instruction => {
+            lifted_events(program, &mut running.machine, thread, stamps, most, visits)
+        }
         Turn::Unwind | Turn::EndThread | Turn::Entry | Turn::Initialize => 0,
     }
 }
@@ -175,7 +180,7 @@ pub fn stretch<L: Ledger>(
     let mut before = EventEnd::Done;
     'events: loop {
         let most = frames_behind(before, slice.events - 1 - quiet);
-        quiet += frame_stretch(program, running, thread, stamps, most);
+        quiet += frame_stretch(program, running, thread, stamps, most, visits);
         let e = running.machine.clock();
         let end = running_event(alloc, program, running, thread, out, visits)?;
         if quiet + 1 == slice.events || !is_quiet(&running.machine, &standing, &end, out) {

@@ -38,7 +38,7 @@ returns-clause-is g c =
 
 pub returns-clause-may : goal.returns-clause-may
 returns-clause-may g c =
-    may_put c.args.machine.now (top c.args.machine.now.guest c.args.thread) 1 c.in_ok-value.value (omega (arith, c.in_ok-reference.ensures.deep)) (lit≤ tt) c.in_ok-value.ensures.few c.operands_fit.ensures c.in_ok-value.ensures.held
+    may_put c.args.machine.now.heap (top c.args.machine.now.guest c.args.thread) 1 c.in_ok-value.value (omega (arith, c.in_ok-reference.ensures.deep)) (lit≤ tt) c.in_ok-value.ensures.few c.operands_fit.ensures c.in_ok-value.ensures.held
 
 pub cast-requires-clause-known : goal.cast-requires-clause-known
 cast-requires-clause-known g c = c.in-Ok.ensures.named c.args.program.now c.requires.class c.requires.pool

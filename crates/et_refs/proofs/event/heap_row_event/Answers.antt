@@ -4,7 +4,7 @@ use Rattle.et_state.specs.Outcome.{Outcome}
 use Rattle.et_state.specs.State.{Kept, kept_of}
 use Rattle.et_event.specs.Answered.{DefersOrAnswers, EventAnswers}
 use Rattle.et_event.specs.Event.{does}
-use Rattle.et_event.specs.Heap.{get_static}
+use Rattle.et_event.specs.Heap.{get_static, heap_event}
 use Rattle.et_event.specs.Moments.{moment}
 use Rattle.et_event.specs.Out.{out_method}
 use Rattle.et_event.specs.declared.rows.HeapRow.{HeapRow}
@@ -42,6 +42,31 @@ returns-then-is_static_read-clause-native g c =
     let p = c.args.program.now in
     let m = c.args.machine.now in
     native_where_out p m c.args.thread (does (moment p m c.args.thread) (site_at c.args.place.now) c.args.place.now.row) c.static_read_event.result c.static_read_event.new.machine c.args.out.now c.static_read_event.new.out (returns-then-is_static_read-clause-event g c)
+
+pub returns-then-is_read-clause-event : goal.returns-then-is_read-clause-event
+returns-then-is_read-clause-event g c =
+    let p = c.args.program.now in
+    let m = c.args.machine.now in
+    let e = moment p m c.args.thread in
+    let at = site_at c.args.place.now in
+    let o = does e at c.args.place.now.row in
+    let other : is_get_static c.heap_row-row.result ≡ false = search rules in
+    let same : o ≡ heap_event e at c.heap_row-row.result = ap (λ (r : Row). does e at r) c.heap_row-row.ensures in
+    let a : IfOk c.read_event.result (λ end. EventAnswers o end m c.read_event.new.machine c.args.out.now c.read_event.new.out) =
+    answers_as o (heap_event e at c.heap_row-row.result) c.read_event.result m c.read_event.new.machine c.args.out.now c.read_event.new.out same c.read_event.ensures.event in
+    answers_unless_out p m c.args.thread o c.read_event.result c.read_event.new.machine c.args.out.now c.read_event.new.out
+    (none_left p m c.args.thread c.args.place.now c.heap_row-row.result c.requires.turn c.requires.place c.heap_row-row.ensures other) a
+
+pub returns-then-is_read-clause-native : goal.returns-then-is_read-clause-native
+returns-then-is_read-clause-native g c =
+    let p = c.args.program.now in
+    let m = c.args.machine.now in
+    native_where_out p m c.args.thread (does (moment p m c.args.thread) (site_at c.args.place.now) c.args.place.now.row) c.read_event.result c.read_event.new.machine c.args.out.now c.read_event.new.out (returns-then-is_read-clause-event g c)
+
+pub returns-then-is_read-clause-deferred : goal.returns-then-is_read-clause-deferred
+returns-then-is_read-clause-deferred g c = λ some.
+    let other : is_get_static c.heap_row-row.result ≡ false = search rules in
+    absurd (none_read c.args.program.now c.args.machine.now c.args.thread c.args.place.now c.heap_row-row.result c.requires.turn c.requires.place c.heap_row-row.ensures other some)
 
 pub returns-in-Ok-Change-clause-event : goal.returns-in-Ok-Change-clause-event
 returns-in-Ok-Change-clause-event g c =

@@ -15,22 +15,22 @@ unless_out e go f = throws_unless e (begins e) NoSuchFieldError (not (is_out e.p
 pub returns-in_err-field-clause-is : goal.returns-in_err-field-clause-is
 returns-in_err-field-clause-is c =
     let same : c.from_residual.result ≡ Err c.in_err-field.field-0.0 = search rules in
-    λ s t go.
+    λ m s t go by.
     let e : Moment = record { program = c.args.program.now; before = s; thread = t } in
-    refusing e _ _ c.in_err-field.field-0.0 go (c.in_err-field.ensures.is s t (unless_out e go)) same
+    refusing e _ _ c.in_err-field.field-0.0 go (c.in_err-field.ensures.is m s t (unless_out e go) by) same
 
 pub returns-in_err-throws_unless-clause-is : goal.returns-in_err-throws_unless-clause-is
 returns-in_err-throws_unless-clause-is c =
     let same : c.from_residual-in_err-throws_unless.result ≡ Err c.in_err-throws_unless.field-0.0 = search rules in
-    λ s t go.
+    λ m s t go by.
     let e : Moment = record { program = c.args.program.now; before = s; thread = t } in
     refusing e _ _ c.in_err-throws_unless.field-0.0 go
-    (c.in_ok-field.ensures.is s t (unless_out e go)
+    (c.in_ok-field.ensures.is m s t (unless_out e go) by
     ∙ (ap (λ (b : Bool). throws_unless e (begins e) NoSuchFieldError (not b) (go c.in_ok-field.field)) (sym c.is_out.ensures) ∙ c.in_err-throws_unless.ensures.is e (go c.in_ok-field.field))) same
 
 pub returns-clause-is : goal.returns-clause-is
 returns-clause-is c =
-    λ s t go.
+    λ m s t go by.
     let e : Moment = record { program = c.args.program.now; before = s; thread = t } in
-    c.in_ok-field.ensures.is s t (unless_out e go)
+    c.in_ok-field.ensures.is m s t (unless_out e go) by
     ∙ (ap (λ (b : Bool). throws_unless e (begins e) NoSuchFieldError (not b) (go c.in_ok-field.field)) (sym c.is_out.ensures) ∙ c.in_ok-throws_unless.ensures.is e (go c.in_ok-field.field))

@@ -5,7 +5,7 @@ use Rattle.et_heap.specs.Objects.{IsHeld}
 use Rattle.et_state.specs.Enqueuing.{flushed_heap}
 use Rattle.et_state.specs.Roots.{graph_of}
 use Rattle.et_state.specs.State.{Kept}
-use Rattle.et_state.specs.Texts.{Texts, texts_left}
+use Rattle.et_state.specs.Texts.{texts_left}
 use Rattle.et_event.proofs.Beside.{sound-spoken}
 use Rattle.et_history.specs.Settings.{flushed_of}
 use Rattle.et_run.specs.WithTexts.{state_of}

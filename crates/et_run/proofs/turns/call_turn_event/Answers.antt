@@ -1,4 +1,4 @@
-use Rattle.std.proofs.Common.{◌≡◌, ℕ, ◌+◌, ◌≤◌, Bool, true, false, List, Option, None, Some, sym, ◌∙◌, ap, subst, arith}
+use Rattle.std.proofs.Common.{◌≡◌, ℕ, List, Option, None, sym, ◌∙◌, ap, subst}
 use Rattle.std.specs.Prelude.{IfOk, IsSome, is_some}
 use Rattle.et_program.specs.BuiltIns.{text_method_of}
 use Rattle.et_program.specs.Entries.{Linked}

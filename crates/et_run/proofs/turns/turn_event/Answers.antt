@@ -1,11 +1,10 @@
-use Rattle.std.proofs.Common.{◌≡◌, ℕ, ◌+◌, ◌-◌, ◌≤◌, length, List, Option, Some, None, refl, sym, ap, subst, ◌∙◌, arith}
-use Rattle.std.specs.Prelude.{◌⊎◌, IfOk, OnOk, IsSome}
+use Rattle.std.proofs.Common.{◌≡◌, ℕ, ◌+◌, ◌-◌, ◌≤◌, length, List, Option, Some, None, refl, sym, subst, arith}
+use Rattle.std.specs.Prelude.{◌⊎◌, IfOk, IsSome}
 use Rattle.et_state.specs.declared.records.Record.{Record}
 use Rattle.et_state.specs.Answers.{SaysWhereDone}
-use Rattle.et_state.specs.Outcome.{Outcome, state_after}
+use Rattle.et_state.specs.Outcome.{state_after}
 use Rattle.et_state.specs.Spoken.{spoken}
 use Rattle.et_state.specs.State.{Kept, MachineState, kept_of}
-use Rattle.et_state.specs.Texts.{no_texts}
 use Rattle.et_event.specs.Answered.{EventAnswers, TextAnswers}
 use Rattle.et_event.specs.Beginning.{BeginsEvent}
 use Rattle.et_event.specs.Event.{event}
@@ -13,7 +12,6 @@ use Rattle.et_event.specs.SoundTexts.{HasSoundTexts}
 use Rattle.et_event.specs.Out.{out_turn}
 use Rattle.et_event.specs.Selected.{text_call}
 use Rattle.et_event.specs.Told.{event_with_texts, said_by}
-use Rattle.et_event.proofs.Answering.{if_ok}
 use Rattle.et_run.specs.WithTexts.{state_of, text_turn}
 use Rattle.et_run.proofs.Answering.{on_ok, sound_after, texts_after, unended_with}
 use Rattle.et_run.proofs.Flushing.{machine_sound}
