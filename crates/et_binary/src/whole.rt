@@ -17,7 +17,8 @@ fn take_front<'a, F: Follower>(
 ) -> Result<Option<&'a [u8]>, TraceFault>
     requires { (past : List TraceLine) × IsFollowed F.follows 2 lines.old past }
     ensures some { (past : List TraceLine) → IsFollowed F.follows 2 lines.old past → IfOk result
-        (λ left. IfSome left (λ behind. FollowsFront F.follows lines.new past bytes.now behind.now)) }
+        (λ left. IfSome left
+        (λ behind. FollowsFront F.follows lines.new past bytes.now behind.now)) }
     ensures none { (past : List TraceLine) → IsFollowed F.follows 2 lines.old past →
         IfOk result (λ left. IfNone left (LeavesFront F.follows lines.new past bytes.now)) }
     ensures err { (past : List TraceLine) → IsFollowed F.follows 2 lines.old past →

@@ -83,7 +83,8 @@ static BUILT_INS: [BuiltInRow; 14] = [
 /// The first row of a table that has this name and this descriptor.
 fn row_called<'a>(rows: &'a [BuiltInRow], name: &[u8], descriptor: &[u8]) -> Option<&'a BuiltInRow>
     ensures { option_map (λ row. row.now) result ≡ find
-        (λ (row : Row). bytes_eq row.name.now name.now && bytes_eq row.descriptor.now descriptor.now)
+        (λ (row : Row).
+        bytes_eq row.name.now name.now && bytes_eq row.descriptor.now descriptor.now)
         rows.now }
 {
     rows.iter()

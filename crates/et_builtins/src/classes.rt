@@ -218,8 +218,9 @@ pub(crate) fn fits_resolved<L: Ledger>(
     requires operands { count ≤ length (top machine.now.guest thread).operands }
     requires class { class < length program.now.classes }
     requires method { method < length program.now.methods }
-    ensures value { (o : ℕ) → class ≡ object_class (begins (moment program.now machine.now thread)) o
-        → result ≡ fits_in (moment program.now machine.now thread)
+    ensures value { (o : ℕ) →
+        class ≡ object_class (begins (moment program.now machine.now thread)) o →
+        result ≡ fits_in (moment program.now machine.now thread)
         (begins (moment program.now machine.now thread))
         (arguments_of (moment program.now machine.now thread) count) method o }
     ensures visits { visits.new ≤ visits.old + 1 }

@@ -281,7 +281,8 @@ fn dispatch_plan<L: Ledger>(
         kept (is_deferred_in program.now) (method_entered result)
         ≡ kept (is_deferred_in program.now) (option_and_then (selected_on
         (moment program.now machine.now thread) at kind
-        (arguments_of (moment program.now machine.now thread) callee.count) callee.named callee.method)
+        (arguments_of (moment program.now machine.now thread) callee.count)
+        callee.named callee.method)
         (first_reference (arguments_of (moment program.now machine.now thread) callee.count))) }
     ensures within { IsCallPlan (moment program.now machine.now thread) result }
     ensures passes { HasCount callee.count result }

@@ -149,8 +149,8 @@ pub(crate) fn number_of(receiver: &Option<ObjectId>) -> u32
 pub(crate) fn new_head(entered: &Entered<'_>, receiver: &Option<ObjectId>, count: u16) -> NewHead
     ensures frame { (p : Linked) (vs : List Value) →
         entered.now.info.now ≡ method_at p entered.now.method →
-        receiver.now ≡ receiver_in p entered.now.method vs → length vs ≡ count → frame_with result vs
-        ≡ method_frame p entered.now.method entered.now.code.now vs }
+        receiver.now ≡ receiver_in p entered.now.method vs → length vs ≡ count →
+        frame_with result vs ≡ method_frame p entered.now.method entered.now.code.now vs }
     ensures arguments { count ≤ result.max_locals }
 {
     let body = entered.code.raw();

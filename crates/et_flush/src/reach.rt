@@ -90,7 +90,8 @@ pub(crate) fn reach<L: Ledger>(
         (ranked_pairs references.now.ranks.now (pairs_of references.now.heap.now))
         (set_each (map (rank_of references.now.ranks.now) roots.now) NOW times.old) times.new }
     ensures reached { AreReached
-        (ranked_pairs references.now.ranks.now (pairs_of references.now.heap.now)) times.new seen.new }
+        (ranked_pairs references.now.ranks.now (pairs_of references.now.heap.now))
+        times.new seen.new }
     ensures empty { waiting.new.items ≡ [] }
     ensures counted { visits.new + unset_count seen.new ≤ visits.old + unset_count seen.old }
     ensures grows { vec_capacity waiting.old ≤ vec_capacity waiting.new }

@@ -10,7 +10,8 @@ use std::alloc::{AllocError, Global};
 /// As many links that lead nowhere.
 fn empty_links(alloc: Global, count: usize) -> Result<Vec<Links>, AllocError>
     ensures length { IfOk result (λ table. length table.items ≡ count) }
-    ensures none { IfOk result (λ table. (k : ℕ) → slice_index_or table.items k no_links ≡ no_links) }
+    ensures none { IfOk result (λ table.
+        (k : ℕ) → slice_index_or table.items k no_links ≡ no_links) }
 {
     let mut table = Vec::with_capacity(alloc, count)?;
     for _ in 0..count {

@@ -27,7 +27,8 @@ fn interfaces_marked(
 ) -> Result<Vec<u32>, AllocError>
     requires { All (λ i. i < length rows.now) links.now.interfaces }
     ensures { IfOk result (λ found.
-        found.items ≡ interfaces_to_run (λ k. slice_index_or needs.now k false) rows.now links.now) }
+        found.items
+        ≡ interfaces_to_run (λ k. slice_index_or needs.now k false) rows.now links.now) }
 {
     let interfaces = distinct(alloc, list, links.interfaces())?;
     list.clear();

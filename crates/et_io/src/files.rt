@@ -33,8 +33,9 @@ pub trait Files {
     /// Reads the file at the path, if it has at most this many bytes. A read changes no file. One that fails counts one
     /// fault, up to 2^64 - 1, and any other answer leaves the count as it was. `NoMemory` says nothing of the file.
     fn read(&mut self, alloc: Global, path: &str, most: u64) -> Result<Found, NoMemory>
-        ensures found { (first : List Reading) (held : Held) → length first ≤ length (asked self.old)
-            → agrees self.new first held → IfOk result (λ found. Finds found most (held path.now)) }
+        ensures found { (first : List Reading) (held : Held) →
+            length first ≤ length (asked self.old) → agrees self.new first held →
+            IfOk result (λ found. Finds found most (held path.now)) }
         ensures within { IfOk result (λ found. IsWithin found most) }
         ensures failed { faults self.new ≡ count_after (is_read_failed result) (faults self.old) }
         ensures asked { asked self.new ≡ asked self.old ++ record {

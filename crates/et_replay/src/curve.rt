@@ -80,8 +80,10 @@ impl Curve {
         requires { (lines : List TraceLine) × IsGoodTrace lines × IsCurveOf self (reverse lines) }
         ensures ok { (lines : List TraceLine) → IsGoodTrace lines → IsCurveOf self (reverse lines) →
             OnOk result (O.taken sink.new ≡ with_more (O.taken sink.old) (curve_text lines)) }
-        ensures write { O.faults sink.new ≡ count_after (is_write_fault result) (O.faults sink.old) }
-        ensures err { (lines : List TraceLine) → IsGoodTrace lines → IsCurveOf self (reverse lines) →
+        ensures write { O.faults sink.new
+            ≡ count_after (is_write_fault result) (O.faults sink.old) }
+        ensures err { (lines : List TraceLine) →
+            IsGoodTrace lines → IsCurveOf self (reverse lines) →
             OnErr result (TakesPrefix (O.taken sink.old) (O.taken sink.new) (curve_text lines)) }
         ensures never_falls { O.faults sink.old ≤ O.faults sink.new }
     {

@@ -29,7 +29,8 @@ fn verified_line(alloc: Global, count: u32) -> Result<String, NoMemory>
 fn put_count<O: Sink, E: Sink>(alloc: Global, count: u32, out: &mut O, err: &mut E) -> Status
     ensures gives { (p : Linked) → IsVerified p → count ≡ verified_count p →
         (reached : Graph → ℕ → Bool) (old new : ℕ) → GivesDefined reached (O.taken out.old)
-        (O.taken out.new) old new ⊥ (Rose (O.faults out.old) (O.faults out.new)) (Verifies p) result }
+        (O.taken out.new) old new ⊥ (Rose (O.faults out.old) (O.faults out.new)) (Verifies p)
+        result }
     ensures write_fault { O.faults out.new
         ≡ count_after (is_write_status result) (O.faults out.old) }
     ensures no_read { is_read_status result ≡ false }
