@@ -1,5 +1,11 @@
 //! The one table of events: what each instruction and each other turn of a thread does to the state of the guest. The
-//! definitions are in `specs/`, beginning with `Event.antt`; the code here is the row of each opcode.
+//! definitions are in `specs/`, beginning with `Event.antt`.
+//!
+//! The code has the row of each opcode (`table`, `rows`), and what the rows share: the instruction at which a thread stands
+//! (`places`), what an instruction names in the pool (`members`), operands that are read, taken and put (`tops`, `operands`),
+//! objects that are made (`objects`), monitors (`locks`, `monitors`), and exceptions that the machine throws (`throws`). Two
+//! modules are laws, functions with empty bodies: `place_laws` says what the event is of a turn in which an instruction is
+//! done, and `monitor_laws` what the calls on monitors come to in the middle of an event.
 #![tactic(auto)]
 
 mod answers;

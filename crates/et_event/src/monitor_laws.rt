@@ -1,4 +1,4 @@
-//! What the calls of this crate come to in the middle of an event. Each law is a function with an empty body: what it
+//! What the calls on monitors come to in the middle of an event. Each law is a function with an empty body: what it
 //! promises is its contract.
 
 ghost use Rattle.std.specs.Prelude.{◌≡◌, ℕ, List, Option};

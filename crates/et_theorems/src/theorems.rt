@@ -79,7 +79,8 @@ pub fn premises_are_met()
 }
 
 /// The program that words and files define was linked of class files, its tables are in range, and so are the options. Its
-/// history has no other end than that of the run. So the laws of et_history and et_theorems hold of it with no other premise.
+/// history has no other end than that of the run. So the laws of et_history, and those on traces beside this page, hold of it with
+/// no other premise.
 pub fn programs_are_linked()
     ensures tabled { (r : Run) → IsTraced r → IsTabled r.program }
     ensures linked { (r : Run) → IsTraced r → IsLinked r.program }
