@@ -1,5 +1,5 @@
 -- The order of initialization goes on from the superclass.
-use Rattle.std.proofs.Common.{◌≡◌, ℕ, ◌<◌, Bool, List, [], ◌∷◌, ◌++◌, length, Some, None, ◌∙◌, ap, reverse, append-nil}
+use Rattle.std.proofs.Common.{◌≡◌, ℕ, ◌<◌, Bool, List, [], ◌∷◌, ◌++◌, length, Some, ◌∙◌, ap, reverse, append-nil}
 use Rattle.std.specs.List.{slice_index_or, flat_map}
 use Rattle.std.proofs.lemmas.List.{reverse-append}
 use Rattle.std.proofs.lemmas.List.Concat.{flat_map-append}
@@ -14,10 +14,3 @@ goes_on needs table rows k s a lt e =
     let supers : (ancestry_at rows k).supers ≡ s ∷ (ancestry_at rows s).supers = ap (λ (r : Ancestry). r.supers) (a.row k lt) ∙ ap (supers_over rows) e in
     let down : downward rows k ≡ downward rows s ++ k ∷ [] = ap (λ (xs : List ℕ). reverse (k ∷ xs)) supers ∙ reverse-append (k ∷ []) (s ∷ (ancestry_at rows s).supers) in
     ap (λ (xs : List ℕ). once (flat_map F xs)) down ∙ (ap once (flat_map-append F (downward rows s) (k ∷ [])) ∙ (added_all-append [] (flat_map F (downward rows s)) (F k ++ []) ∙ ap (added_all (class_order needs table rows s)) (append-nil (F k))))
-
--- .. and begins with its interfaces where there is none
-pub begins : (needs : ℕ → Bool) (table : List LinkEntry) (rows : List Ancestry) (k : ℕ) → IsAncestry table rows → k < length table → (slice_index_or table k no_links).above ≡ None → class_order needs table rows k ≡ added_all (once []) (with_interfaces needs table rows k)
-begins needs table rows k a lt e =
-    let F : ℕ → List ℕ = with_interfaces needs table rows in
-    let none : (ancestry_at rows k).supers ≡ [] = ap (λ (r : Ancestry). r.supers) (a.row k lt) ∙ ap (supers_over rows) e in
-    ap (λ (xs : List ℕ). once (flat_map F (reverse (k ∷ xs)))) none ∙ ap (added_all []) (append-nil (F k))

@@ -16,5 +16,6 @@ pub mod Unique
 pub mod Decided
 pub mod InitLemmas
 pub mod OrderLemmas
-pub mod OrderedLists
+pub mod OrderParts
+pub mod ListLemmas
 pub mod DistinctLemmas

@@ -1,10 +1,10 @@
 -- Classes put in the order of initialization.
-use Rattle.std.proofs.Common.{◌≡◌, ℕ, ◌<◌, Bool, List, [], Option, length, get_or, ◌∙◌, ap}
+use Rattle.std.proofs.Common.{◌≡◌, ℕ, ◌<◌, Bool, List, length, get_or, ◌∙◌, ap}
 use Rattle.std.specs.List.{slice_index_or}
 use Rattle.std.proofs.lemmas.List.{get_or_default}
 use Rattle.et_hierarchy.specs.Links.{LinkEntry, no_links}
-use Rattle.et_hierarchy.specs.Ancestry.{Ancestry, class_added, added_all, once}
-use Rattle.et_hierarchy.specs.Initialization.{interfaces_to_run, with_interfaces, order_over}
+use Rattle.et_hierarchy.specs.Ancestry.{Ancestry, class_added, added_all}
+use Rattle.et_hierarchy.specs.Initialization.{interfaces_to_run, with_interfaces}
 use Rattle.et_hierarchy.proofs.AddLemmas.{add_pair}
 
 pub with_added : (needs : ℕ → Bool) (table : List LinkEntry) (rows : List Ancestry) (k : ℕ) (l : LinkEntry) (list list' list'' part slice : List ℕ) → k < length table → l ≡ get_or table k l → part ≡ interfaces_to_run needs rows l → slice ≡ part
@@ -13,11 +13,3 @@ with_added needs table rows k l list list' list'' part slice lt is found same on
     let e : l ≡ slice_index_or table k no_links = is ∙ get_or_default table k l no_links lt in
     let p : slice ≡ interfaces_to_run needs rows (slice_index_or table k no_links) = same ∙ (found ∙ ap (interfaces_to_run needs rows) e) in
     add_pair list list' list'' (interfaces_to_run needs rows (slice_index_or table k no_links)) k (one ∙ ap (added_all list) p) two
-
--- what was added to a list that was empty first, and then behind it
-pub order_from : (table : List LinkEntry) (k : ℕ) (l : LinkEntry) (orders : List (List ℕ)) (part empty one two slice : List ℕ) (above : Option ℕ) → k < length table → l ≡ get_or table k l → empty ≡ [] → above ≡ l.above → slice ≡ order_over orders above
-    → one ≡ added_all empty slice → two ≡ added_all one part → two ≡ added_all (once (order_over orders (slice_index_or table k no_links).above)) part
-order_from table k l orders part empty one two slice above lt is none ea es first last =
-    let links : l ≡ slice_index_or table k no_links = is ∙ get_or_default table k l no_links lt in
-    let over : slice ≡ order_over orders (slice_index_or table k no_links).above = es ∙ ap (order_over orders) (ea ∙ ap (λ (x : LinkEntry). x.above) links) in
-    last ∙ ap (λ (xs : List ℕ). added_all xs part) (first ∙ (ap (λ (xs : List ℕ). added_all xs slice) none ∙ ap once over))

@@ -1,5 +1,5 @@
 -- The order of initialization (JVMS 5.5).
-use Rattle.std.specs.Prelude.{◌≡◌, ℕ, Bool, true, false, List, [], ◌∷◌, ◌++◌, Option, None, Some, filter, reverse}
+use Rattle.std.specs.Prelude.{◌≡◌, ℕ, Bool, true, false, List, [], ◌∷◌, ◌++◌, filter, reverse}
 use Rattle.std.specs.List.{slice_index_or, flat_map}
 use Rattle.et_hierarchy.specs.Links.{LinkEntry, no_links}
 use Rattle.et_hierarchy.specs.Ancestry.{Ancestry, ancestry_at, once, added_all}
@@ -29,8 +29,3 @@ init_order false needs table rows k = class_order needs table rows k
 -- the order of a class is that of its superclass, and then its interfaces and itself
 abbrev pub OrderGoesOn : (ℕ → Bool) → List LinkEntry → List Ancestry → ℕ → ℕ → Type 0
 OrderGoesOn needs table rows k s = init_order false needs table rows k ≡ added_all (init_order false needs table rows s) (with_interfaces needs table rows k)
-
--- the order of a superclass, among those that were found
-abbrev pub order_over : List (List ℕ) → Option ℕ → List ℕ
-order_over orders None = []
-order_over orders (Some s) = slice_index_or orders s []

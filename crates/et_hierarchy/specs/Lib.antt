@@ -7,3 +7,4 @@ pub mod Answers
 pub mod Ancestry
 pub mod Sorting
 pub mod Initialization
+pub mod Orders

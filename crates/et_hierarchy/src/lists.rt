@@ -1,28 +1,29 @@
 //! Lists of classes that share their memory.
 
-ghost use Rattle.std.specs.Prelude.{◌≡◌, ◌<◌, drop, length, IfOk};
+ghost use Rattle.std.specs.Prelude.{◌≡◌, ◌≤◌, ◌==◌, drop, take, length, IfOk};
 
 use et_base::ClassId;
 use std::alloc::{AllocError, Global};
 use std::marker::Model;
 use std::rc::RcSlice;
 
-/// A list of classes. What is left of it behind its first class, and each further handle to it, is in the same memory.
+/// A list of classes. Its first classes, what stands behind these, and each further handle to it are in the same memory.
 #[derive(Drop)]
 pub struct ClassList {
     whole: RcSlice<ClassId>,
     from: usize,
+    to: usize,
 }
 
 impl Model for ClassList {
-    ghost use Rattle.std.specs.Prelude.{ℕ, ◌≤◌, List, drop, length};
+    ghost use Rattle.std.specs.Prelude.{ℕ, ◌≤◌, ◌-◌, List, drop, take, length};
     ghost use Rattle.std.specs.Rc.{rc_slice_items};
 
     ghost Value = { List ℕ };
 
-    ghost view = { λ l. drop l.from (rc_slice_items l.whole) };
+    ghost view = { λ l. take (l.to - l.from) (drop l.from (rc_slice_items l.whole)) };
 
-    ghost invariant = { λ l. l.from ≤ length (rc_slice_items l.whole) };
+    ghost invariant = { λ l. (l.from ≤ l.to) × (l.to ≤ length (rc_slice_items l.whole)) };
 }
 
 impl ClassList {
@@ -31,7 +32,8 @@ impl ClassList {
         ensures { IfOk result (λ l. l ≡ classes.items) }
     {
         let whole = RcSlice::from_vec(classes)?;
-        Ok(ClassList { whole, from: 0 })
+        let to = whole.len();
+        Ok(ClassList { whole, from: 0, to })
     }
 
     /// A further handle to the list. The only error is that there are too many of them.
@@ -42,26 +44,48 @@ impl ClassList {
         Ok(ClassList {
             whole,
             from: self.from,
+            to: self.to,
         })
     }
 
-    /// What is behind the first class. The only error is that there are too many handles to the list.
-    pub fn rest(&self) -> Result<Self, AllocError>
-        requires { 0 < length self.now }
-        ensures { IfOk result (λ l. l ≡ drop 1 self.now) }
+    /// So many of the first classes. The only error is that there are too many handles to the list.
+    pub fn first(&self, count: usize) -> Result<Self, AllocError>
+        requires { count ≤ length self.now }
+        ensures { IfOk result (λ l. l ≡ take count self.now) }
     {
         let whole = self.whole.clone()?;
         Ok(ClassList {
             whole,
-            from: self.from + 1,
+            from: self.from,
+            to: self.from + count,
         })
+    }
+
+    /// What is behind so many of the first classes. The only error is that there are too many handles to the list.
+    pub fn behind(&self, count: usize) -> Result<Self, AllocError>
+        requires { count ≤ length self.now }
+        ensures { IfOk result (λ l. l ≡ drop count self.now) }
+    {
+        let whole = self.whole.clone()?;
+        Ok(ClassList {
+            whole,
+            from: self.from + count,
+            to: self.to,
+        })
+    }
+
+    /// Whether it has no class.
+    pub fn is_empty(&self) -> bool
+        ensures { result ≡ (length self.now == 0) }
+    {
+        self.from == self.to
     }
 
     /// The classes.
     pub fn as_slice(&self) -> &[ClassId]
         ensures { result.now ≡ self.now }
     {
-        &self.whole.as_slice()[self.from..]
+        &self.whole.as_slice()[self.from..self.to]
     }
 }
 

@@ -1,10 +1,12 @@
 //! The order of initialization (JVMS 5.5).
 
-ghost use Rattle.std.specs.Prelude.{◌≡◌, ℕ, ◌<◌, ◌^◌, false, [], length, All, IfOk, IfSome};
+ghost use Rattle.std.specs.Prelude.{◌≡◌, ℕ, ◌<◌, ◌≤◌, ◌^◌, Bool, false, List, [], length, drop, All, OnOk, IfOk};
 ghost use Rattle.std.specs.List.{slice_index_or};
-ghost use Rattle.et_hierarchy.specs.Links.{no_links, IsAcyclic, HasLinksWithin};
-ghost use Rattle.et_hierarchy.specs.Ancestry.{added_all, once, IsAncestry};
-ghost use Rattle.et_hierarchy.specs.Initialization.{interfaces_to_run, with_interfaces, class_order, order_over};
+ghost use Rattle.et_hierarchy.specs.Links.{LinkEntry, IsAcyclic, HasLinksWithin};
+ghost use Rattle.et_hierarchy.specs.Ancestry.{Ancestry, added_all, once, ancestry_at, IsAncestry};
+ghost use Rattle.et_hierarchy.specs.Initialization.{interfaces_to_run, with_interfaces, class_order};
+ghost use Rattle.et_hierarchy.specs.Orders.{order_down, IsStop, HasOrder, AreOrders, OrdersGrow};
+ghost use Rattle.et_hierarchy.specs.declared.order.Stop.{Stop};
 
 use crate::distinct::{DistinctClasses, is_marked};
 use crate::links::Links;
@@ -69,50 +71,162 @@ fn marked_among(alloc: Global, marks: &[bool], classes: &[ClassId]) -> Result<Ve
     Ok(list)
 }
 
-/// The order of initialization of a superclass, among those that were found.
-fn order_over(orders: &[ClassList], above: Option<u32>) -> &[ClassId]
-    requires { IfSome above (λ s. s < length orders.now) }
-    ensures { result.now ≡ order_over orders.now above }
+/// How many of these superclasses, the nearest ones, have no list yet.
+fn count_missing(orders: &[ClassList], supers: &[ClassId]) -> usize
+    requires { All (λ s. s < length orders.now) supers.now }
+    ensures few { result ≤ length supers.now }
+    ensures found { result < length supers.now →
+        0 < length (slice_index_or orders.now (slice_index_or supers.now result 0) []) }
 {
-    match above {
-        Some(class) => orders[class as usize].as_slice(),
-        None => &[],
+    for (i, class) in supers.iter().enumerate() {
+        if !orders[class.number() as usize].is_empty() {
+            return i;
+        }
+    }
+    supers.len()
+}
+
+/// Begins an order of initialization with that of the superclass behind so many that have no list yet.
+fn begin_order(
+    list: &mut DistinctClasses,
+    orders: &[ClassList],
+    supers: &[ClassId],
+    missing: usize,
+) -> Result<(), AllocError>
+    requires { All (λ s. s < length orders.now) supers.now }
+    ensures over { OnOk result (missing < length supers.now →
+        list.new ≡ once (slice_index_or orders.now (slice_index_or supers.now missing 0) [])) }
+    ensures none { OnOk result (length supers.now ≤ missing → list.new ≡ []) }
+{
+    list.clear();
+    match supers.get(missing) {
+        Some(class) => add_each(list, orders[class.number() as usize].as_slice()),
+        None => Ok(()),
     }
 }
 
-/// The order of initialization of a class that is no interface, by that of its superclass: that one, then the interfaces that
-/// are initialized with the class, and the class.
-fn order_of(
+/// A superclass, and where its order of initialization ends in that of a class below it.
+#[derive(Drop)]
+struct Stop {
+    class: ClassId,
+    end: usize,
+}
+
+/// Lists for the work alone.
+#[derive(Drop)]
+struct Work {
+    interfaces: DistinctClasses,
+    order: DistinctClasses,
+}
+
+/// Puts the interfaces that are initialized with a class, and the class, behind an order of initialization.
+fn add_class(
     alloc: Global,
-    list: &mut DistinctClasses,
+    work: &mut Work,
     needs: &[bool],
     table: &[Links],
     rows: &[Row],
-    orders: &[ClassList],
     class: u32,
-) -> Result<ClassList, AllocError>
+) -> Result<(), AllocError>
     requires class { class < length table.now }
     requires same { length rows.now ≡ length table.now }
-    requires each { length orders.now ≡ length table.now }
     requires within { HasLinksWithin (length table.now) table.now }
-    ensures { IfOk result (λ order. order ≡ added_all
-        (once (order_over orders.now (slice_index_or table.now class no_links).above))
+    ensures { OnOk result (work.new.order ≡ added_all work.old.order
         (with_interfaces (λ k. slice_index_or needs.now k false) table.now rows.now class)) }
 {
     let links = &table[class as usize];
-    let found = interfaces_marked(alloc, list, needs, rows, links)?;
-    list.clear();
-    add_each(list, order_over(orders, links.above()))?;
-    add_all(list, found.as_slice())?;
-    list.add(class)?;
-    let classes = Vec::from_slice(alloc, list.as_slice())?;
-    let order = ClassList::of(classes)?;
-    Ok(order)
+    let found = interfaces_marked(alloc, &mut work.interfaces, needs, rows, links)?;
+    add_all(&mut work.order, found.as_slice())?;
+    work.order.add(class)?;
+    Ok(())
+}
+
+/// Goes down so many superclasses to a class, and adds each. Answers where their orders end.
+fn add_supers(
+    alloc: Global,
+    work: &mut Work,
+    needs: &[bool],
+    table: &[Links],
+    rows: &[Row],
+    class: u32,
+    missing: usize,
+) -> Result<Vec<Stop>, AllocError>
+    requires class { class < length table.now }
+    requires within { HasLinksWithin (length table.now) table.now }
+    requires rows { IsAncestry table.now rows.now }
+    requires missing { missing ≤ length (ancestry_at rows.now class).supers }
+    requires begun { work.old.order ≡ order_down (λ k. slice_index_or needs.now k false)
+        table.now rows.now (drop missing (ancestry_at rows.now class).supers) }
+    ensures order { IfOk result
+        (λ stops. work.new.order ≡ order_down (λ k. slice_index_or needs.now k false)
+        table.now rows.now (ancestry_at rows.now class).supers) }
+    ensures stops { IfOk result (λ stops. All (IsStop (λ k. slice_index_or needs.now k false)
+        table.now rows.now work.new.order) stops.items) }
+{
+    let supers = rows[class as usize].supers();
+    let mut stops = Vec::with_capacity(alloc, missing)?;
+    for i in (0..missing).rev() {
+        let class = supers[i];
+        add_class(alloc, work, needs, table, rows, class.number())?;
+        let end = work.order.as_slice().len();
+        stops.push(Stop { class, end })?;
+    }
+    Ok(stops)
+}
+
+/// Gives each superclass its part of the list of a class.
+fn give(orders: &mut Vec<ClassList>, list: &ClassList, stops: &[Stop]) -> Result<(), AllocError>
+    requires { All (λ (s : Stop).
+        (s.class < length orders.old.items) × (s.end ≤ length list.now)) stops.now }
+    ensures length { length orders.new.items ≡ length orders.old.items }
+    ensures grow { OnOk result
+        ((needs : ℕ → Bool) (table : List LinkEntry) (rows : List Ancestry) →
+        AreOrders needs table rows orders.old.items →
+        All (IsStop needs table rows list.now) stops.now →
+        OrdersGrow needs table rows orders.old.items orders.new.items) }
+{
+    for stop in stops {
+        orders[stop.class.number() as usize] = list.first(stop.end)?;
+    }
+    Ok(())
+}
+
+/// Makes the list of a class, and gives its superclasses that have none their parts of it.
+fn make_order(
+    alloc: Global,
+    work: &mut Work,
+    needs: &[bool],
+    table: &[Links],
+    rows: &[Row],
+    orders: &mut Vec<ClassList>,
+    class: u32,
+) -> Result<(), AllocError>
+    requires class { class < length table.now }
+    requires within { HasLinksWithin (length table.now) table.now }
+    requires rows { IsAncestry table.now rows.now }
+    requires orders { AreOrders (λ k. slice_index_or needs.now k false)
+        table.now rows.now orders.old.items }
+    ensures grow { OnOk result (OrdersGrow (λ k. slice_index_or needs.now k false)
+        table.now rows.now orders.old.items orders.new.items) }
+    ensures class { OnOk result (HasOrder (λ k. slice_index_or needs.now k false)
+        table.now rows.now orders.new.items class) }
+{
+    let supers = rows[class as usize].supers();
+    let missing = count_missing(orders.as_slice(), supers);
+    begin_order(&mut work.order, orders.as_slice(), supers, missing)?;
+    let stops = add_supers(alloc, work, needs, table, rows, class, missing)?;
+    add_class(alloc, work, needs, table, rows, class)?;
+    let classes = Vec::from_slice(alloc, work.order.as_slice())?;
+    let list = ClassList::of(classes)?;
+    give(orders, &list, stops.as_slice())?;
+    orders[class as usize] = list;
+    Ok(())
 }
 
 /// As many empty lists.
 fn empty_orders(alloc: Global, count: usize) -> Result<Vec<ClassList>, AllocError>
-    ensures { IfOk result (λ orders. length orders.items ≡ count) }
+    ensures length { IfOk result (λ orders. length orders.items ≡ count) }
+    ensures none { IfOk result (λ orders. (k : ℕ) → slice_index_or orders.items k [] ≡ []) }
 {
     let nothing = ClassList::of(Vec::new(alloc))?;
     let mut orders = Vec::with_capacity(alloc, count)?;
@@ -123,8 +237,8 @@ fn empty_orders(alloc: Global, count: usize) -> Result<Vec<ClassList>, AllocErro
 }
 
 /// Of each class the classes that are initialized with it, in order, and the class itself as the last, as of a class that is
-/// no interface (JVMS 5.5). The classes are taken in an order in which each stands behind its superclass, whose list is gone
-/// on with. The only error is want of memory.
+/// no interface (JVMS 5.5). The classes are taken in an order in which each stands before its superclass, which has a part of
+/// the list of the first class below it. The only error is want of memory.
 pub fn class_orders(
     alloc: Global,
     needs: &[bool],
@@ -143,18 +257,16 @@ pub fn class_orders(
     let sorting = sort(alloc, table)?;
     let order = sorting.order();
     let mut orders = empty_orders(alloc, table.len())?;
-    let mut list = DistinctClasses::begin(alloc);
-    for class in order {
-        let found = order_of(
-            alloc,
-            &mut list,
-            needs,
-            table,
-            rows,
-            orders.as_slice(),
-            *class,
-        )?;
-        orders[*class as usize] = found;
+    let mut work = Work {
+        interfaces: DistinctClasses::begin(alloc),
+        order: DistinctClasses::begin(alloc),
+    };
+    for i in (0..order.len()).rev() {
+        let class = order[i];
+        if !orders[class as usize].is_empty() {
+            continue;
+        }
+        make_order(alloc, &mut work, needs, table, rows, &mut orders, class)?;
     }
     Ok(orders)
 }

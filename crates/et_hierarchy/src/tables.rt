@@ -257,7 +257,7 @@ fn row_of(
     ensures { IfOk result (λ row. row ≡ ancestry_of links.now rows.now class) }
 {
     let upward = upward(alloc, rows, class, links.above())?;
-    let supers = upward.rest()?;
+    let supers = upward.behind(1)?;
     let superinterfaces = superinterfaces(alloc, list, links, rows, class)?;
     let field_order = field_order(alloc, list, links, rows, class, upward, &supers)?;
     Ok(Row::new(supers, superinterfaces, field_order))

@@ -3,8 +3,8 @@ use Rattle.et_hierarchy.specs.Ancestry.{supers_over}
 use Rattle.et_hierarchy.proofs.AddLemmas.{record_is}
 use Rattle.et_hierarchy.proofs.tables.row_of.Goals as goal
 
-pub rest-requires : goal.rest-requires
-rest-requires c = omega (arith, ap length c.in_ok-upward.ensures)
+pub behind-requires : goal.behind-requires
+behind-requires c = omega (arith, ap length c.in_ok-upward.ensures)
 
 pub field_order-requires-clause-upward : goal.field_order-requires-clause-upward
 field_order-requires-clause-upward c = c.in_ok-upward.ensures ∙ ap (λ s. c.args.class ∷ s) (sym (c.in_ok-supers.ensures ∙ ap (drop 1) c.in_ok-upward.ensures))
