@@ -18,4 +18,5 @@ pub mod InitLemmas
 pub mod OrderLemmas
 pub mod OrderParts
 pub mod ListLemmas
+pub mod UpLemmas
 pub mod DistinctLemmas

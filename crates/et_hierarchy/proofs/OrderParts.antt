@@ -1,5 +1,5 @@
 -- Orders of initialization that are parts of one another.
-use Rattle.std.proofs.Common.{◌≡◌, ℕ, zero, suc, ◌+◌, ◌<◌, ◌≤◌, ◌==◌, ◌⊎◌, Bool, true, false, cond, List, [], ◌∷◌, ◌++◌, length, take, drop, get_or, set, Option, None, Some, refl, sym, ◌∙◌, ap, subst, arith, reverse, append-nil, append_assoc, inl, inr, get_or-set_same, get_or-set_other, take_all}
+use Rattle.std.proofs.Common.{◌≡◌, ℕ, zero, suc, ◌+◌, ◌<◌, ◌≤◌, ◌==◌, Bool, cond, List, [], ◌∷◌, ◌++◌, length, take, drop, get_or, set, Option, None, Some, refl, sym, ◌∙◌, ap, subst, arith, reverse, append-nil, append_assoc, inl, inr, get_or-set_same, get_or-set_other, take_all}
 use mathlib.Core.Logic.{⊎_elim}
 use Rattle.std.specs.Prelude.{All}
 use Rattle.std.specs.List.{slice_index_or, list_any, flat_map}
@@ -7,7 +7,6 @@ use Rattle.std.specs.Option.{option_to_list}
 use Rattle.std.proofs.lemmas.Bool.{cases_Bool, cases_eq, cases_lt}
 use Rattle.std.proofs.lemmas.List.{length-set, length-append, drop_more, drop_all, reverse-append, take-append-le, get_or_default}
 use Rattle.std.proofs.lemmas.List.Concat.{flat_map-append}
-use Rattle.std.proofs.lemmas.List.Elements.{All-push}
 use Rattle.et_hierarchy.specs.Links.{LinkEntry, no_links, HasLinksWithin}
 use Rattle.et_hierarchy.specs.Ancestry.{Ancestry, ancestry_at, class_added, added_all, once, supers_over, IsAncestry}
 use Rattle.et_hierarchy.specs.Initialization.{with_interfaces, downward, class_order}

@@ -8,3 +8,4 @@ pub mod Ancestry
 pub mod Sorting
 pub mod Initialization
 pub mod Orders
+pub mod Upward

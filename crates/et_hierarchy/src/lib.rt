@@ -16,6 +16,7 @@ mod rows;
 mod search;
 mod sorting;
 mod tables;
+mod upward;
 
 pub use check::check_set;
 pub use fault::{FaultKind, SetFault};

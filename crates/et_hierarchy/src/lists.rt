@@ -1,6 +1,7 @@
 //! Lists of classes that share their memory.
 
-ghost use Rattle.std.specs.Prelude.{◌≡◌, ◌≤◌, ◌==◌, drop, take, length, IfOk};
+ghost use Rattle.std.specs.Prelude.{◌≡◌, ℕ, ◌≤◌, ◌==◌, [], drop, take, length, IfOk};
+ghost use Rattle.std.specs.List.{slice_index_or};
 
 use et_base::ClassId;
 use std::alloc::{AllocError, Global};
@@ -98,4 +99,17 @@ pub(crate) fn numbers_of(alloc: Global, classes: &[ClassId]) -> Result<Vec<u32>,
         numbers.push(class.number())?;
     }
     Ok(numbers)
+}
+
+/// As many empty lists.
+pub(crate) fn empty_lists(alloc: Global, count: usize) -> Result<Vec<ClassList>, AllocError>
+    ensures length { IfOk result (λ lists. length lists.items ≡ count) }
+    ensures none { IfOk result (λ lists. (k : ℕ) → slice_index_or lists.items k [] ≡ []) }
+{
+    let nothing = ClassList::of(Vec::new(alloc))?;
+    let mut lists = Vec::with_capacity(alloc, count)?;
+    for _ in 0..count {
+        lists.push(nothing.share()?)?;
+    }
+    Ok(lists)
 }

@@ -10,7 +10,7 @@ ghost use Rattle.et_hierarchy.specs.declared.order.Stop.{Stop};
 
 use crate::distinct::{DistinctClasses, is_marked};
 use crate::links::Links;
-use crate::lists::ClassList;
+use crate::lists::{ClassList, empty_lists};
 use crate::rows::Row;
 use crate::sorting::sort;
 use crate::tables::{add_all, add_each, add_interfaces, distinct};
@@ -223,19 +223,6 @@ fn make_order(
     Ok(())
 }
 
-/// As many empty lists.
-fn empty_orders(alloc: Global, count: usize) -> Result<Vec<ClassList>, AllocError>
-    ensures length { IfOk result (λ orders. length orders.items ≡ count) }
-    ensures none { IfOk result (λ orders. (k : ℕ) → slice_index_or orders.items k [] ≡ []) }
-{
-    let nothing = ClassList::of(Vec::new(alloc))?;
-    let mut orders = Vec::with_capacity(alloc, count)?;
-    for _ in 0..count {
-        orders.push(nothing.share()?)?;
-    }
-    Ok(orders)
-}
-
 /// Of each class the classes that are initialized with it, in order, and the class itself as the last, as of a class that is
 /// no interface (JVMS 5.5). The classes are taken in an order in which each stands before its superclass, which has a part of
 /// the list of the first class below it. The only error is want of memory.
@@ -256,7 +243,7 @@ pub fn class_orders(
 {
     let sorting = sort(alloc, table)?;
     let order = sorting.order();
-    let mut orders = empty_orders(alloc, table.len())?;
+    let mut orders = empty_lists(alloc, table.len())?;
     let mut work = Work {
         interfaces: DistinctClasses::begin(alloc),
         order: DistinctClasses::begin(alloc),

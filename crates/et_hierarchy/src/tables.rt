@@ -11,6 +11,7 @@ use crate::links::Links;
 use crate::lists::{ClassList, numbers_of};
 use crate::rows::Row;
 use crate::sorting::sort;
+use crate::upward::lists_upward;
 use et_base::ClassId;
 use std::alloc::{AllocError, Global};
 
@@ -46,29 +47,6 @@ pub(crate) fn add_each(list: &mut DistinctClasses, classes: &[ClassId]) -> Resul
         list.add(class.number())?;
     }
     Ok(())
-}
-
-/// A class, and then its superclasses upward.
-fn upward(
-    alloc: Global,
-    rows: &[Row],
-    class: u32,
-    above: Option<u32>,
-) -> Result<ClassList, AllocError>
-    requires { IfSome above (λ s. s < length rows.now) }
-    ensures { IfOk result (λ list. list ≡ class ∷ supers_over rows.now above) }
-{
-    let mut list = Vec::new(alloc);
-    list.push(ClassId::new(class))?;
-    match above {
-        Some(superclass) => {
-            let row = &rows[superclass as usize];
-            list.push(ClassId::new(superclass))?;
-            list.extend_from_slice(row.supers())?;
-            ClassList::of(list)
-        }
-        None => ClassList::of(list),
-    }
 }
 
 /// Where a superclass looks for a field.
@@ -242,21 +220,22 @@ fn field_order(
     searched(alloc, list, links, rows, class)
 }
 
-/// The lists of a class, by those of the classes right above it.
+/// The lists of a class, by those of the classes right above it, and by the list of itself and its superclasses.
 fn row_of(
     alloc: Global,
     list: &mut DistinctClasses,
     links: &Links,
     rows: &[Row],
     class: u32,
+    upward: ClassList,
 ) -> Result<Row, AllocError>
     requires above { IfSome links.now.above (λ s. s < length rows.now) }
     requires interfaces { All (λ i. i < length rows.now) links.now.interfaces }
     requires once { once (field_order_over rows.now links.now.above)
         ≡ field_order_over rows.now links.now.above }
+    requires upward { upward ≡ class ∷ supers_over rows.now links.now.above }
     ensures { IfOk result (λ row. row ≡ ancestry_of links.now rows.now class) }
 {
-    let upward = upward(alloc, rows, class, links.above())?;
     let supers = upward.behind(1)?;
     let superinterfaces = superinterfaces(alloc, list, links, rows, class)?;
     let field_order = field_order(alloc, list, links, rows, class, upward, &supers)?;
@@ -275,11 +254,13 @@ pub fn ancestries(alloc: Global, table: &[Links]) -> Result<Vec<Row>, AllocError
 {
     let sorting = sort(alloc, table)?;
     let order = sorting.order();
+    let lists = lists_upward(alloc, table, order)?;
     let mut rows = empty_rows(alloc, table.len())?;
     let mut list = DistinctClasses::begin(alloc);
     for class in order {
         let links = &table[*class as usize];
-        let row = row_of(alloc, &mut list, links, rows.as_slice(), *class)?;
+        let upward = lists[*class as usize].share()?;
+        let row = row_of(alloc, &mut list, links, rows.as_slice(), *class, upward)?;
         rows[*class as usize] = row;
     }
     Ok(rows)

@@ -1,7 +1,20 @@
-use Rattle.std.proofs.Common.{◌<◌, length, get_or, refl, ◌∙◌, ap, arith}
+use Rattle.std.proofs.Common.{◌<◌, length, get_or, refl, sym, ◌∙◌, ap, subst, arith}
+use Rattle.std.proofs.lemmas.List.{get_or_default}
 use Rattle.et_hierarchy.proofs.Rounds.{next_above, next_interfaces}
 use Rattle.et_hierarchy.proofs.OrderedRows.{ordered_start, ordered_once, ordered_turn, ordered_end, ordered_below, ordered_inside}
+use Rattle.et_hierarchy.proofs.UpLemmas.{ordered_upward}
 use Rattle.et_hierarchy.proofs.tables.ancestries.Goals as goal
+
+pub lists_upward-requires-clause-order : goal.lists_upward-requires-clause-order
+lists_upward-requires-clause-order c = λ i d lt.
+    subst (λ x. x < length c.args.table.now) (sym (get_or_default c.order-order.result.now i d 0 lt))
+    (ordered_inside c.args.table.now _ _ _ i (length c.args.table.now) c.in_ok-sorting.ensures c.order-order.ensures lt refl)
+
+pub row_of-requires-clause-upward : goal.row_of-requires-clause-upward
+row_of-requires-clause-upward c =
+    let lt : c.loop-class.class-index < length c.order-order.result.now = omega arith in
+    ordered_upward c.args.table.now _ _ _ _ _ c.loop-class.class-index _ _ _ _ c.in_ok-sorting.ensures c.order-order.ensures lt c.loop-class.invariant c.as_slice.ensures.value c.index-table-class.is
+    c.in_ok-lists.ensures.length c.in_ok-lists.ensures.upward c.index.ensures c.in_ok-upward.ensures
 
 pub loop-class-init : goal.loop-class-init
 loop-class-init c = ordered_start c.args.table.now _ _ c.in_ok-rows.ensures

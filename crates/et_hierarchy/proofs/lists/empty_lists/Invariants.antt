@@ -1,9 +1,9 @@
 use Rattle.std.proofs.Common.{◌≡◌, ℕ, [], length}
 use Rattle.std.specs.List.{slice_index_or}
-use Rattle.et_hierarchy.proofs.order.empty_orders.Given as goal
+use Rattle.et_hierarchy.proofs.lists.empty_lists.Given as goal
 
 abbrev pub invariant-loop : goal.invariant-loop
 invariant-loop l = record {
-  size : length l.orders.items ≡ l.counter;
-  none : (k : ℕ) → slice_index_or l.orders.items k [] ≡ [];
+  size : length l.lists.items ≡ l.counter;
+  none : (k : ℕ) → slice_index_or l.lists.items k [] ≡ [];
 }
