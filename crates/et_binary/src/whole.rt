@@ -10,6 +10,7 @@ use et_text::{AFTER, FORM, Follower, Following, LineError, TraceFault, UNENDED};
 use std::alloc::Global;
 
 /// Hands on the line of the first record where it is whole, and says what stands behind it.
+#[inline(always)]
 fn take_front<'a, F: Follower>(
     alloc: Global,
     lines: &mut Following<F>,
@@ -36,7 +37,7 @@ fn take_front<'a, F: Follower>(
     }
     match read_record(alloc, bytes) {
         Ok(Some((line, behind))) => {
-            lines.take(line)?;
+            lines.take(&line)?;
             Ok(Some(behind))
         }
         Ok(None) => Ok(None),
@@ -51,6 +52,7 @@ fn take_front<'a, F: Follower>(
 /// Reads a whole binary trace and hands each of its lines to the follower, once it broke no rule; the lines are not kept. `Ok`
 /// comes exactly where the bytes are the pack of a good list, and then with what followed its lines; else the fault is that of
 /// the bytes. It takes no memory ahead of the bytes.
+#[inline(never)]
 pub fn follow_pack<F: Follower>(alloc: Global, bytes: &[u8], follower: F) -> Result<F, TraceFault>
     requires new { F.follows follower [] }
     ensures ok { IfOk result (λ follower. IsPackFollowed F.follows follower bytes.now) }

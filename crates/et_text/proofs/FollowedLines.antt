@@ -1,17 +1,17 @@
 -- Lines that are followed as they come.
-use Rattle.std.proofs.Common.{◌≡◌, ℕ, ◌+◌, ◌<◌, true, false, Option, Some, None, Result, Ok, Err, List, [], ◌∷◌, ◌++◌, length, refl, sym, ap, subst, ◌∙◌, arith, inl, inr}
-use Rattle.std.specs.Prelude.{reverse, IfErr}
+use Rattle.std.proofs.Common.{◌≡◌, ℕ, ◌+◌, ◌<◌, true, Option, Some, None, Result, Ok, Err, List, [], ◌∷◌, ◌++◌, length, refl, sym, ap, subst, ◌∙◌, arith, inl, inr}
+use Rattle.std.specs.Prelude.{reverse, OnOk}
 use Rattle.std.proofs.lemmas.List.{append-nil, reverse-reverse}
 use Rattle.et_base.specs.declared.line.TraceLine.{TraceLine}
 use Rattle.et_text.specs.Ranges.{IsInRange}
 use Rattle.et_text.specs.Rules.{has_ended, next_fault, AreFine}
-use Rattle.et_text.specs.Spelling.{text}
+use Rattle.et_text.specs.Spelling.{line_body, text}
 use Rattle.et_text.specs.Text.{IsOneLine, IsLineSpelled, IsReadTo, IsTraceFault}
 use Rattle.et_text.specs.Text.BreaksText.{BreaksRule}
 use Rattle.et_text.specs.Text.EndsWrong.{EndsEarly, EndsLate}
 use Rattle.et_text.specs.Follows.{Follows, StandsOn}
-use Rattle.et_text.specs.StandsFor.{StandsForLines}
-use Rattle.et_text.specs.Followed.{IsFollowed, IsLineFollowed, BreaksNext, RefusesNext, LacksFinish, FollowsBytes, BreaksBytes, RefusesBytesNext, IsFollowedTo, IsTextFollowed, IsFaultOfText}
+use Rattle.et_text.specs.Stream.{FirstLine}
+use Rattle.et_text.specs.Followed.{IsFollowed, IsLineFollowed, BreaksNext, RefusesNext, LacksFinish, FollowsBytes, RefusesBytesNext, FollowsFirst, RefusesFirst, IsFollowedTo, IsTextFollowed, IsFaultOfText}
 use Rattle.et_text.specs.declared.standing.Standing.{Standing}
 use Rattle.et_text.specs.declared.handing.Following.{Following}
 use Rattle.et_text.specs.declared.fault.TraceFault.{TraceFault}
@@ -50,25 +50,41 @@ line_refused follows version lines s' past line found kind h r f some = record {
 
 -- ONE LINE OF A TEXT
 
+pub bytes_followed : {F : Type 0} (follows : F → List TraceLine → Type 0) (r : Result (Unit {0}) TraceFault) (new : Following F) (past : List TraceLine) (line : TraceLine) (bytes : List ℕ)
+    → IsLineSpelled line bytes → OnOk r (IsLineFollowed follows 1 new past line) → OnOk r (FollowsBytes follows new past bytes)
+bytes_followed follows (Ok x) new past line bytes s h = record { line = line; spelled = s; taken = h }
+bytes_followed follows (Err e) new past line bytes s h = tt
+
 pub bytes_refused : (past : List TraceLine) (line : TraceLine) (bytes : List ℕ) (fault : TraceFault) → IsLineSpelled line bytes → RefusesNext past line fault → RefusesBytesNext past bytes fault
 bytes_refused past line bytes faults.NoMemory s h = tt
 bytes_refused past line bytes (faults.At kind number) s h = record { breaks = BreaksRule kind line s h.breaks; at = h.at }
 
+-- THE FIRST LINE OF BYTES
+
+pub spelled_front : (line : TraceLine) → IsInRange 1 line → IsLineSpelled line (line_body line)
+spelled_front line r = record { range = r; spelled = refl }
+
+pub first_refused : (past : List TraceLine) (line behind bytes : List ℕ) (fault : TraceFault) → FirstLine bytes line behind → RefusesBytesNext past line fault → RefusesFirst past bytes fault
+first_refused past line behind bytes faults.NoMemory f h = tt
+first_refused past line behind bytes (faults.At kind number) f h = record { line = line; behind = behind; first = f; breaks = h }
+
 -- A WHOLE TEXT
 
 -- a line that is refused within a text
-pub refused_in : (past : List TraceLine) (line behind rest bytes : List ℕ) (fault : TraceFault) → IsReadTo past rest bytes → rest ≡ line ++ 10 ∷ behind → IsOneLine line → RefusesBytesNext past line fault → IsFaultOfText bytes fault
-refused_in past line behind rest bytes faults.NoMemory r e o h = tt
-refused_in past line behind rest bytes (faults.At kind number) r e o h =
-    inl (record { past = past; line = line; behind = behind; read = subst (λ (t : List ℕ). IsReadTo past t bytes) e r; one_line = o; breaks = h.breaks; at = h.at })
+pub refused_in : (past : List TraceLine) (rest bytes : List ℕ) (fault : TraceFault) → IsReadTo past rest bytes → RefusesFirst past rest fault → IsFaultOfText bytes fault
+refused_in past rest bytes faults.NoMemory r h = tt
+refused_in past rest bytes (faults.At kind number) r h =
+    inl (record { past = past; line = h.line; behind = h.behind; read = subst (λ (t : List ℕ). IsReadTo past t bytes) h.first.parts r; one_line = h.first.one_line; breaks = h.breaks.breaks; at = h.breaks.at })
 
 -- .. and one that is taken
-pub followed_on : {F : Type 0} (follows : F → List TraceLine → Type 0) (lines new : Following F) (line behind rest bytes : List ℕ) (h : IsFollowedTo follows lines rest bytes) → rest ≡ line ++ 10 ∷ behind → FollowsBytes follows new h.past line → IsFollowedTo follows new behind bytes
-followed_on follows lines new line behind rest bytes h e t = record {
-  past = t.line ∷ h.past;
-  followed = t.taken.followed;
-  read = reads_on bytes h.past line behind t.line t.spelled t.taken.keeps (subst (λ (r : List ℕ). IsReadTo h.past r bytes) e h.read);
-}
+pub followed_on : {F : Type 0} (follows : F → List TraceLine → Type 0) (lines new : Following F) (behind rest bytes : List ℕ) (h : IsFollowedTo follows lines rest bytes) → FollowsFirst follows new h.past rest behind → IsFollowedTo follows new behind bytes
+followed_on follows lines new behind rest bytes h f =
+    let t = f.taken in
+    record {
+      past = t.line ∷ h.past;
+      followed = t.taken.followed;
+      read = reads_on bytes h.past f.line behind t.line t.spelled t.taken.keeps (subst (λ (r : List ℕ). IsReadTo h.past r bytes) f.first.parts h.read);
+    }
 
 -- THE END
 

@@ -1,14 +1,15 @@
 -- What is read is spelled so, and what is spelled so is read.
-use Rattle.std.proofs.Common.{◌≡◌, ℕ, zero, suc, ◌-◌, ◌^◌, ◌<◌, ◌≤◌, true, cond, eqb, List, [], ◌∷◌, ◌++◌, Some, None, refl, sym, ap, subst, ◌∙◌, arith, inl, inr}
+use Rattle.std.proofs.Common.{◌≡◌, ℕ, zero, suc, ◌-◌, ◌^◌, ◌<◌, ◌≤◌, true, cond, eqb, List, [], ◌∷◌, ◌++◌, Option, Some, None, refl, sym, ap, subst, ◌∙◌, append_assoc, arith, inl, inr}
 use Rattle.std.specs.Prelude.{All}
 use Rattle.std.specs.Fmt.{decimal}
 use Rattle.std.specs.List.{flat_map, AllByRecursion}
 use Rattle.et_base.specs.declared.line.TraceLine.{TraceLine}
 use Rattle.et_base.specs.declared.line.TraceLine.TheVariants.{Header, Class, Method, Alloc, Update, Enter, Exit, Unwind, Flush, Death, Finish}
 use Rattle.et_text.specs.Ranges.{IsInRange}
-use Rattle.et_text.specs.Spelling.{escapes, fields, field_text, letter, line_body}
+use Rattle.std.proofs.lemmas.List.{append-nil}
+use Rattle.et_text.specs.Spelling.{escapes, fields, field_text, letter, line_body, SpelledField}
 use Rattle.et_text.specs.Text.{IsLineSpelled}
-use Rattle.et_text.specs.Reading.{◌>>=◌, is_break, number_field_in, text_field_at, done, turn_at, header_line_at, class_line_at, method_line_at, alloc_at, update_at, enter_at, exit_at, unwind_at, flush_at, death_line_at, finish_at, line_at}
+use Rattle.et_text.specs.Reading.{◌>>=◌, is_break, number_field_in, text_field_at, done, turn_at, header_line_at, class_line_at, method_line_at, alloc_at, update_at, enter_at, exit_at, unwind_at, flush_at, death_line_at, finish_at, front_at, line_at}
 use Rattle.et_text.proofs.Numbers.{bind_some, chosen, some_is, eqb-yes, in_takes, in_again}
 use Rattle.et_text.proofs.Escapes.{AreBytes, text_takes, text_again}
 
@@ -35,11 +36,26 @@ done_is : (line : TraceLine) (rest : List ℕ) (read : TraceLine) → done line 
 done_is line [] read e = record { empty = refl; same = some_is line read e }
 done_is line (b ∷ rest) read e = absurd cc
 
+-- what is read, and what is left behind it
+record IsLeft (line : TraceLine) (left : List ℕ) (read : TraceLine) (rest : List ℕ) : Type 0 where
+  pub rest_is : left ≡ rest
+  pub same : line ≡ read
+
+left_is : (line : TraceLine) (left : List ℕ) (read : TraceLine) (rest : List ℕ) → ◌≡◌ {A = Option (TraceLine × List ℕ)} (Some (line, left)) (Some (read, rest)) → IsLeft line left read rest
+left_is line left read rest e =
+    let p : ◌≡◌ {A = TraceLine × List ℕ} (line, left) (read, rest) = some_is (line, left) (read, rest) e in
+    record { rest_is = ap (λ (x : TraceLine × List ℕ). x.1) p; same = ap (λ (x : TraceLine × List ℕ). x.0) p }
+
+-- fields, and bytes behind them
+abbrev before : List SpelledField → List ℕ → List ℕ
+before [] rest = rest
+before (f ∷ fs) rest = field_text f ++ before fs rest
+
 -- the bytes behind the letter are the fields of the line
-pub record IsTail (first : ℕ) (line : TraceLine) (bytes : List ℕ) : Type 0 where
+pub record IsTail (first : ℕ) (line : TraceLine) (bytes rest : List ℕ) : Type 0 where
   pub range : IsInRange 1 line
   pub first_is : first ≡ letter line
-  pub spelled : bytes ≡ flat_map field_text (fields line)
+  pub spelled : bytes ≡ before (fields line) rest
 
 record IsTurn (bytes : List ℕ) (event thread : ℕ) (rest : List ℕ) : Type 0 where
   pub parts : bytes ≡ 32 ∷ decimal event ++ (32 ∷ decimal thread ++ rest)
@@ -63,150 +79,150 @@ turn_again : (event thread : ℕ) (rest : List ℕ) → event ≤ 2 ^ 40 → thr
 unfolding turn_at
 turn_again event thread rest a b e = rw (in_again 0 (2 ^ 40) event (32 ∷ decimal thread ++ rest) (omega arith) a (omega arith) refl, in_again 0 63 thread rest (omega arith) b (omega arith) e) refl
 
-header_takes : (bytes : List ℕ) (line : TraceLine) → header_line_at bytes ≡ Some line → IsTail 72 line bytes
+header_takes : (bytes : List ℕ) (line : TraceLine) (rest : List ℕ) → header_line_at bytes ≡ Some (line, rest) → IsTail 72 line bytes rest
 unfolding header_line_at
-header_takes bytes line e =
-    let s0 = bind_some (number_field_in 1 (1) bytes) (λ x0. number_field_in 0 (2 ^ 40) x0.1 >>= λ x1. done (Header x0.0 x1.0) x1.1) line e in
-    let s1 = bind_some (number_field_in 0 (2 ^ 40) s0.0.1) (λ x1. done (Header s0.0.0 x1.0) x1.1) line s0.2 in
-    let d = done_is (Header s0.0.0 s1.0.0) s1.0.1 line s1.2 in
+header_takes bytes line rest e =
+    let s0 = bind_some (number_field_in 1 (1) bytes) (λ x0. number_field_in 0 (2 ^ 40) x0.1 >>= λ x1. Some (Header x0.0 x1.0, x1.1)) (line, rest) e in
+    let s1 = bind_some (number_field_in 0 (2 ^ 40) s0.0.1) (λ x1. Some (Header s0.0.0 x1.0, x1.1)) (line, rest) s0.2 in
+    let d = left_is (Header s0.0.0 s1.0.0) s1.0.1 line rest s1.2 in
     let t0 = in_takes 1 (1) bytes s0.0.0 s0.0.1 s0.1 in
     let t1 = in_takes 0 (2 ^ 40) s0.0.1 s1.0.0 s1.0.1 s1.1 in
-    let one : IsTail 72 (Header s0.0.0 s1.0.0) bytes = record { range = omega arith; first_is = refl; spelled = (t0.0 ∙ ap (λ (t : List ℕ). 32 ∷ decimal s0.0.0 ++ t) (t1.0 ∙ ap (λ (t : List ℕ). 32 ∷ decimal s1.0.0 ++ t) d.empty)) } in
-    subst (λ (l : TraceLine). IsTail 72 l bytes) d.same one
+    let one : IsTail 72 (Header s0.0.0 s1.0.0) bytes rest = record { range = omega arith; first_is = refl; spelled = (t0.0 ∙ ap (λ (t : List ℕ). 32 ∷ decimal s0.0.0 ++ t) (t1.0 ∙ ap (λ (t : List ℕ). 32 ∷ decimal s1.0.0 ++ t) d.rest_is)) } in
+    subst (λ (l : TraceLine). IsTail 72 l bytes rest) d.same one
 
-class_takes : (bytes : List ℕ) (line : TraceLine) → class_line_at bytes ≡ Some line → IsTail 67 line bytes
+class_takes : (bytes : List ℕ) (line : TraceLine) (rest : List ℕ) → class_line_at bytes ≡ Some (line, rest) → IsTail 67 line bytes rest
 unfolding class_line_at
-class_takes bytes line e =
-    let s0 = bind_some (number_field_in 1 (2 ^ 32 - 1) bytes) (λ x0. text_field_at x0.1 >>= λ x1. done (Class x0.0 x1.0) x1.1) line e in
-    let s1 = bind_some (text_field_at s0.0.1) (λ x1. done (Class s0.0.0 x1.0) x1.1) line s0.2 in
-    let d = done_is (Class s0.0.0 s1.0.0) s1.0.1 line s1.2 in
+class_takes bytes line rest e =
+    let s0 = bind_some (number_field_in 1 (2 ^ 32 - 1) bytes) (λ x0. text_field_at x0.1 >>= λ x1. Some (Class x0.0 x1.0, x1.1)) (line, rest) e in
+    let s1 = bind_some (text_field_at s0.0.1) (λ x1. Some (Class s0.0.0 x1.0, x1.1)) (line, rest) s0.2 in
+    let d = left_is (Class s0.0.0 s1.0.0) s1.0.1 line rest s1.2 in
     let t0 = in_takes 1 (2 ^ 32 - 1) bytes s0.0.0 s0.0.1 s0.1 in
     let t1 = text_takes s0.0.1 s1.0.0 s1.0.1 s1.1 in
-    let one : IsTail 67 (Class s0.0.0 s1.0.0) bytes = record { range = (omega arith, (t1.some, all_bytes s1.0.0 t1.small), λ e. absurd (omega arith)); first_is = refl; spelled = (t0.0 ∙ ap (λ (t : List ℕ). 32 ∷ decimal s0.0.0 ++ t) (t1.parts ∙ ap (λ (t : List ℕ). 32 ∷ escapes s1.0.0 ++ t) d.empty)) } in
-    subst (λ (l : TraceLine). IsTail 67 l bytes) d.same one
+    let one : IsTail 67 (Class s0.0.0 s1.0.0) bytes rest = record { range = (omega arith, (t1.some, all_bytes s1.0.0 t1.small), λ e. absurd (omega arith)); first_is = refl; spelled = (t0.0 ∙ ap (λ (t : List ℕ). 32 ∷ decimal s0.0.0 ++ t) (t1.parts ∙ ap (λ (t : List ℕ). 32 ∷ escapes s1.0.0 ++ t) d.rest_is)) } in
+    subst (λ (l : TraceLine). IsTail 67 l bytes rest) d.same one
 
-method_takes : (bytes : List ℕ) (line : TraceLine) → method_line_at bytes ≡ Some line → IsTail 78 line bytes
+method_takes : (bytes : List ℕ) (line : TraceLine) (rest : List ℕ) → method_line_at bytes ≡ Some (line, rest) → IsTail 78 line bytes rest
 unfolding method_line_at
-method_takes bytes line e =
-    let s0 = bind_some (number_field_in 1 (2 ^ 32 - 1) bytes) (λ x0. number_field_in 1 (2 ^ 32 - 1) x0.1 >>= λ x1. text_field_at x1.1 >>= λ x2. text_field_at x2.1 >>= λ x3. done (Method x0.0 x1.0 x2.0 x3.0) x3.1) line e in
-    let s1 = bind_some (number_field_in 1 (2 ^ 32 - 1) s0.0.1) (λ x1. text_field_at x1.1 >>= λ x2. text_field_at x2.1 >>= λ x3. done (Method s0.0.0 x1.0 x2.0 x3.0) x3.1) line s0.2 in
-    let s2 = bind_some (text_field_at s1.0.1) (λ x2. text_field_at x2.1 >>= λ x3. done (Method s0.0.0 s1.0.0 x2.0 x3.0) x3.1) line s1.2 in
-    let s3 = bind_some (text_field_at s2.0.1) (λ x3. done (Method s0.0.0 s1.0.0 s2.0.0 x3.0) x3.1) line s2.2 in
-    let d = done_is (Method s0.0.0 s1.0.0 s2.0.0 s3.0.0) s3.0.1 line s3.2 in
+method_takes bytes line rest e =
+    let s0 = bind_some (number_field_in 1 (2 ^ 32 - 1) bytes) (λ x0. number_field_in 1 (2 ^ 32 - 1) x0.1 >>= λ x1. text_field_at x1.1 >>= λ x2. text_field_at x2.1 >>= λ x3. Some (Method x0.0 x1.0 x2.0 x3.0, x3.1)) (line, rest) e in
+    let s1 = bind_some (number_field_in 1 (2 ^ 32 - 1) s0.0.1) (λ x1. text_field_at x1.1 >>= λ x2. text_field_at x2.1 >>= λ x3. Some (Method s0.0.0 x1.0 x2.0 x3.0, x3.1)) (line, rest) s0.2 in
+    let s2 = bind_some (text_field_at s1.0.1) (λ x2. text_field_at x2.1 >>= λ x3. Some (Method s0.0.0 s1.0.0 x2.0 x3.0, x3.1)) (line, rest) s1.2 in
+    let s3 = bind_some (text_field_at s2.0.1) (λ x3. Some (Method s0.0.0 s1.0.0 s2.0.0 x3.0, x3.1)) (line, rest) s2.2 in
+    let d = left_is (Method s0.0.0 s1.0.0 s2.0.0 s3.0.0) s3.0.1 line rest s3.2 in
     let t0 = in_takes 1 (2 ^ 32 - 1) bytes s0.0.0 s0.0.1 s0.1 in
     let t1 = in_takes 1 (2 ^ 32 - 1) s0.0.1 s1.0.0 s1.0.1 s1.1 in
     let t2 = text_takes s1.0.1 s2.0.0 s2.0.1 s2.1 in
     let t3 = text_takes s2.0.1 s3.0.0 s3.0.1 s3.1 in
-    let one : IsTail 78 (Method s0.0.0 s1.0.0 s2.0.0 s3.0.0) bytes = record { range = (omega arith, omega arith, (t2.some, all_bytes s2.0.0 t2.small), (t3.some, all_bytes s3.0.0 t3.small), λ e. absurd (omega arith), λ e. absurd (omega arith)); first_is = refl; spelled = (t0.0 ∙ ap (λ (t : List ℕ). 32 ∷ decimal s0.0.0 ++ t) (t1.0 ∙ ap (λ (t : List ℕ). 32 ∷ decimal s1.0.0 ++ t) (t2.parts ∙ ap (λ (t : List ℕ). 32 ∷ escapes s2.0.0 ++ t) (t3.parts ∙ ap (λ (t : List ℕ). 32 ∷ escapes s3.0.0 ++ t) d.empty)))) } in
-    subst (λ (l : TraceLine). IsTail 78 l bytes) d.same one
+    let one : IsTail 78 (Method s0.0.0 s1.0.0 s2.0.0 s3.0.0) bytes rest = record { range = (omega arith, omega arith, (t2.some, all_bytes s2.0.0 t2.small), (t3.some, all_bytes s3.0.0 t3.small), λ e. absurd (omega arith), λ e. absurd (omega arith)); first_is = refl; spelled = (t0.0 ∙ ap (λ (t : List ℕ). 32 ∷ decimal s0.0.0 ++ t) (t1.0 ∙ ap (λ (t : List ℕ). 32 ∷ decimal s1.0.0 ++ t) (t2.parts ∙ ap (λ (t : List ℕ). 32 ∷ escapes s2.0.0 ++ t) (t3.parts ∙ ap (λ (t : List ℕ). 32 ∷ escapes s3.0.0 ++ t) d.rest_is)))) } in
+    subst (λ (l : TraceLine). IsTail 78 l bytes rest) d.same one
 
-alloc_takes : (bytes : List ℕ) (line : TraceLine) → alloc_at bytes ≡ Some line → IsTail 65 line bytes
+alloc_takes : (bytes : List ℕ) (line : TraceLine) (rest : List ℕ) → alloc_at bytes ≡ Some (line, rest) → IsTail 65 line bytes rest
 unfolding alloc_at
-alloc_takes bytes line e =
-    let s0 = bind_some (turn_at bytes) (λ x0. number_field_in 1 (2 ^ 24 - 1) x0.1 >>= λ x1. number_field_in 1 (2 ^ 32 - 1) x1.1 >>= λ x2. number_field_in 16 (2 ^ 30) x2.1 >>= λ x3. number_field_in 0 (2 ^ 26) x3.1 >>= λ x4. done (Alloc x0.0.0 x0.0.1 x1.0 x2.0 x3.0 x4.0) x4.1) line e in
-    let s1 = bind_some (number_field_in 1 (2 ^ 24 - 1) s0.0.1) (λ x1. number_field_in 1 (2 ^ 32 - 1) x1.1 >>= λ x2. number_field_in 16 (2 ^ 30) x2.1 >>= λ x3. number_field_in 0 (2 ^ 26) x3.1 >>= λ x4. done (Alloc s0.0.0.0 s0.0.0.1 x1.0 x2.0 x3.0 x4.0) x4.1) line s0.2 in
-    let s2 = bind_some (number_field_in 1 (2 ^ 32 - 1) s1.0.1) (λ x2. number_field_in 16 (2 ^ 30) x2.1 >>= λ x3. number_field_in 0 (2 ^ 26) x3.1 >>= λ x4. done (Alloc s0.0.0.0 s0.0.0.1 s1.0.0 x2.0 x3.0 x4.0) x4.1) line s1.2 in
-    let s3 = bind_some (number_field_in 16 (2 ^ 30) s2.0.1) (λ x3. number_field_in 0 (2 ^ 26) x3.1 >>= λ x4. done (Alloc s0.0.0.0 s0.0.0.1 s1.0.0 s2.0.0 x3.0 x4.0) x4.1) line s2.2 in
-    let s4 = bind_some (number_field_in 0 (2 ^ 26) s3.0.1) (λ x4. done (Alloc s0.0.0.0 s0.0.0.1 s1.0.0 s2.0.0 s3.0.0 x4.0) x4.1) line s3.2 in
-    let d = done_is (Alloc s0.0.0.0 s0.0.0.1 s1.0.0 s2.0.0 s3.0.0 s4.0.0) s4.0.1 line s4.2 in
+alloc_takes bytes line rest e =
+    let s0 = bind_some (turn_at bytes) (λ x0. number_field_in 1 (2 ^ 24 - 1) x0.1 >>= λ x1. number_field_in 1 (2 ^ 32 - 1) x1.1 >>= λ x2. number_field_in 16 (2 ^ 30) x2.1 >>= λ x3. number_field_in 0 (2 ^ 26) x3.1 >>= λ x4. Some (Alloc x0.0.0 x0.0.1 x1.0 x2.0 x3.0 x4.0, x4.1)) (line, rest) e in
+    let s1 = bind_some (number_field_in 1 (2 ^ 24 - 1) s0.0.1) (λ x1. number_field_in 1 (2 ^ 32 - 1) x1.1 >>= λ x2. number_field_in 16 (2 ^ 30) x2.1 >>= λ x3. number_field_in 0 (2 ^ 26) x3.1 >>= λ x4. Some (Alloc s0.0.0.0 s0.0.0.1 x1.0 x2.0 x3.0 x4.0, x4.1)) (line, rest) s0.2 in
+    let s2 = bind_some (number_field_in 1 (2 ^ 32 - 1) s1.0.1) (λ x2. number_field_in 16 (2 ^ 30) x2.1 >>= λ x3. number_field_in 0 (2 ^ 26) x3.1 >>= λ x4. Some (Alloc s0.0.0.0 s0.0.0.1 s1.0.0 x2.0 x3.0 x4.0, x4.1)) (line, rest) s1.2 in
+    let s3 = bind_some (number_field_in 16 (2 ^ 30) s2.0.1) (λ x3. number_field_in 0 (2 ^ 26) x3.1 >>= λ x4. Some (Alloc s0.0.0.0 s0.0.0.1 s1.0.0 s2.0.0 x3.0 x4.0, x4.1)) (line, rest) s2.2 in
+    let s4 = bind_some (number_field_in 0 (2 ^ 26) s3.0.1) (λ x4. Some (Alloc s0.0.0.0 s0.0.0.1 s1.0.0 s2.0.0 s3.0.0 x4.0, x4.1)) (line, rest) s3.2 in
+    let d = left_is (Alloc s0.0.0.0 s0.0.0.1 s1.0.0 s2.0.0 s3.0.0 s4.0.0) s4.0.1 line rest s4.2 in
     let t0 = turn_takes bytes s0.0.0.0 s0.0.0.1 s0.0.1 s0.1 in
     let t1 = in_takes 1 (2 ^ 24 - 1) s0.0.1 s1.0.0 s1.0.1 s1.1 in
     let t2 = in_takes 1 (2 ^ 32 - 1) s1.0.1 s2.0.0 s2.0.1 s2.1 in
     let t3 = in_takes 16 (2 ^ 30) s2.0.1 s3.0.0 s3.0.1 s3.1 in
     let t4 = in_takes 0 (2 ^ 26) s3.0.1 s4.0.0 s4.0.1 s4.1 in
-    let one : IsTail 65 (Alloc s0.0.0.0 s0.0.0.1 s1.0.0 s2.0.0 s3.0.0 s4.0.0) bytes = record { range = omega arith; first_is = refl; spelled = (t0.parts ∙ ap (λ (t : List ℕ). 32 ∷ decimal s0.0.0.0 ++ (32 ∷ decimal s0.0.0.1 ++ t)) (t1.0 ∙ ap (λ (t : List ℕ). 32 ∷ decimal s1.0.0 ++ t) (t2.0 ∙ ap (λ (t : List ℕ). 32 ∷ decimal s2.0.0 ++ t) (t3.0 ∙ ap (λ (t : List ℕ). 32 ∷ decimal s3.0.0 ++ t) (t4.0 ∙ ap (λ (t : List ℕ). 32 ∷ decimal s4.0.0 ++ t) d.empty))))) } in
-    subst (λ (l : TraceLine). IsTail 65 l bytes) d.same one
+    let one : IsTail 65 (Alloc s0.0.0.0 s0.0.0.1 s1.0.0 s2.0.0 s3.0.0 s4.0.0) bytes rest = record { range = omega arith; first_is = refl; spelled = (t0.parts ∙ ap (λ (t : List ℕ). 32 ∷ decimal s0.0.0.0 ++ (32 ∷ decimal s0.0.0.1 ++ t)) (t1.0 ∙ ap (λ (t : List ℕ). 32 ∷ decimal s1.0.0 ++ t) (t2.0 ∙ ap (λ (t : List ℕ). 32 ∷ decimal s2.0.0 ++ t) (t3.0 ∙ ap (λ (t : List ℕ). 32 ∷ decimal s3.0.0 ++ t) (t4.0 ∙ ap (λ (t : List ℕ). 32 ∷ decimal s4.0.0 ++ t) d.rest_is))))) } in
+    subst (λ (l : TraceLine). IsTail 65 l bytes rest) d.same one
 
-update_takes : (bytes : List ℕ) (line : TraceLine) → update_at bytes ≡ Some line → IsTail 85 line bytes
+update_takes : (bytes : List ℕ) (line : TraceLine) (rest : List ℕ) → update_at bytes ≡ Some (line, rest) → IsTail 85 line bytes rest
 unfolding update_at
-update_takes bytes line e =
-    let s0 = bind_some (turn_at bytes) (λ x0. number_field_in 0 (2 ^ 24 - 1) x0.1 >>= λ x1. number_field_in 0 (2 ^ 28 - 1) x1.1 >>= λ x2. number_field_in 0 (2 ^ 24 - 1) x2.1 >>= λ x3. number_field_in 0 (2 ^ 24 - 1) x3.1 >>= λ x4. done (Update x0.0.0 x0.0.1 x1.0 x2.0 x3.0 x4.0) x4.1) line e in
-    let s1 = bind_some (number_field_in 0 (2 ^ 24 - 1) s0.0.1) (λ x1. number_field_in 0 (2 ^ 28 - 1) x1.1 >>= λ x2. number_field_in 0 (2 ^ 24 - 1) x2.1 >>= λ x3. number_field_in 0 (2 ^ 24 - 1) x3.1 >>= λ x4. done (Update s0.0.0.0 s0.0.0.1 x1.0 x2.0 x3.0 x4.0) x4.1) line s0.2 in
-    let s2 = bind_some (number_field_in 0 (2 ^ 28 - 1) s1.0.1) (λ x2. number_field_in 0 (2 ^ 24 - 1) x2.1 >>= λ x3. number_field_in 0 (2 ^ 24 - 1) x3.1 >>= λ x4. done (Update s0.0.0.0 s0.0.0.1 s1.0.0 x2.0 x3.0 x4.0) x4.1) line s1.2 in
-    let s3 = bind_some (number_field_in 0 (2 ^ 24 - 1) s2.0.1) (λ x3. number_field_in 0 (2 ^ 24 - 1) x3.1 >>= λ x4. done (Update s0.0.0.0 s0.0.0.1 s1.0.0 s2.0.0 x3.0 x4.0) x4.1) line s2.2 in
-    let s4 = bind_some (number_field_in 0 (2 ^ 24 - 1) s3.0.1) (λ x4. done (Update s0.0.0.0 s0.0.0.1 s1.0.0 s2.0.0 s3.0.0 x4.0) x4.1) line s3.2 in
-    let d = done_is (Update s0.0.0.0 s0.0.0.1 s1.0.0 s2.0.0 s3.0.0 s4.0.0) s4.0.1 line s4.2 in
+update_takes bytes line rest e =
+    let s0 = bind_some (turn_at bytes) (λ x0. number_field_in 0 (2 ^ 24 - 1) x0.1 >>= λ x1. number_field_in 0 (2 ^ 28 - 1) x1.1 >>= λ x2. number_field_in 0 (2 ^ 24 - 1) x2.1 >>= λ x3. number_field_in 0 (2 ^ 24 - 1) x3.1 >>= λ x4. Some (Update x0.0.0 x0.0.1 x1.0 x2.0 x3.0 x4.0, x4.1)) (line, rest) e in
+    let s1 = bind_some (number_field_in 0 (2 ^ 24 - 1) s0.0.1) (λ x1. number_field_in 0 (2 ^ 28 - 1) x1.1 >>= λ x2. number_field_in 0 (2 ^ 24 - 1) x2.1 >>= λ x3. number_field_in 0 (2 ^ 24 - 1) x3.1 >>= λ x4. Some (Update s0.0.0.0 s0.0.0.1 x1.0 x2.0 x3.0 x4.0, x4.1)) (line, rest) s0.2 in
+    let s2 = bind_some (number_field_in 0 (2 ^ 28 - 1) s1.0.1) (λ x2. number_field_in 0 (2 ^ 24 - 1) x2.1 >>= λ x3. number_field_in 0 (2 ^ 24 - 1) x3.1 >>= λ x4. Some (Update s0.0.0.0 s0.0.0.1 s1.0.0 x2.0 x3.0 x4.0, x4.1)) (line, rest) s1.2 in
+    let s3 = bind_some (number_field_in 0 (2 ^ 24 - 1) s2.0.1) (λ x3. number_field_in 0 (2 ^ 24 - 1) x3.1 >>= λ x4. Some (Update s0.0.0.0 s0.0.0.1 s1.0.0 s2.0.0 x3.0 x4.0, x4.1)) (line, rest) s2.2 in
+    let s4 = bind_some (number_field_in 0 (2 ^ 24 - 1) s3.0.1) (λ x4. Some (Update s0.0.0.0 s0.0.0.1 s1.0.0 s2.0.0 s3.0.0 x4.0, x4.1)) (line, rest) s3.2 in
+    let d = left_is (Update s0.0.0.0 s0.0.0.1 s1.0.0 s2.0.0 s3.0.0 s4.0.0) s4.0.1 line rest s4.2 in
     let t0 = turn_takes bytes s0.0.0.0 s0.0.0.1 s0.0.1 s0.1 in
     let t1 = in_takes 0 (2 ^ 24 - 1) s0.0.1 s1.0.0 s1.0.1 s1.1 in
     let t2 = in_takes 0 (2 ^ 28 - 1) s1.0.1 s2.0.0 s2.0.1 s2.1 in
     let t3 = in_takes 0 (2 ^ 24 - 1) s2.0.1 s3.0.0 s3.0.1 s3.1 in
     let t4 = in_takes 0 (2 ^ 24 - 1) s3.0.1 s4.0.0 s4.0.1 s4.1 in
-    let one : IsTail 85 (Update s0.0.0.0 s0.0.0.1 s1.0.0 s2.0.0 s3.0.0 s4.0.0) bytes = record { range = omega arith; first_is = refl; spelled = (t0.parts ∙ ap (λ (t : List ℕ). 32 ∷ decimal s0.0.0.0 ++ (32 ∷ decimal s0.0.0.1 ++ t)) (t1.0 ∙ ap (λ (t : List ℕ). 32 ∷ decimal s1.0.0 ++ t) (t2.0 ∙ ap (λ (t : List ℕ). 32 ∷ decimal s2.0.0 ++ t) (t3.0 ∙ ap (λ (t : List ℕ). 32 ∷ decimal s3.0.0 ++ t) (t4.0 ∙ ap (λ (t : List ℕ). 32 ∷ decimal s4.0.0 ++ t) d.empty))))) } in
-    subst (λ (l : TraceLine). IsTail 85 l bytes) d.same one
+    let one : IsTail 85 (Update s0.0.0.0 s0.0.0.1 s1.0.0 s2.0.0 s3.0.0 s4.0.0) bytes rest = record { range = omega arith; first_is = refl; spelled = (t0.parts ∙ ap (λ (t : List ℕ). 32 ∷ decimal s0.0.0.0 ++ (32 ∷ decimal s0.0.0.1 ++ t)) (t1.0 ∙ ap (λ (t : List ℕ). 32 ∷ decimal s1.0.0 ++ t) (t2.0 ∙ ap (λ (t : List ℕ). 32 ∷ decimal s2.0.0 ++ t) (t3.0 ∙ ap (λ (t : List ℕ). 32 ∷ decimal s3.0.0 ++ t) (t4.0 ∙ ap (λ (t : List ℕ). 32 ∷ decimal s4.0.0 ++ t) d.rest_is))))) } in
+    subst (λ (l : TraceLine). IsTail 85 l bytes rest) d.same one
 
-enter_takes : (bytes : List ℕ) (line : TraceLine) → enter_at bytes ≡ Some line → IsTail 77 line bytes
+enter_takes : (bytes : List ℕ) (line : TraceLine) (rest : List ℕ) → enter_at bytes ≡ Some (line, rest) → IsTail 77 line bytes rest
 unfolding enter_at
-enter_takes bytes line e =
-    let s0 = bind_some (turn_at bytes) (λ x0. number_field_in 1 (2 ^ 32 - 1) x0.1 >>= λ x1. number_field_in 0 (2 ^ 24 - 1) x1.1 >>= λ x2. done (Enter x0.0.0 x0.0.1 x1.0 x2.0) x2.1) line e in
-    let s1 = bind_some (number_field_in 1 (2 ^ 32 - 1) s0.0.1) (λ x1. number_field_in 0 (2 ^ 24 - 1) x1.1 >>= λ x2. done (Enter s0.0.0.0 s0.0.0.1 x1.0 x2.0) x2.1) line s0.2 in
-    let s2 = bind_some (number_field_in 0 (2 ^ 24 - 1) s1.0.1) (λ x2. done (Enter s0.0.0.0 s0.0.0.1 s1.0.0 x2.0) x2.1) line s1.2 in
-    let d = done_is (Enter s0.0.0.0 s0.0.0.1 s1.0.0 s2.0.0) s2.0.1 line s2.2 in
+enter_takes bytes line rest e =
+    let s0 = bind_some (turn_at bytes) (λ x0. number_field_in 1 (2 ^ 32 - 1) x0.1 >>= λ x1. number_field_in 0 (2 ^ 24 - 1) x1.1 >>= λ x2. Some (Enter x0.0.0 x0.0.1 x1.0 x2.0, x2.1)) (line, rest) e in
+    let s1 = bind_some (number_field_in 1 (2 ^ 32 - 1) s0.0.1) (λ x1. number_field_in 0 (2 ^ 24 - 1) x1.1 >>= λ x2. Some (Enter s0.0.0.0 s0.0.0.1 x1.0 x2.0, x2.1)) (line, rest) s0.2 in
+    let s2 = bind_some (number_field_in 0 (2 ^ 24 - 1) s1.0.1) (λ x2. Some (Enter s0.0.0.0 s0.0.0.1 s1.0.0 x2.0, x2.1)) (line, rest) s1.2 in
+    let d = left_is (Enter s0.0.0.0 s0.0.0.1 s1.0.0 s2.0.0) s2.0.1 line rest s2.2 in
     let t0 = turn_takes bytes s0.0.0.0 s0.0.0.1 s0.0.1 s0.1 in
     let t1 = in_takes 1 (2 ^ 32 - 1) s0.0.1 s1.0.0 s1.0.1 s1.1 in
     let t2 = in_takes 0 (2 ^ 24 - 1) s1.0.1 s2.0.0 s2.0.1 s2.1 in
-    let one : IsTail 77 (Enter s0.0.0.0 s0.0.0.1 s1.0.0 s2.0.0) bytes = record { range = omega arith; first_is = refl; spelled = (t0.parts ∙ ap (λ (t : List ℕ). 32 ∷ decimal s0.0.0.0 ++ (32 ∷ decimal s0.0.0.1 ++ t)) (t1.0 ∙ ap (λ (t : List ℕ). 32 ∷ decimal s1.0.0 ++ t) (t2.0 ∙ ap (λ (t : List ℕ). 32 ∷ decimal s2.0.0 ++ t) d.empty))) } in
-    subst (λ (l : TraceLine). IsTail 77 l bytes) d.same one
+    let one : IsTail 77 (Enter s0.0.0.0 s0.0.0.1 s1.0.0 s2.0.0) bytes rest = record { range = omega arith; first_is = refl; spelled = (t0.parts ∙ ap (λ (t : List ℕ). 32 ∷ decimal s0.0.0.0 ++ (32 ∷ decimal s0.0.0.1 ++ t)) (t1.0 ∙ ap (λ (t : List ℕ). 32 ∷ decimal s1.0.0 ++ t) (t2.0 ∙ ap (λ (t : List ℕ). 32 ∷ decimal s2.0.0 ++ t) d.rest_is))) } in
+    subst (λ (l : TraceLine). IsTail 77 l bytes rest) d.same one
 
-exit_takes : (bytes : List ℕ) (line : TraceLine) → exit_at bytes ≡ Some line → IsTail 69 line bytes
+exit_takes : (bytes : List ℕ) (line : TraceLine) (rest : List ℕ) → exit_at bytes ≡ Some (line, rest) → IsTail 69 line bytes rest
 unfolding exit_at
-exit_takes bytes line e =
-    let s0 = bind_some (turn_at bytes) (λ x0. number_field_in 1 (2 ^ 32 - 1) x0.1 >>= λ x1. done (Exit x0.0.0 x0.0.1 x1.0) x1.1) line e in
-    let s1 = bind_some (number_field_in 1 (2 ^ 32 - 1) s0.0.1) (λ x1. done (Exit s0.0.0.0 s0.0.0.1 x1.0) x1.1) line s0.2 in
-    let d = done_is (Exit s0.0.0.0 s0.0.0.1 s1.0.0) s1.0.1 line s1.2 in
+exit_takes bytes line rest e =
+    let s0 = bind_some (turn_at bytes) (λ x0. number_field_in 1 (2 ^ 32 - 1) x0.1 >>= λ x1. Some (Exit x0.0.0 x0.0.1 x1.0, x1.1)) (line, rest) e in
+    let s1 = bind_some (number_field_in 1 (2 ^ 32 - 1) s0.0.1) (λ x1. Some (Exit s0.0.0.0 s0.0.0.1 x1.0, x1.1)) (line, rest) s0.2 in
+    let d = left_is (Exit s0.0.0.0 s0.0.0.1 s1.0.0) s1.0.1 line rest s1.2 in
     let t0 = turn_takes bytes s0.0.0.0 s0.0.0.1 s0.0.1 s0.1 in
     let t1 = in_takes 1 (2 ^ 32 - 1) s0.0.1 s1.0.0 s1.0.1 s1.1 in
-    let one : IsTail 69 (Exit s0.0.0.0 s0.0.0.1 s1.0.0) bytes = record { range = omega arith; first_is = refl; spelled = (t0.parts ∙ ap (λ (t : List ℕ). 32 ∷ decimal s0.0.0.0 ++ (32 ∷ decimal s0.0.0.1 ++ t)) (t1.0 ∙ ap (λ (t : List ℕ). 32 ∷ decimal s1.0.0 ++ t) d.empty)) } in
-    subst (λ (l : TraceLine). IsTail 69 l bytes) d.same one
+    let one : IsTail 69 (Exit s0.0.0.0 s0.0.0.1 s1.0.0) bytes rest = record { range = omega arith; first_is = refl; spelled = (t0.parts ∙ ap (λ (t : List ℕ). 32 ∷ decimal s0.0.0.0 ++ (32 ∷ decimal s0.0.0.1 ++ t)) (t1.0 ∙ ap (λ (t : List ℕ). 32 ∷ decimal s1.0.0 ++ t) d.rest_is)) } in
+    subst (λ (l : TraceLine). IsTail 69 l bytes rest) d.same one
 
-unwind_takes : (bytes : List ℕ) (line : TraceLine) → unwind_at bytes ≡ Some line → IsTail 88 line bytes
+unwind_takes : (bytes : List ℕ) (line : TraceLine) (rest : List ℕ) → unwind_at bytes ≡ Some (line, rest) → IsTail 88 line bytes rest
 unfolding unwind_at
-unwind_takes bytes line e =
-    let s0 = bind_some (turn_at bytes) (λ x0. number_field_in 1 (2 ^ 32 - 1) x0.1 >>= λ x1. number_field_in 1 (2 ^ 24 - 1) x1.1 >>= λ x2. done (Unwind x0.0.0 x0.0.1 x1.0 x2.0) x2.1) line e in
-    let s1 = bind_some (number_field_in 1 (2 ^ 32 - 1) s0.0.1) (λ x1. number_field_in 1 (2 ^ 24 - 1) x1.1 >>= λ x2. done (Unwind s0.0.0.0 s0.0.0.1 x1.0 x2.0) x2.1) line s0.2 in
-    let s2 = bind_some (number_field_in 1 (2 ^ 24 - 1) s1.0.1) (λ x2. done (Unwind s0.0.0.0 s0.0.0.1 s1.0.0 x2.0) x2.1) line s1.2 in
-    let d = done_is (Unwind s0.0.0.0 s0.0.0.1 s1.0.0 s2.0.0) s2.0.1 line s2.2 in
+unwind_takes bytes line rest e =
+    let s0 = bind_some (turn_at bytes) (λ x0. number_field_in 1 (2 ^ 32 - 1) x0.1 >>= λ x1. number_field_in 1 (2 ^ 24 - 1) x1.1 >>= λ x2. Some (Unwind x0.0.0 x0.0.1 x1.0 x2.0, x2.1)) (line, rest) e in
+    let s1 = bind_some (number_field_in 1 (2 ^ 32 - 1) s0.0.1) (λ x1. number_field_in 1 (2 ^ 24 - 1) x1.1 >>= λ x2. Some (Unwind s0.0.0.0 s0.0.0.1 x1.0 x2.0, x2.1)) (line, rest) s0.2 in
+    let s2 = bind_some (number_field_in 1 (2 ^ 24 - 1) s1.0.1) (λ x2. Some (Unwind s0.0.0.0 s0.0.0.1 s1.0.0 x2.0, x2.1)) (line, rest) s1.2 in
+    let d = left_is (Unwind s0.0.0.0 s0.0.0.1 s1.0.0 s2.0.0) s2.0.1 line rest s2.2 in
     let t0 = turn_takes bytes s0.0.0.0 s0.0.0.1 s0.0.1 s0.1 in
     let t1 = in_takes 1 (2 ^ 32 - 1) s0.0.1 s1.0.0 s1.0.1 s1.1 in
     let t2 = in_takes 1 (2 ^ 24 - 1) s1.0.1 s2.0.0 s2.0.1 s2.1 in
-    let one : IsTail 88 (Unwind s0.0.0.0 s0.0.0.1 s1.0.0 s2.0.0) bytes = record { range = omega arith; first_is = refl; spelled = (t0.parts ∙ ap (λ (t : List ℕ). 32 ∷ decimal s0.0.0.0 ++ (32 ∷ decimal s0.0.0.1 ++ t)) (t1.0 ∙ ap (λ (t : List ℕ). 32 ∷ decimal s1.0.0 ++ t) (t2.0 ∙ ap (λ (t : List ℕ). 32 ∷ decimal s2.0.0 ++ t) d.empty))) } in
-    subst (λ (l : TraceLine). IsTail 88 l bytes) d.same one
+    let one : IsTail 88 (Unwind s0.0.0.0 s0.0.0.1 s1.0.0 s2.0.0) bytes rest = record { range = omega arith; first_is = refl; spelled = (t0.parts ∙ ap (λ (t : List ℕ). 32 ∷ decimal s0.0.0.0 ++ (32 ∷ decimal s0.0.0.1 ++ t)) (t1.0 ∙ ap (λ (t : List ℕ). 32 ∷ decimal s1.0.0 ++ t) (t2.0 ∙ ap (λ (t : List ℕ). 32 ∷ decimal s2.0.0 ++ t) d.rest_is))) } in
+    subst (λ (l : TraceLine). IsTail 88 l bytes rest) d.same one
 
-flush_takes : (bytes : List ℕ) (line : TraceLine) → flush_at bytes ≡ Some line → IsTail 70 line bytes
+flush_takes : (bytes : List ℕ) (line : TraceLine) (rest : List ℕ) → flush_at bytes ≡ Some (line, rest) → IsTail 70 line bytes rest
 unfolding flush_at
-flush_takes bytes line e =
-    let s0 = bind_some (number_field_in 0 (2 ^ 40) bytes) (λ x0. number_field_in 0 (2 ^ 24 - 1) x0.1 >>= λ x1. done (Flush x0.0 x1.0) x1.1) line e in
-    let s1 = bind_some (number_field_in 0 (2 ^ 24 - 1) s0.0.1) (λ x1. done (Flush s0.0.0 x1.0) x1.1) line s0.2 in
-    let d = done_is (Flush s0.0.0 s1.0.0) s1.0.1 line s1.2 in
+flush_takes bytes line rest e =
+    let s0 = bind_some (number_field_in 0 (2 ^ 40) bytes) (λ x0. number_field_in 0 (2 ^ 24 - 1) x0.1 >>= λ x1. Some (Flush x0.0 x1.0, x1.1)) (line, rest) e in
+    let s1 = bind_some (number_field_in 0 (2 ^ 24 - 1) s0.0.1) (λ x1. Some (Flush s0.0.0 x1.0, x1.1)) (line, rest) s0.2 in
+    let d = left_is (Flush s0.0.0 s1.0.0) s1.0.1 line rest s1.2 in
     let t0 = in_takes 0 (2 ^ 40) bytes s0.0.0 s0.0.1 s0.1 in
     let t1 = in_takes 0 (2 ^ 24 - 1) s0.0.1 s1.0.0 s1.0.1 s1.1 in
-    let one : IsTail 70 (Flush s0.0.0 s1.0.0) bytes = record { range = omega arith; first_is = refl; spelled = (t0.0 ∙ ap (λ (t : List ℕ). 32 ∷ decimal s0.0.0 ++ t) (t1.0 ∙ ap (λ (t : List ℕ). 32 ∷ decimal s1.0.0 ++ t) d.empty)) } in
-    subst (λ (l : TraceLine). IsTail 70 l bytes) d.same one
+    let one : IsTail 70 (Flush s0.0.0 s1.0.0) bytes rest = record { range = omega arith; first_is = refl; spelled = (t0.0 ∙ ap (λ (t : List ℕ). 32 ∷ decimal s0.0.0 ++ t) (t1.0 ∙ ap (λ (t : List ℕ). 32 ∷ decimal s1.0.0 ++ t) d.rest_is)) } in
+    subst (λ (l : TraceLine). IsTail 70 l bytes rest) d.same one
 
-death_takes : (bytes : List ℕ) (line : TraceLine) → death_line_at bytes ≡ Some line → IsTail 68 line bytes
+death_takes : (bytes : List ℕ) (line : TraceLine) (rest : List ℕ) → death_line_at bytes ≡ Some (line, rest) → IsTail 68 line bytes rest
 unfolding death_line_at
-death_takes bytes line e =
-    let s0 = bind_some (number_field_in 1 (2 ^ 24 - 1) bytes) (λ x0. number_field_in 0 (2 ^ 40) x0.1 >>= λ x1. done (Death x0.0 x1.0) x1.1) line e in
-    let s1 = bind_some (number_field_in 0 (2 ^ 40) s0.0.1) (λ x1. done (Death s0.0.0 x1.0) x1.1) line s0.2 in
-    let d = done_is (Death s0.0.0 s1.0.0) s1.0.1 line s1.2 in
+death_takes bytes line rest e =
+    let s0 = bind_some (number_field_in 1 (2 ^ 24 - 1) bytes) (λ x0. number_field_in 0 (2 ^ 40) x0.1 >>= λ x1. Some (Death x0.0 x1.0, x1.1)) (line, rest) e in
+    let s1 = bind_some (number_field_in 0 (2 ^ 40) s0.0.1) (λ x1. Some (Death s0.0.0 x1.0, x1.1)) (line, rest) s0.2 in
+    let d = left_is (Death s0.0.0 s1.0.0) s1.0.1 line rest s1.2 in
     let t0 = in_takes 1 (2 ^ 24 - 1) bytes s0.0.0 s0.0.1 s0.1 in
     let t1 = in_takes 0 (2 ^ 40) s0.0.1 s1.0.0 s1.0.1 s1.1 in
-    let one : IsTail 68 (Death s0.0.0 s1.0.0) bytes = record { range = omega arith; first_is = refl; spelled = (t0.0 ∙ ap (λ (t : List ℕ). 32 ∷ decimal s0.0.0 ++ t) (t1.0 ∙ ap (λ (t : List ℕ). 32 ∷ decimal s1.0.0 ++ t) d.empty)) } in
-    subst (λ (l : TraceLine). IsTail 68 l bytes) d.same one
+    let one : IsTail 68 (Death s0.0.0 s1.0.0) bytes rest = record { range = omega arith; first_is = refl; spelled = (t0.0 ∙ ap (λ (t : List ℕ). 32 ∷ decimal s0.0.0 ++ t) (t1.0 ∙ ap (λ (t : List ℕ). 32 ∷ decimal s1.0.0 ++ t) d.rest_is)) } in
+    subst (λ (l : TraceLine). IsTail 68 l bytes rest) d.same one
 
-finish_takes : (bytes : List ℕ) (line : TraceLine) → finish_at bytes ≡ Some line → IsTail 90 line bytes
+finish_takes : (bytes : List ℕ) (line : TraceLine) (rest : List ℕ) → finish_at bytes ≡ Some (line, rest) → IsTail 90 line bytes rest
 unfolding finish_at
-finish_takes bytes line e =
-    let s0 = bind_some (number_field_in 0 (2 ^ 40) bytes) (λ x0. number_field_in 0 (3) x0.1 >>= λ x1. done (Finish x0.0 x1.0) x1.1) line e in
-    let s1 = bind_some (number_field_in 0 (3) s0.0.1) (λ x1. done (Finish s0.0.0 x1.0) x1.1) line s0.2 in
-    let d = done_is (Finish s0.0.0 s1.0.0) s1.0.1 line s1.2 in
+finish_takes bytes line rest e =
+    let s0 = bind_some (number_field_in 0 (2 ^ 40) bytes) (λ x0. number_field_in 0 (3) x0.1 >>= λ x1. Some (Finish x0.0 x1.0, x1.1)) (line, rest) e in
+    let s1 = bind_some (number_field_in 0 (3) s0.0.1) (λ x1. Some (Finish s0.0.0 x1.0, x1.1)) (line, rest) s0.2 in
+    let d = left_is (Finish s0.0.0 s1.0.0) s1.0.1 line rest s1.2 in
     let t0 = in_takes 0 (2 ^ 40) bytes s0.0.0 s0.0.1 s0.1 in
     let t1 = in_takes 0 (3) s0.0.1 s1.0.0 s1.0.1 s1.1 in
-    let one : IsTail 90 (Finish s0.0.0 s1.0.0) bytes = record { range = omega arith; first_is = refl; spelled = (t0.0 ∙ ap (λ (t : List ℕ). 32 ∷ decimal s0.0.0 ++ t) (t1.0 ∙ ap (λ (t : List ℕ). 32 ∷ decimal s1.0.0 ++ t) d.empty)) } in
-    subst (λ (l : TraceLine). IsTail 90 l bytes) d.same one
+    let one : IsTail 90 (Finish s0.0.0 s1.0.0) bytes rest = record { range = omega arith; first_is = refl; spelled = (t0.0 ∙ ap (λ (t : List ℕ). 32 ∷ decimal s0.0.0 ++ t) (t1.0 ∙ ap (λ (t : List ℕ). 32 ∷ decimal s1.0.0 ++ t) d.rest_is)) } in
+    subst (λ (l : TraceLine). IsTail 90 l bytes rest) d.same one
 
 -- each line in range is read again
 pub line_again : (line : TraceLine) → IsInRange 1 line → line_at (line_body line) ≡ Some line
-unfolding line_at header_line_at class_line_at method_line_at alloc_at update_at enter_at exit_at unwind_at flush_at death_line_at finish_at
+unfolding line_at front_at header_line_at class_line_at method_line_at alloc_at update_at enter_at exit_at unwind_at flush_at death_line_at finish_at
 line_again (Header v n) r =
     rw (in_again 1 (1) v (32 ∷ decimal n ++ []) (omega arith) (omega arith) (omega arith) refl, in_again 0 (2 ^ 40) n [] (omega arith) (omega arith) (omega arith) refl) refl
 line_again (Class number name) r =
@@ -234,46 +250,51 @@ line_again (Finish event how) r =
 body : (b letter : ℕ) (rest tail : List ℕ) → b ≡ letter → rest ≡ tail → b ∷ rest ≡ letter ∷ tail
 body b letter rest tail e f = ap (λ (x : ℕ). x ∷ rest) e ∙ ap (λ (t : List ℕ). letter ∷ t) f
 
-spelled_by : (b first : ℕ) (rest : List ℕ) (line : TraceLine) → eqb b first ≡ true → IsTail first line rest → IsLineSpelled line (b ∷ rest)
-spelled_by b first rest line e h = record { range = h.range; spelled = body b (letter line) rest (flat_map field_text (fields line)) (eqb-yes b first e ∙ h.first_is) h.spelled }
+-- the bytes are a line with these behind it
+pub record IsFront (line : TraceLine) (bytes rest : List ℕ) : Type 0 where
+  pub range : IsInRange 1 line
+  pub spelled : bytes ≡ letter line ∷ before (fields line) rest
 
--- what is read is spelled so
-pub line_takes : (bytes : List ℕ) (line : TraceLine) → line_at bytes ≡ Some line → IsLineSpelled line bytes
-unfolding line_at
-line_takes [] line e = absurd cc
-line_takes (b ∷ rest) line e =
-    elim (chosen (eqb b 72) (header_line_at rest) (cond (eqb b 67) (class_line_at rest) (cond (eqb b 78) (method_line_at rest) (cond (eqb b 65) (alloc_at rest) (cond (eqb b 85) (update_at rest) (cond (eqb b 77) (enter_at rest) (cond (eqb b 69) (exit_at rest) (cond (eqb b 88) (unwind_at rest) (cond (eqb b 70) (flush_at rest) (cond (eqb b 68) (death_line_at rest) (cond (eqb b 90) (finish_at rest) None)))))))))) (Some line) e) [
-      | inl z ↦ spelled_by b 72 rest line z.0 (header_takes rest line z.1)
+spelled_by : (b first : ℕ) (rest : List ℕ) (line : TraceLine) (left : List ℕ) → eqb b first ≡ true → IsTail first line rest left → IsFront line (b ∷ rest) left
+spelled_by b first rest line left e h = record { range = h.range; spelled = body b (letter line) rest (before (fields line) left) (eqb-yes b first e ∙ h.first_is) h.spelled }
+
+-- what is read at the front is spelled so
+front_takes : (bytes : List ℕ) (line : TraceLine) (left : List ℕ) → front_at bytes ≡ Some (line, left) → IsFront line bytes left
+unfolding front_at
+front_takes [] line left e = absurd cc
+front_takes (b ∷ rest) line left e =
+    elim (chosen (eqb b 72) (header_line_at rest) (cond (eqb b 67) (class_line_at rest) (cond (eqb b 78) (method_line_at rest) (cond (eqb b 65) (alloc_at rest) (cond (eqb b 85) (update_at rest) (cond (eqb b 77) (enter_at rest) (cond (eqb b 69) (exit_at rest) (cond (eqb b 88) (unwind_at rest) (cond (eqb b 70) (flush_at rest) (cond (eqb b 68) (death_line_at rest) (cond (eqb b 90) (finish_at rest) None)))))))))) (Some (line, left)) e) [
+      | inl z ↦ spelled_by b 72 rest line left z.0 (header_takes rest line left z.1)
       | inr z ↦
-          elim (chosen (eqb b 67) (class_line_at rest) (cond (eqb b 78) (method_line_at rest) (cond (eqb b 65) (alloc_at rest) (cond (eqb b 85) (update_at rest) (cond (eqb b 77) (enter_at rest) (cond (eqb b 69) (exit_at rest) (cond (eqb b 88) (unwind_at rest) (cond (eqb b 70) (flush_at rest) (cond (eqb b 68) (death_line_at rest) (cond (eqb b 90) (finish_at rest) None))))))))) (Some line) z.1) [
-            | inl z ↦ spelled_by b 67 rest line z.0 (class_takes rest line z.1)
+          elim (chosen (eqb b 67) (class_line_at rest) (cond (eqb b 78) (method_line_at rest) (cond (eqb b 65) (alloc_at rest) (cond (eqb b 85) (update_at rest) (cond (eqb b 77) (enter_at rest) (cond (eqb b 69) (exit_at rest) (cond (eqb b 88) (unwind_at rest) (cond (eqb b 70) (flush_at rest) (cond (eqb b 68) (death_line_at rest) (cond (eqb b 90) (finish_at rest) None))))))))) (Some (line, left)) z.1) [
+            | inl z ↦ spelled_by b 67 rest line left z.0 (class_takes rest line left z.1)
             | inr z ↦
-                elim (chosen (eqb b 78) (method_line_at rest) (cond (eqb b 65) (alloc_at rest) (cond (eqb b 85) (update_at rest) (cond (eqb b 77) (enter_at rest) (cond (eqb b 69) (exit_at rest) (cond (eqb b 88) (unwind_at rest) (cond (eqb b 70) (flush_at rest) (cond (eqb b 68) (death_line_at rest) (cond (eqb b 90) (finish_at rest) None)))))))) (Some line) z.1) [
-                  | inl z ↦ spelled_by b 78 rest line z.0 (method_takes rest line z.1)
+                elim (chosen (eqb b 78) (method_line_at rest) (cond (eqb b 65) (alloc_at rest) (cond (eqb b 85) (update_at rest) (cond (eqb b 77) (enter_at rest) (cond (eqb b 69) (exit_at rest) (cond (eqb b 88) (unwind_at rest) (cond (eqb b 70) (flush_at rest) (cond (eqb b 68) (death_line_at rest) (cond (eqb b 90) (finish_at rest) None)))))))) (Some (line, left)) z.1) [
+                  | inl z ↦ spelled_by b 78 rest line left z.0 (method_takes rest line left z.1)
                   | inr z ↦
-                      elim (chosen (eqb b 65) (alloc_at rest) (cond (eqb b 85) (update_at rest) (cond (eqb b 77) (enter_at rest) (cond (eqb b 69) (exit_at rest) (cond (eqb b 88) (unwind_at rest) (cond (eqb b 70) (flush_at rest) (cond (eqb b 68) (death_line_at rest) (cond (eqb b 90) (finish_at rest) None))))))) (Some line) z.1) [
-                        | inl z ↦ spelled_by b 65 rest line z.0 (alloc_takes rest line z.1)
+                      elim (chosen (eqb b 65) (alloc_at rest) (cond (eqb b 85) (update_at rest) (cond (eqb b 77) (enter_at rest) (cond (eqb b 69) (exit_at rest) (cond (eqb b 88) (unwind_at rest) (cond (eqb b 70) (flush_at rest) (cond (eqb b 68) (death_line_at rest) (cond (eqb b 90) (finish_at rest) None))))))) (Some (line, left)) z.1) [
+                        | inl z ↦ spelled_by b 65 rest line left z.0 (alloc_takes rest line left z.1)
                         | inr z ↦
-                            elim (chosen (eqb b 85) (update_at rest) (cond (eqb b 77) (enter_at rest) (cond (eqb b 69) (exit_at rest) (cond (eqb b 88) (unwind_at rest) (cond (eqb b 70) (flush_at rest) (cond (eqb b 68) (death_line_at rest) (cond (eqb b 90) (finish_at rest) None)))))) (Some line) z.1) [
-                              | inl z ↦ spelled_by b 85 rest line z.0 (update_takes rest line z.1)
+                            elim (chosen (eqb b 85) (update_at rest) (cond (eqb b 77) (enter_at rest) (cond (eqb b 69) (exit_at rest) (cond (eqb b 88) (unwind_at rest) (cond (eqb b 70) (flush_at rest) (cond (eqb b 68) (death_line_at rest) (cond (eqb b 90) (finish_at rest) None)))))) (Some (line, left)) z.1) [
+                              | inl z ↦ spelled_by b 85 rest line left z.0 (update_takes rest line left z.1)
                               | inr z ↦
-                                  elim (chosen (eqb b 77) (enter_at rest) (cond (eqb b 69) (exit_at rest) (cond (eqb b 88) (unwind_at rest) (cond (eqb b 70) (flush_at rest) (cond (eqb b 68) (death_line_at rest) (cond (eqb b 90) (finish_at rest) None))))) (Some line) z.1) [
-                                    | inl z ↦ spelled_by b 77 rest line z.0 (enter_takes rest line z.1)
+                                  elim (chosen (eqb b 77) (enter_at rest) (cond (eqb b 69) (exit_at rest) (cond (eqb b 88) (unwind_at rest) (cond (eqb b 70) (flush_at rest) (cond (eqb b 68) (death_line_at rest) (cond (eqb b 90) (finish_at rest) None))))) (Some (line, left)) z.1) [
+                                    | inl z ↦ spelled_by b 77 rest line left z.0 (enter_takes rest line left z.1)
                                     | inr z ↦
-                                        elim (chosen (eqb b 69) (exit_at rest) (cond (eqb b 88) (unwind_at rest) (cond (eqb b 70) (flush_at rest) (cond (eqb b 68) (death_line_at rest) (cond (eqb b 90) (finish_at rest) None)))) (Some line) z.1) [
-                                          | inl z ↦ spelled_by b 69 rest line z.0 (exit_takes rest line z.1)
+                                        elim (chosen (eqb b 69) (exit_at rest) (cond (eqb b 88) (unwind_at rest) (cond (eqb b 70) (flush_at rest) (cond (eqb b 68) (death_line_at rest) (cond (eqb b 90) (finish_at rest) None)))) (Some (line, left)) z.1) [
+                                          | inl z ↦ spelled_by b 69 rest line left z.0 (exit_takes rest line left z.1)
                                           | inr z ↦
-                                              elim (chosen (eqb b 88) (unwind_at rest) (cond (eqb b 70) (flush_at rest) (cond (eqb b 68) (death_line_at rest) (cond (eqb b 90) (finish_at rest) None))) (Some line) z.1) [
-                                                | inl z ↦ spelled_by b 88 rest line z.0 (unwind_takes rest line z.1)
+                                              elim (chosen (eqb b 88) (unwind_at rest) (cond (eqb b 70) (flush_at rest) (cond (eqb b 68) (death_line_at rest) (cond (eqb b 90) (finish_at rest) None))) (Some (line, left)) z.1) [
+                                                | inl z ↦ spelled_by b 88 rest line left z.0 (unwind_takes rest line left z.1)
                                                 | inr z ↦
-                                                    elim (chosen (eqb b 70) (flush_at rest) (cond (eqb b 68) (death_line_at rest) (cond (eqb b 90) (finish_at rest) None)) (Some line) z.1) [
-                                                      | inl z ↦ spelled_by b 70 rest line z.0 (flush_takes rest line z.1)
+                                                    elim (chosen (eqb b 70) (flush_at rest) (cond (eqb b 68) (death_line_at rest) (cond (eqb b 90) (finish_at rest) None)) (Some (line, left)) z.1) [
+                                                      | inl z ↦ spelled_by b 70 rest line left z.0 (flush_takes rest line left z.1)
                                                       | inr z ↦
-                                                          elim (chosen (eqb b 68) (death_line_at rest) (cond (eqb b 90) (finish_at rest) None) (Some line) z.1) [
-                                                            | inl z ↦ spelled_by b 68 rest line z.0 (death_takes rest line z.1)
+                                                          elim (chosen (eqb b 68) (death_line_at rest) (cond (eqb b 90) (finish_at rest) None) (Some (line, left)) z.1) [
+                                                            | inl z ↦ spelled_by b 68 rest line left z.0 (death_takes rest line left z.1)
                                                             | inr z ↦
-                                                                elim (chosen (eqb b 90) (finish_at rest) None (Some line) z.1) [
-                                                                  | inl z ↦ spelled_by b 90 rest line z.0 (finish_takes rest line z.1)
+                                                                elim (chosen (eqb b 90) (finish_at rest) None (Some (line, left)) z.1) [
+                                                                  | inl z ↦ spelled_by b 90 rest line left z.0 (finish_takes rest line left z.1)
                                                                   | inr z ↦ absurd (let f = z.1 in cc)
                                                                 ]
                                                           ]
@@ -286,6 +307,26 @@ line_takes (b ∷ rest) line e =
                 ]
           ]
     ]
+
+before_all : (fs : List SpelledField) (rest : List ℕ) → before fs rest ≡ flat_map field_text fs ++ rest
+before_all [] rest = refl
+before_all (f ∷ fs) rest = ap (λ (t : List ℕ). field_text f ++ t) (before_all fs rest) ∙ sym (append_assoc (field_text f) (flat_map field_text fs) rest)
+
+-- .. with what is left behind its body
+pub front_body : (bytes : List ℕ) (line : TraceLine) (left : List ℕ) → front_at bytes ≡ Some (line, left) → IsInRange 1 line × (bytes ≡ line_body line ++ left)
+front_body bytes line left e =
+    let h = front_takes bytes line left e in
+    (h.range, h.spelled ∙ ap (λ (t : List ℕ). letter line ∷ t) (before_all (fields line) left))
+
+-- what is read is spelled so
+pub line_takes : (bytes : List ℕ) (line : TraceLine) → line_at bytes ≡ Some line → IsLineSpelled line bytes
+unfolding line_at
+line_takes bytes line e =
+    let s = bind_some (front_at bytes) (λ x. done x.0 x.1) line e in
+    let d = done_is s.0.0 s.0.1 line s.2 in
+    let h = front_body bytes s.0.0 s.0.1 s.1 in
+    let one : IsLineSpelled s.0.0 bytes = record { range = h.0; spelled = h.1 ∙ (ap (λ (t : List ℕ). line_body s.0.0 ++ t) d.empty ∙ append-nil (line_body s.0.0)) } in
+    subst (λ (l : TraceLine). IsLineSpelled l bytes) d.same one
 
 -- one spelling is the spelling of one line
 pub one_line : (a b : TraceLine) (bytes : List ℕ) → IsLineSpelled a bytes → IsLineSpelled b bytes → a ≡ b

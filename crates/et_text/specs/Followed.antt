@@ -1,8 +1,9 @@
 -- Lines that are followed as they come. In each list of lines here the newest stands first.
-use Rattle.std.specs.Prelude.{◌≡◌, ℕ, ◌+◌, true, false, List, ◌∷◌, ◌++◌, length, reverse, Some, None}
+use Rattle.std.specs.Prelude.{◌≡◌, ℕ, ◌+◌, false, List, ◌∷◌, length, reverse, Some, None}
 use Rattle.et_base.specs.declared.line.TraceLine.{TraceLine}
 use Rattle.et_text.specs.Rules.{unended, has_ended, next_fault, AreFine}
-use Rattle.et_text.specs.Text.{IsLineSpelled, IsTextOf, IsReadTo, BreaksText, IsTraceFault}
+use Rattle.et_text.specs.Text.{IsOneLine, IsLineSpelled, IsTextOf, IsReadTo, BreaksText, IsTraceFault}
+use Rattle.et_text.specs.Stream.{FirstLine}
 use Rattle.et_text.specs.StandsFor.{StandsForLines}
 use Rattle.et_text.specs.declared.handing.Following.{Following}
 use Rattle.et_text.specs.declared.fault.TraceFault.{TraceFault}
@@ -50,6 +51,30 @@ pub record BreaksBytes (past : List TraceLine) (bytes : List ℕ) (kind number :
 abbrev pub RefusesBytesNext : List TraceLine → List ℕ → TraceFault → Type 0
 RefusesBytesNext past bytes faults.NoMemory = Unit {0}
 RefusesBytesNext past bytes (faults.At kind number) = BreaksBytes past bytes kind number
+
+-- THE FIRST LINE OF BYTES
+
+-- the first line breaks no rule, and the follower was handed it
+pub record FollowsFirst {F : Type 0} (follows : F → List TraceLine → Type 0) (new : Following F) (past : List TraceLine) (bytes behind : List ℕ) : Type 0 where
+  pub line : List ℕ
+  pub first : FirstLine bytes line behind
+  pub taken : FollowsBytes follows new past line
+
+-- no line is whole, and nothing was handed on
+pub record LeavesBytes {F : Type 0} (follows : F → List TraceLine → Type 0) (new : Following F) (past : List TraceLine) (bytes : List ℕ) : Type 0 where
+  pub one_line : IsOneLine bytes
+  pub kept : IsFollowed follows 1 new past
+
+-- the first line breaks a rule
+pub record BreaksFirst (past : List TraceLine) (bytes : List ℕ) (kind number : ℕ) : Type 0 where
+  pub line : List ℕ
+  pub behind : List ℕ
+  pub first : FirstLine bytes line behind
+  pub breaks : BreaksBytes past line kind number
+
+abbrev pub RefusesFirst : List TraceLine → List ℕ → TraceFault → Type 0
+RefusesFirst past bytes faults.NoMemory = Unit {0}
+RefusesFirst past bytes (faults.At kind number) = BreaksFirst past bytes kind number
 
 -- A WHOLE TEXT
 

@@ -86,85 +86,86 @@ turn_at bytes = do
   thread ← number_field_in 0 (thread_count - 1) event.1
   Some ((event.0, thread.0), thread.1)
 
-unfoldable pub header_line_at : List ℕ → Option TraceLine
+unfoldable pub header_line_at : List ℕ → Option (TraceLine × List ℕ)
 header_line_at bytes = do
   version ← number_field_in 1 1 bytes
   interval ← number_field_in 0 greatest_event version.1
-  done (Header version.0 interval.0) interval.1
+  Some (Header version.0 interval.0, interval.1)
 
-unfoldable pub class_line_at : List ℕ → Option TraceLine
+unfoldable pub class_line_at : List ℕ → Option (TraceLine × List ℕ)
 class_line_at bytes = do
   number ← number_field_in 1 (number_limit - 1) bytes
   name ← text_field_at number.1
-  done (Class number.0 name.0) name.1
+  Some (Class number.0 name.0, name.1)
 
-unfoldable pub method_line_at : List ℕ → Option TraceLine
+unfoldable pub method_line_at : List ℕ → Option (TraceLine × List ℕ)
 method_line_at bytes = do
   number ← number_field_in 1 (number_limit - 1) bytes
   class ← number_field_in 1 (number_limit - 1) number.1
   name ← text_field_at class.1
   descriptor ← text_field_at name.1
-  done (Method number.0 class.0 name.0 descriptor.0) descriptor.1
+  Some (Method number.0 class.0 name.0 descriptor.0, descriptor.1)
 
-unfoldable pub alloc_at : List ℕ → Option TraceLine
+unfoldable pub alloc_at : List ℕ → Option (TraceLine × List ℕ)
 alloc_at bytes = do
   turn ← turn_at bytes
   object ← number_field_in 1 (object_limit - 1) turn.1
   class ← number_field_in 1 (number_limit - 1) object.1
   size ← number_field_in least_size greatest_size class.1
   length ← number_field_in 0 greatest_length size.1
-  done (Alloc turn.0.0 turn.0.1 object.0 class.0 size.0 length.0) length.1
+  Some (Alloc turn.0.0 turn.0.1 object.0 class.0 size.0 length.0, length.1)
 
-unfoldable pub update_at : List ℕ → Option TraceLine
+unfoldable pub update_at : List ℕ → Option (TraceLine × List ℕ)
 update_at bytes = do
   turn ← turn_at bytes
   object ← number_field_in 0 (object_limit - 1) turn.1
   slot ← number_field_in 0 (slot_limit - 1) object.1
   old ← number_field_in 0 (object_limit - 1) slot.1
   new ← number_field_in 0 (object_limit - 1) old.1
-  done (Update turn.0.0 turn.0.1 object.0 slot.0 old.0 new.0) new.1
+  Some (Update turn.0.0 turn.0.1 object.0 slot.0 old.0 new.0, new.1)
 
-unfoldable pub enter_at : List ℕ → Option TraceLine
+unfoldable pub enter_at : List ℕ → Option (TraceLine × List ℕ)
 enter_at bytes = do
   turn ← turn_at bytes
   method ← number_field_in 1 (number_limit - 1) turn.1
   receiver ← number_field_in 0 (object_limit - 1) method.1
-  done (Enter turn.0.0 turn.0.1 method.0 receiver.0) receiver.1
+  Some (Enter turn.0.0 turn.0.1 method.0 receiver.0, receiver.1)
 
-unfoldable pub exit_at : List ℕ → Option TraceLine
+unfoldable pub exit_at : List ℕ → Option (TraceLine × List ℕ)
 exit_at bytes = do
   turn ← turn_at bytes
   method ← number_field_in 1 (number_limit - 1) turn.1
-  done (Exit turn.0.0 turn.0.1 method.0) method.1
+  Some (Exit turn.0.0 turn.0.1 method.0, method.1)
 
-unfoldable pub unwind_at : List ℕ → Option TraceLine
+unfoldable pub unwind_at : List ℕ → Option (TraceLine × List ℕ)
 unwind_at bytes = do
   turn ← turn_at bytes
   method ← number_field_in 1 (number_limit - 1) turn.1
   exception ← number_field_in 1 (object_limit - 1) method.1
-  done (Unwind turn.0.0 turn.0.1 method.0 exception.0) exception.1
+  Some (Unwind turn.0.0 turn.0.1 method.0 exception.0, exception.1)
 
-unfoldable pub flush_at : List ℕ → Option TraceLine
+unfoldable pub flush_at : List ℕ → Option (TraceLine × List ℕ)
 flush_at bytes = do
   event ← number_field_in 0 greatest_event bytes
   deaths ← number_field_in 0 (object_limit - 1) event.1
-  done (Flush event.0 deaths.0) deaths.1
+  Some (Flush event.0 deaths.0, deaths.1)
 
-unfoldable pub death_line_at : List ℕ → Option TraceLine
+unfoldable pub death_line_at : List ℕ → Option (TraceLine × List ℕ)
 death_line_at bytes = do
   object ← number_field_in 1 (object_limit - 1) bytes
   time ← number_field_in 0 greatest_event object.1
-  done (Death object.0 time.0) time.1
+  Some (Death object.0 time.0, time.1)
 
-unfoldable pub finish_at : List ℕ → Option TraceLine
+unfoldable pub finish_at : List ℕ → Option (TraceLine × List ℕ)
 finish_at bytes = do
   event ← number_field_in 0 greatest_event bytes
   how ← number_field_in 0 greatest_ending event.1
-  done (Finish event.0 how.0) how.1
+  Some (Finish event.0 how.0, how.1)
 
-unfoldable pub line_at : List ℕ → Option TraceLine
-line_at [] = None
-line_at (b ∷ rest) =
+-- a line at the front, and the bytes behind its fields
+unfoldable pub front_at : List ℕ → Option (TraceLine × List ℕ)
+front_at [] = None
+front_at (b ∷ rest) =
     if b == 72 then header_line_at rest
     else (if b == 67 then class_line_at rest
     else (if b == 78 then method_line_at rest
@@ -177,3 +178,9 @@ line_at (b ∷ rest) =
     else (if b == 68 then death_line_at rest
     else (if b == 90 then finish_at rest
     else None))))))))))
+
+-- a line, where nothing is left behind its fields
+unfoldable pub line_at : List ℕ → Option TraceLine
+line_at bytes = do
+  x ← front_at bytes
+  done x.0 x.1

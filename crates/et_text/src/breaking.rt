@@ -169,6 +169,7 @@ fn dies_once(s: &Standing, line: &TraceLine) -> bool
 }
 
 /// The kind of the first rule that the line breaks, but for names that are not new.
+#[inline(always)]
 pub fn fault_of(s: &Standing, line: &TraceLine) -> Option<u8>
     ensures { result ≡ fault_in s.now line.now }
 {

@@ -14,6 +14,7 @@ use et_base::{NoMemory, TraceLine};
 use std::alloc::Global;
 
 /// Notes the line, and says whether its names are new.
+#[inline(always)]
 fn note(alloc: Global, s: &mut Standing, line: &TraceLine) -> Result<bool, NoMemory>
     ensures { IfOk result (Notes s.old s.new line.now) }
 {
@@ -56,6 +57,7 @@ fn note(alloc: Global, s: &mut Standing, line: &TraceLine) -> Result<bool, NoMem
 }
 
 /// The kind of the first rule that the line breaks after those so far; where it breaks none, it is noted.
+#[inline(always)]
 pub fn follow(alloc: Global, s: &mut Standing, line: &TraceLine) -> Result<Option<u8>, NoMemory>
     ensures { (version : ℕ) (past : List TraceLine) →
         IfOk result (λ found. Follows s.old s.new version past line.now found) }

@@ -53,26 +53,27 @@ impl<F: Follower> Following<F> {
 
     /// Hands the next line on, or says which rule it is the first to break, as `Rules::take` does. After an error it may only
     /// be dropped. More lines than 2^64 - 2 are as memory that ran out.
-    pub fn take(&mut self, line: TraceLine) -> Result<(), TraceFault>
+    #[inline(always)]
+    pub fn take(&mut self, line: &TraceLine) -> Result<(), TraceFault>
         requires range { (version : ℕ) × (past : List TraceLine)
-            × IsFollowed F.follows version self.old past × IsInRange version line }
+            × IsFollowed F.follows version self.old past × IsInRange version line.now }
         ensures ok { (version : ℕ) (past : List TraceLine) →
-            IsFollowed F.follows version self.old past → IsInRange version line →
-            OnOk result (IsLineFollowed F.follows version self.new past line) }
+            IsFollowed F.follows version self.old past → IsInRange version line.now →
+            OnOk result (IsLineFollowed F.follows version self.new past line.now) }
         ensures err { (version : ℕ) (past : List TraceLine) →
-            IsFollowed F.follows version self.old past → IsInRange version line →
-            IfErr result (RefusesNext past line) }
+            IsFollowed F.follows version self.old past → IsInRange version line.now →
+            IfErr result (RefusesNext past line.now) }
     {
         let Some(next) = self.number.checked_add(1) else {
             return Err(TraceFault::NoMemory);
         };
-        match follow(self.alloc, &mut self.standing, &line)? {
+        match follow(self.alloc, &mut self.standing, line)? {
             Some(kind) => Err(TraceFault::At {
                 kind,
                 line: self.number,
             }),
             None => {
-                self.follower.line(&line)?;
+                self.follower.line(line)?;
                 self.number = next;
                 Ok(())
             }

@@ -74,6 +74,7 @@ pub fn note_finish(s: &mut Standing)
     s.ended = true;
 }
 
+#[inline(never)]
 pub fn note_class(
     alloc: Global,
     s: &mut Standing,
@@ -88,6 +89,7 @@ pub fn note_class(
     Ok(added)
 }
 
+#[inline(never)]
 pub fn note_method(
     alloc: Global,
     s: &mut Standing,
@@ -104,6 +106,7 @@ pub fn note_method(
     Ok(added)
 }
 
+#[inline(always)]
 pub fn note_object(s: &mut Standing, event: u64) -> Result<(), NoMemory>
     ensures { OnOk result (NotesObject s.old s.new event) }
 {

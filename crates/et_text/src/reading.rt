@@ -1,8 +1,11 @@
 //! Reading a line, from left to right.
 ghost use Rattle.std.specs.Prelude.{◌≡◌, ℕ, ◌-◌, ◌<◌, ◌≤◌, ◌^◌, List, length, IfOk, IsErrOf};
 ghost use Rattle.et_base.specs.declared.line.TraceLine.{TraceLine};
+ghost use Rattle.et_text.specs.Ranges.{IsInRange};
+ghost use Rattle.et_text.specs.Spelling.{line_body};
+ghost use Rattle.et_text.specs.Stream.{FirstLine};
 ghost use Rattle.et_text.specs.Text.{IsLineSpelled};
-ghost use Rattle.et_text.specs.Reading.{GivesWhereRead, number_after, digits_at, number_field_at, number_field_in, hex_value, escaped_at, byte_at, is_break, name_bytes_at, text_field_at, done, turn_at, header_line_at, class_line_at, method_line_at, alloc_at, update_at, enter_at, exit_at, unwind_at, flush_at, death_line_at, finish_at, line_at};
+ghost use Rattle.et_text.specs.Reading.{GivesWhereRead, number_after, digits_at, number_field_at, number_field_in, hex_value, escaped_at, byte_at, is_break, name_bytes_at, text_field_at, done, turn_at, header_line_at, class_line_at, method_line_at, alloc_at, update_at, enter_at, exit_at, unwind_at, flush_at, death_line_at, finish_at, front_at, line_at};
 ghost use Rattle.et_base.specs.Digits.{is_digit};
 
 use crate::fault::LineError;
@@ -231,6 +234,7 @@ fn done(line: TraceLine, rest: &[u8]) -> Result<TraceLine, LineError>
 
 /// An event and a thread.
 #[tactic(auto, unfolding(crate::specs::Reading::turn_at))]
+#[inline(always)]
 fn turn_at(bytes: &[u8]) -> Result<((u64, u8), &[u8]), LineError>
     ensures { GivesWhereRead (λ x. (x.0, x.1.now)) result (turn_at bytes.now) }
 {
@@ -240,28 +244,30 @@ fn turn_at(bytes: &[u8]) -> Result<((u64, u8), &[u8]), LineError>
 }
 
 #[tactic(auto, unfolding(crate::specs::Reading::header_line_at))]
-fn header_at(bytes: &[u8]) -> Result<TraceLine, LineError>
-    ensures { GivesWhereRead (λ x. x) result (header_line_at bytes.now) }
+fn header_at(bytes: &[u8]) -> Result<(TraceLine, &[u8]), LineError>
+    ensures { GivesWhereRead (λ x. (x.0, x.1.now)) result (header_line_at bytes.now) }
 {
     let (version, rest) = u32_in(1, 1, bytes)?;
     let (interval, rest) = number_in(0, GREATEST_EVENT, rest)?;
     let line = TraceLine::Header { version, interval };
-    done(line, rest)
+    Ok((line, rest))
 }
 
 #[tactic(auto, unfolding(crate::specs::Reading::class_line_at))]
-fn class_at(alloc: Global, bytes: &[u8]) -> Result<TraceLine, LineError>
-    ensures { GivesWhereRead (λ x. x) result (class_line_at bytes.now) }
+#[inline(never)]
+fn class_at(alloc: Global, bytes: &[u8]) -> Result<(TraceLine, &[u8]), LineError>
+    ensures { GivesWhereRead (λ x. (x.0, x.1.now)) result (class_line_at bytes.now) }
 {
     let (number, rest) = u32_in(1, GREATEST_NUMBER, bytes)?;
     let (name, rest) = text_at(alloc, rest)?;
     let line = TraceLine::Class { number, name };
-    done(line, rest)
+    Ok((line, rest))
 }
 
 #[tactic(auto, unfolding(crate::specs::Reading::method_line_at))]
-fn method_at(alloc: Global, bytes: &[u8]) -> Result<TraceLine, LineError>
-    ensures { GivesWhereRead (λ x. x) result (method_line_at bytes.now) }
+#[inline(never)]
+fn method_at(alloc: Global, bytes: &[u8]) -> Result<(TraceLine, &[u8]), LineError>
+    ensures { GivesWhereRead (λ x. (x.0, x.1.now)) result (method_line_at bytes.now) }
 {
     let (number, rest) = u32_in(1, GREATEST_NUMBER, bytes)?;
     let (class, rest) = u32_in(1, GREATEST_NUMBER, rest)?;
@@ -273,12 +279,12 @@ fn method_at(alloc: Global, bytes: &[u8]) -> Result<TraceLine, LineError>
         name,
         descriptor,
     };
-    done(line, rest)
+    Ok((line, rest))
 }
 
 #[tactic(auto, unfolding(crate::specs::Reading::alloc_at))]
-fn alloc_at(bytes: &[u8]) -> Result<TraceLine, LineError>
-    ensures { GivesWhereRead (λ x. x) result (alloc_at bytes.now) }
+fn alloc_at(bytes: &[u8]) -> Result<(TraceLine, &[u8]), LineError>
+    ensures { GivesWhereRead (λ x. (x.0, x.1.now)) result (alloc_at bytes.now) }
 {
     let ((event, thread), rest) = turn_at(bytes)?;
     let (object, rest) = u32_in(1, GREATEST_OBJECT, rest)?;
@@ -293,12 +299,12 @@ fn alloc_at(bytes: &[u8]) -> Result<TraceLine, LineError>
         size,
         length,
     };
-    done(line, rest)
+    Ok((line, rest))
 }
 
 #[tactic(auto, unfolding(crate::specs::Reading::update_at))]
-fn update_at(bytes: &[u8]) -> Result<TraceLine, LineError>
-    ensures { GivesWhereRead (λ x. x) result (update_at bytes.now) }
+fn update_at(bytes: &[u8]) -> Result<(TraceLine, &[u8]), LineError>
+    ensures { GivesWhereRead (λ x. (x.0, x.1.now)) result (update_at bytes.now) }
 {
     let ((event, thread), rest) = turn_at(bytes)?;
     let (object, rest) = u32_in(0, GREATEST_OBJECT, rest)?;
@@ -313,12 +319,12 @@ fn update_at(bytes: &[u8]) -> Result<TraceLine, LineError>
         old,
         new,
     };
-    done(line, rest)
+    Ok((line, rest))
 }
 
 #[tactic(auto, unfolding(crate::specs::Reading::enter_at))]
-fn enter_at(bytes: &[u8]) -> Result<TraceLine, LineError>
-    ensures { GivesWhereRead (λ x. x) result (enter_at bytes.now) }
+fn enter_at(bytes: &[u8]) -> Result<(TraceLine, &[u8]), LineError>
+    ensures { GivesWhereRead (λ x. (x.0, x.1.now)) result (enter_at bytes.now) }
 {
     let ((event, thread), rest) = turn_at(bytes)?;
     let (method, rest) = u32_in(1, GREATEST_NUMBER, rest)?;
@@ -329,12 +335,12 @@ fn enter_at(bytes: &[u8]) -> Result<TraceLine, LineError>
         method,
         receiver,
     };
-    done(line, rest)
+    Ok((line, rest))
 }
 
 #[tactic(auto, unfolding(crate::specs::Reading::exit_at))]
-fn exit_at(bytes: &[u8]) -> Result<TraceLine, LineError>
-    ensures { GivesWhereRead (λ x. x) result (exit_at bytes.now) }
+fn exit_at(bytes: &[u8]) -> Result<(TraceLine, &[u8]), LineError>
+    ensures { GivesWhereRead (λ x. (x.0, x.1.now)) result (exit_at bytes.now) }
 {
     let ((event, thread), rest) = turn_at(bytes)?;
     let (method, rest) = u32_in(1, GREATEST_NUMBER, rest)?;
@@ -343,12 +349,12 @@ fn exit_at(bytes: &[u8]) -> Result<TraceLine, LineError>
         thread,
         method,
     };
-    done(line, rest)
+    Ok((line, rest))
 }
 
 #[tactic(auto, unfolding(crate::specs::Reading::unwind_at))]
-fn unwind_at(bytes: &[u8]) -> Result<TraceLine, LineError>
-    ensures { GivesWhereRead (λ x. x) result (unwind_at bytes.now) }
+fn unwind_at(bytes: &[u8]) -> Result<(TraceLine, &[u8]), LineError>
+    ensures { GivesWhereRead (λ x. (x.0, x.1.now)) result (unwind_at bytes.now) }
 {
     let ((event, thread), rest) = turn_at(bytes)?;
     let (method, rest) = u32_in(1, GREATEST_NUMBER, rest)?;
@@ -359,43 +365,43 @@ fn unwind_at(bytes: &[u8]) -> Result<TraceLine, LineError>
         method,
         exception,
     };
-    done(line, rest)
+    Ok((line, rest))
 }
 
 #[tactic(auto, unfolding(crate::specs::Reading::flush_at))]
-fn flush_at(bytes: &[u8]) -> Result<TraceLine, LineError>
-    ensures { GivesWhereRead (λ x. x) result (flush_at bytes.now) }
+fn flush_at(bytes: &[u8]) -> Result<(TraceLine, &[u8]), LineError>
+    ensures { GivesWhereRead (λ x. (x.0, x.1.now)) result (flush_at bytes.now) }
 {
     let (event, rest) = number_in(0, GREATEST_EVENT, bytes)?;
     let (deaths, rest) = u32_in(0, GREATEST_OBJECT, rest)?;
     let line = TraceLine::Flush { event, deaths };
-    done(line, rest)
+    Ok((line, rest))
 }
 
 #[tactic(auto, unfolding(crate::specs::Reading::death_line_at))]
-fn death_at(bytes: &[u8]) -> Result<TraceLine, LineError>
-    ensures { GivesWhereRead (λ x. x) result (death_line_at bytes.now) }
+fn death_at(bytes: &[u8]) -> Result<(TraceLine, &[u8]), LineError>
+    ensures { GivesWhereRead (λ x. (x.0, x.1.now)) result (death_line_at bytes.now) }
 {
     let (object, rest) = u32_in(1, GREATEST_OBJECT, bytes)?;
     let (time, rest) = number_in(0, GREATEST_EVENT, rest)?;
     let line = TraceLine::Death { object, time };
-    done(line, rest)
+    Ok((line, rest))
 }
 
 #[tactic(auto, unfolding(crate::specs::Reading::finish_at))]
-fn finish_at(bytes: &[u8]) -> Result<TraceLine, LineError>
-    ensures { GivesWhereRead (λ x. x) result (finish_at bytes.now) }
+fn finish_at(bytes: &[u8]) -> Result<(TraceLine, &[u8]), LineError>
+    ensures { GivesWhereRead (λ x. (x.0, x.1.now)) result (finish_at bytes.now) }
 {
     let (event, rest) = number_in(0, GREATEST_EVENT, bytes)?;
     let (how, rest) = u8_in(GREATEST_ENDING, rest)?;
     let line = TraceLine::Finish { event, how };
-    done(line, rest)
+    Ok((line, rest))
 }
 
-/// The line that the bytes of a line, without their LF, are.
-#[tactic(auto, unfolding(crate::specs::Reading::line_at))]
-fn line_at(alloc: Global, bytes: &[u8]) -> Result<TraceLine, LineError>
-    ensures { GivesWhereRead (λ x. x) result (line_at bytes.now) }
+/// The line at the front, and the bytes behind its fields.
+#[tactic(auto, unfolding(crate::specs::Reading::front_at))]
+fn front_at(alloc: Global, bytes: &[u8]) -> Result<(TraceLine, &[u8]), LineError>
+    ensures { GivesWhereRead (λ x. (x.0, x.1.now)) result (front_at bytes.now) }
 {
     let [letter, rest @ ..] = bytes else {
         return Err(LineError::Form);
@@ -416,6 +422,15 @@ fn line_at(alloc: Global, bytes: &[u8]) -> Result<TraceLine, LineError>
     }
 }
 
+/// The line that the bytes of a line, without their LF, are.
+#[tactic(auto, unfolding(crate::specs::Reading::line_at))]
+fn line_at(alloc: Global, bytes: &[u8]) -> Result<TraceLine, LineError>
+    ensures { GivesWhereRead (λ x. x) result (line_at bytes.now) }
+{
+    let (line, rest) = front_at(alloc, bytes)?;
+    done(line, rest)
+}
+
 /// The line whose spelling, but for the LF at its end, the bytes are. `Form` comes exactly where no line has this
 /// spelling: the letter, the number of fields, their ranges, a leading zero or the escape of a byte that is not
 /// escaped. It takes memory for names and descriptors alone.
@@ -425,4 +440,21 @@ pub fn read_line(alloc: Global, bytes: &[u8]) -> Result<TraceLine, LineError>
         (line : TraceLine) → IsLineSpelled line bytes.now → ⊥ }
 {
     line_at(alloc, bytes)
+}
+
+/// The first line, where it has a spelling, and the bytes behind its LF. `Form` says nothing of the bytes: `read_line` tells
+/// whether their first line is none. A line with a name is always left to it.
+#[inline(always)]
+pub fn read_front(alloc: Global, bytes: &[u8]) -> Result<(TraceLine, &[u8]), LineError>
+    ensures range { IfOk result (λ x. IsInRange 1 x.0) }
+    ensures first { IfOk result (λ x. FirstLine bytes.now (line_body x.0) x.1.now) }
+{
+    let (line, rest) = front_at(alloc, bytes)?;
+    let [b, behind @ ..] = rest else {
+        return Err(LineError::Form);
+    };
+    if *b != b'\n' {
+        return Err(LineError::Form);
+    }
+    Ok((line, behind))
 }

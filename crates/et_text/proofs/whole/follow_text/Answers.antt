@@ -8,4 +8,4 @@ lines-init g c = record { past = []; followed = c.begin-lines.ensures 1 c.requir
 pub lines-preserved : goal.lines-preserved
 lines-preserved g c =
     let h = c.lines.invariant in
-    followed_on g.F.Follower.follows c.lines.lines c.take_bytes.new.lines c.in-Some.line.now c.in-Some.behind.now c.lines.rest.now c.args.bytes.now h c.in-Some.ensures.found.parts (c.in_ok-take_bytes.ensures.ok h.past h.followed)
+    followed_on g.F.Follower.follows c.lines.lines c.take_first.new.lines c.in-Some.behind.now c.lines.rest.now c.args.bytes.now h (rw c.in-Some.is at (c.in_ok-behind.ensures.some h.past h.followed))
