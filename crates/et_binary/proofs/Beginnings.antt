@@ -1,6 +1,7 @@
 -- A record at the front of bytes: what is read is packed so, and what is packed is read.
-use Rattle.std.proofs.Common.{◌≡◌, ℕ, suc, ◌≤◌, Bool, true, false, cond, ◌||◌, eqb, List, [], ◌∷◌, ◌++◌, length, get_or, Option, Some, None, refl, sym, ap, subst, ◌∙◌, arith, inl, inr}
+use Rattle.std.proofs.Common.{◌≡◌, ℕ, suc, ◌-◌, ◌≤◌, Bool, true, false, cond, ◌||◌, eqb, List, [], ◌∷◌, ◌++◌, length, take, drop, get_or, Option, Some, None, refl, sym, ap, subst, ◌∙◌, arith, inl, inr}
 use Rattle.std.specs.Prelude.{◌⊎◌, option_map}
+use Rattle.std.proofs.lemmas.List.{take_rest}
 use Rattle.std.specs.List.{flat_map, AllByRecursion}
 use Rattle.et_base.specs.Numbers.{AreBytes}
 use Rattle.et_base.specs.declared.line.TraceLine.{TraceLine}
@@ -188,3 +189,18 @@ none_by bytes (Some x) e fits u = absurd (begun_is_whole x.0 x.1 bytes (front_ta
 
 pub unfinished_is_none : (bytes : List ℕ) → AreBytes bytes → IsUnfinished bytes → record_front bytes ≡ None
 unfinished_is_none bytes fits u = none_by bytes (record_front bytes) refl fits u
+
+-- of a name that is not whole no memory was taken
+pub class_unread : (bytes : List ℕ) → 1 ≤ length bytes → get_or bytes 0 0 ≡ 67 → record_front bytes ≡ None → class_front (take (length bytes - 1) (drop 1 bytes)) ≡ None
+unfolding record_front
+class_unread [] le e n = absurd (omega (arith, le))
+class_unread (b ∷ rest) le e n =
+    let is : class_front rest ≡ None = subst (λ (x : ℕ). record_front (x ∷ rest) ≡ None) e n in
+    subst (λ (t : List ℕ). class_front t ≡ None) (sym (take_rest (b ∷ rest) 1)) is
+
+pub method_unread : (bytes : List ℕ) → 1 ≤ length bytes → get_or bytes 0 0 ≡ 78 → record_front bytes ≡ None → method_front (take (length bytes - 1) (drop 1 bytes)) ≡ None
+unfolding record_front
+method_unread [] le e n = absurd (omega (arith, le))
+method_unread (b ∷ rest) le e n =
+    let is : method_front rest ≡ None = subst (λ (x : ℕ). record_front (x ∷ rest) ≡ None) e n in
+    subst (λ (t : List ℕ). method_front t ≡ None) (sym (take_rest (b ∷ rest) 1)) is

@@ -1,13 +1,14 @@
-//! A record at the front of bytes. `None` says that it is not whole.
+//! The fields of a record behind its letter, whose numbers may be out of their ranges, and the bytes behind them. `None` says that they
+//! are not whole. They take memory for a name only once the name is there.
 ghost use Rattle.std.specs.Prelude.{◌≡◌, option_map, None, IfOk, IsOk};
-ghost use Rattle.et_binary.specs.Fronts.{header_front, class_front, method_front, alloc_front, update_front, enter_front, exit_front, unwind_front, flush_front, death_front, finish_front, record_front};
+ghost use Rattle.et_binary.specs.Fronts.{header_front, class_front, method_front, alloc_front, update_front, enter_front, exit_front, unwind_front, flush_front, death_front, finish_front};
 
 use crate::fields::{name_front, turn_front, u8_front, u32_front, u64_front};
 use et_base::{Name, NoMemory, TraceLine};
 use std::alloc::Global;
 
 #[tactic(auto, unfolding(crate::specs::Fronts::header_front))]
-fn header_front(bytes: &[u8]) -> Option<(TraceLine, &[u8])>
+pub fn header_front(bytes: &[u8]) -> Option<(TraceLine, &[u8])>
     ensures { option_map (λ x. (x.0, x.1.now)) result ≡ header_front bytes.now }
 {
     let (interval, rest) = u64_front(bytes)?;
@@ -19,7 +20,7 @@ fn header_front(bytes: &[u8]) -> Option<(TraceLine, &[u8])>
 }
 
 #[tactic(auto, unfolding(crate::specs::Fronts::class_front))]
-fn class_front(alloc: Global, bytes: &[u8]) -> Result<Option<(TraceLine, &[u8])>, NoMemory>
+pub fn class_front(alloc: Global, bytes: &[u8]) -> Result<Option<(TraceLine, &[u8])>, NoMemory>
     ensures gives { IfOk result (λ found.
         option_map (λ x. (x.0, x.1.now)) found ≡ class_front bytes.now) }
     ensures early { class_front bytes.now ≡ None → IsOk result }
@@ -35,7 +36,7 @@ fn class_front(alloc: Global, bytes: &[u8]) -> Result<Option<(TraceLine, &[u8])>
 }
 
 #[tactic(auto, unfolding(crate::specs::Fronts::method_front))]
-fn method_front(alloc: Global, bytes: &[u8]) -> Result<Option<(TraceLine, &[u8])>, NoMemory>
+pub fn method_front(alloc: Global, bytes: &[u8]) -> Result<Option<(TraceLine, &[u8])>, NoMemory>
     ensures gives { IfOk result (λ found.
         option_map (λ x. (x.0, x.1.now)) found ≡ method_front bytes.now) }
     ensures early { method_front bytes.now ≡ None → IsOk result }
@@ -62,7 +63,7 @@ fn method_front(alloc: Global, bytes: &[u8]) -> Result<Option<(TraceLine, &[u8])
 }
 
 #[tactic(auto, unfolding(crate::specs::Fronts::alloc_front))]
-fn alloc_front(bytes: &[u8]) -> Option<(TraceLine, &[u8])>
+pub fn alloc_front(bytes: &[u8]) -> Option<(TraceLine, &[u8])>
     ensures { option_map (λ x. (x.0, x.1.now)) result ≡ alloc_front bytes.now }
 {
     let ((event, thread), rest) = turn_front(bytes)?;
@@ -82,7 +83,7 @@ fn alloc_front(bytes: &[u8]) -> Option<(TraceLine, &[u8])>
 }
 
 #[tactic(auto, unfolding(crate::specs::Fronts::update_front))]
-fn update_front(bytes: &[u8]) -> Option<(TraceLine, &[u8])>
+pub fn update_front(bytes: &[u8]) -> Option<(TraceLine, &[u8])>
     ensures { option_map (λ x. (x.0, x.1.now)) result ≡ update_front bytes.now }
 {
     let ((event, thread), rest) = turn_front(bytes)?;
@@ -102,7 +103,7 @@ fn update_front(bytes: &[u8]) -> Option<(TraceLine, &[u8])>
 }
 
 #[tactic(auto, unfolding(crate::specs::Fronts::enter_front))]
-fn enter_front(bytes: &[u8]) -> Option<(TraceLine, &[u8])>
+pub fn enter_front(bytes: &[u8]) -> Option<(TraceLine, &[u8])>
     ensures { option_map (λ x. (x.0, x.1.now)) result ≡ enter_front bytes.now }
 {
     let ((event, thread), rest) = turn_front(bytes)?;
@@ -118,7 +119,7 @@ fn enter_front(bytes: &[u8]) -> Option<(TraceLine, &[u8])>
 }
 
 #[tactic(auto, unfolding(crate::specs::Fronts::exit_front))]
-fn exit_front(bytes: &[u8]) -> Option<(TraceLine, &[u8])>
+pub fn exit_front(bytes: &[u8]) -> Option<(TraceLine, &[u8])>
     ensures { option_map (λ x. (x.0, x.1.now)) result ≡ exit_front bytes.now }
 {
     let ((event, thread), rest) = turn_front(bytes)?;
@@ -132,7 +133,7 @@ fn exit_front(bytes: &[u8]) -> Option<(TraceLine, &[u8])>
 }
 
 #[tactic(auto, unfolding(crate::specs::Fronts::unwind_front))]
-fn unwind_front(bytes: &[u8]) -> Option<(TraceLine, &[u8])>
+pub fn unwind_front(bytes: &[u8]) -> Option<(TraceLine, &[u8])>
     ensures { option_map (λ x. (x.0, x.1.now)) result ≡ unwind_front bytes.now }
 {
     let ((event, thread), rest) = turn_front(bytes)?;
@@ -148,7 +149,7 @@ fn unwind_front(bytes: &[u8]) -> Option<(TraceLine, &[u8])>
 }
 
 #[tactic(auto, unfolding(crate::specs::Fronts::flush_front))]
-fn flush_front(bytes: &[u8]) -> Option<(TraceLine, &[u8])>
+pub fn flush_front(bytes: &[u8]) -> Option<(TraceLine, &[u8])>
     ensures { option_map (λ x. (x.0, x.1.now)) result ≡ flush_front bytes.now }
 {
     let (event, rest) = u64_front(bytes)?;
@@ -157,7 +158,7 @@ fn flush_front(bytes: &[u8]) -> Option<(TraceLine, &[u8])>
 }
 
 #[tactic(auto, unfolding(crate::specs::Fronts::death_front))]
-fn death_front(bytes: &[u8]) -> Option<(TraceLine, &[u8])>
+pub fn death_front(bytes: &[u8]) -> Option<(TraceLine, &[u8])>
     ensures { option_map (λ x. (x.0, x.1.now)) result ≡ death_front bytes.now }
 {
     let (object, rest) = u32_front(bytes)?;
@@ -166,37 +167,10 @@ fn death_front(bytes: &[u8]) -> Option<(TraceLine, &[u8])>
 }
 
 #[tactic(auto, unfolding(crate::specs::Fronts::finish_front))]
-fn finish_front(bytes: &[u8]) -> Option<(TraceLine, &[u8])>
+pub fn finish_front(bytes: &[u8]) -> Option<(TraceLine, &[u8])>
     ensures { option_map (λ x. (x.0, x.1.now)) result ≡ finish_front bytes.now }
 {
     let (event, rest) = u64_front(bytes)?;
     let (how, rest) = u8_front(rest)?;
     Some((TraceLine::Finish { event, how }, rest))
-}
-
-/// A record whose numbers may be out of their ranges, and the bytes behind it. It takes memory for a name only once the name
-/// is there.
-#[tactic(auto, unfolding(crate::specs::Fronts::record_front))]
-pub fn record_front(alloc: Global, bytes: &[u8]) -> Result<Option<(TraceLine, &[u8])>, NoMemory>
-    ensures gives { IfOk result (λ found.
-        option_map (λ x. (x.0, x.1.now)) found ≡ record_front bytes.now) }
-    ensures early { record_front bytes.now ≡ None → IsOk result }
-{
-    let [letter, rest @ ..] = bytes else {
-        return Ok(None);
-    };
-    match *letter {
-        b'H' => Ok(header_front(rest)),
-        b'C' => class_front(alloc, rest),
-        b'N' => method_front(alloc, rest),
-        b'A' => Ok(alloc_front(rest)),
-        b'U' => Ok(update_front(rest)),
-        b'M' => Ok(enter_front(rest)),
-        b'E' => Ok(exit_front(rest)),
-        b'X' => Ok(unwind_front(rest)),
-        b'F' => Ok(flush_front(rest)),
-        b'D' => Ok(death_front(rest)),
-        b'Z' => Ok(finish_front(rest)),
-        _ => Ok(None),
-    }
 }

@@ -1,37 +1,72 @@
 //! The records at the front of bytes.
-ghost use Rattle.std.specs.Prelude.{◌≡◌, reverse, true, None, IfSome, IfNone, IfOk, IfErr, IsOk, IsErrOf};
+ghost use Rattle.std.specs.Prelude.{◌≡◌, ◌<◌, length, slice_index, option_map, reverse, true, None, IfSome, IfNone, IfOk, IfErr, IsOk, IsErrOf};
+ghost use Rattle.et_binary.specs.Fronts.{is_record_letter, record_front};
 ghost use Rattle.et_text.specs.Rules.{AreFine};
 ghost use Rattle.et_binary.specs.Packs.{IsMalformed, IsUnfinished};
 ghost use Rattle.et_binary.specs.Unpacking.{IsFront, TakesRecord, LeavesRecord, RefusesFront, TakesAll, MayGoOn, ShowsIn, unpacked_bytes};
 
-use crate::fronts::record_front;
+use crate::fronts::{
+    alloc_front, class_front, death_front, enter_front, exit_front, finish_front, flush_front,
+    header_front, method_front, unwind_front, update_front,
+};
 use crate::ranges::{OPENING, is_in_range, is_record_letter, may_open};
 use et_base::TraceLine;
 use et_text::{AFTER, FORM, LineError, Rules, TraceFault};
 use std::alloc::Global;
 
-/// The line of the first record, and the bytes behind the record. `None` says that no record is whole, and `Form` that the
-/// letter is none of the table, or that the record is whole and one of its numbers is out of its range or a name is empty. It
-/// takes no memory where no record is whole.
-pub fn read_record(alloc: Global, bytes: &[u8]) -> Result<Option<(TraceLine, &[u8])>, LineError>
+/// What the first record comes to, where this was found in front of what stands behind it.
+#[inline(always)]
+fn in_range<'a>(
+    bytes: &'a [u8],
+    found: Option<(TraceLine, &'a [u8])>,
+) -> Result<Option<(TraceLine, &'a [u8])>, LineError>
+    requires letter { is_record_letter (slice_index bytes.now 0) ≡ true }
+    requires some { 0 < length bytes.now }
+    requires found { option_map (λ x. (x.0, x.1.now)) found ≡ record_front bytes.now }
     ensures found { IfOk result (λ found. IfSome found (λ x. IsFront x.0 x.1.now bytes.now)) }
     ensures none { IfOk result (λ found. IfNone found (IsUnfinished bytes.now)) }
     ensures form { IsErrOf result LineError.Form → IsMalformed bytes.now }
     ensures early { IsUnfinished bytes.now → IsOk result }
 {
-    let [letter, ..] = bytes else {
-        return Ok(None);
-    };
-    if !is_record_letter(*letter) {
-        return Err(LineError::Form);
-    }
-    let Some((line, behind)) = record_front(alloc, bytes)? else {
+    let Some((line, behind)) = found else {
         return Ok(None);
     };
     if !is_in_range(&line) {
         return Err(LineError::Form);
     }
     Ok(Some((line, behind)))
+}
+
+/// The line of the first record, and the bytes behind the record. `None` says that no record is whole, and `Form` that the
+/// letter is none of the table, or that the record is whole and one of its numbers is out of its range or a name is empty. It
+/// takes no memory where no record is whole.
+#[tactic(auto, unfolding(crate::specs::Fronts::record_front))]
+pub fn read_record(alloc: Global, bytes: &[u8]) -> Result<Option<(TraceLine, &[u8])>, LineError>
+    ensures found { IfOk result (λ found. IfSome found (λ x. IsFront x.0 x.1.now bytes.now)) }
+    ensures none { IfOk result (λ found. IfNone found (IsUnfinished bytes.now)) }
+    ensures form { IsErrOf result LineError.Form → IsMalformed bytes.now }
+    ensures early { IsUnfinished bytes.now → IsOk result }
+{
+    let [letter, rest @ ..] = bytes else {
+        return Ok(None);
+    };
+    if !is_record_letter(*letter) {
+        return Err(LineError::Form);
+    }
+    match *letter {
+        b'H' => in_range(bytes, header_front(rest)),
+        b'C' => in_range(bytes, class_front(alloc, rest)?),
+        b'N' => in_range(bytes, method_front(alloc, rest)?),
+        b'A' => in_range(bytes, alloc_front(rest)),
+        b'U' => in_range(bytes, update_front(rest)),
+        b'M' => in_range(bytes, enter_front(rest)),
+        b'E' => in_range(bytes, exit_front(rest)),
+        b'X' => in_range(bytes, unwind_front(rest)),
+        b'F' => in_range(bytes, flush_front(rest)),
+        b'D' => in_range(bytes, death_front(rest)),
+        b'Z' => in_range(bytes, finish_front(rest)),
+        _ => in_range(bytes, None),
+    }
 }
 
 /// Takes the first record where it is whole, and says what stands behind it.

@@ -1,36 +1,16 @@
-use Rattle.std.proofs.Common.{arith, refl, sym}
-use Rattle.et_binary.proofs.Beginnings.{front_takes, front_none, front_some, unfinished_first, malformed_first, malformed_range, front_by, begun_is_whole, unfinished_is_none}
+use Rattle.std.proofs.Common.{arith, sym}
+use Rattle.et_binary.proofs.Beginnings.{class_unread, method_unread, malformed_first, unfinished_is_none}
 use Rattle.et_binary.proofs.records.read_record.Goals as goal
+
+pub returns-in_err-class_front-in-67-clause-early : goal.returns-in_err-class_front-in-67-clause-early
+returns-in_err-class_front-in-67-clause-early c = λ u.
+    let none = class_unread c.args.bytes.now c.in-len1-up.len_at_least c.in-67.is (unfinished_is_none c.args.bytes.now (λ i. omega (arith, c.type_inv.bytes i)) u) in
+    absurd (let f = c.in_err-class_front-in-67.ensures.early none in cc)
+
+pub returns-in_err-method_front-in-78-clause-early : goal.returns-in_err-method_front-in-78-clause-early
+returns-in_err-method_front-in-78-clause-early c = λ u.
+    let none = method_unread c.args.bytes.now c.in-len1-up.len_at_least c.in-78.is (unfinished_is_none c.args.bytes.now (λ i. omega (arith, c.type_inv.bytes i)) u) in
+    absurd (let f = c.in_err-method_front-in-78.ensures.early none in cc)
 
 pub returns-then-not-is_record_letter-clause-form : goal.returns-then-not-is_record_letter-clause-form
 returns-then-not-is_record_letter-clause-form c = λ e. malformed_first c.args.bytes.now c.in-len1-up.len_at_least (sym c.if-not-is_record_letter.ensures)
-
-pub returns-in_default-2-clause-none : goal.returns-in_default-2-clause-none
-returns-in_default-2-clause-none c =
-    unfinished_first c.args.bytes.now c.in-len1-up.len_at_least (sym c.if-not-is_record_letter.ensures)
-    (front_none (λ x. (x.0, x.1.now)) c.in_ok-line.field-0 c.args.bytes.now c.in_ok-line.ensures.gives c.in_default-2.is)
-
-pub is_in_range-requires : goal.is_in_range-requires
-is_in_range-requires c =
-    let some = front_some (λ x. (x.0, x.1.now)) c.in_ok-line.field-0 (c.in-Some.line, c.in-Some.behind) c.args.bytes.now c.in_ok-line.ensures.gives c.in-Some.is in
-    (front_takes c.args.bytes.now (c.in-Some.line, c.in-Some.behind.now) (λ i. omega (arith, c.type_inv.bytes i)) some).packed
-
-pub returns-then-not-is_in_range-clause-form : goal.returns-then-not-is_in_range-clause-form
-returns-then-not-is_in_range-clause-form c = λ e.
-    let some = front_some (λ x. (x.0, x.1.now)) c.in_ok-line.field-0 (c.in-Some.line, c.in-Some.behind) c.args.bytes.now c.in_ok-line.ensures.gives c.in-Some.is in
-    malformed_range c.args.bytes.now c.in-Some.line c.in-Some.behind.now (front_takes c.args.bytes.now (c.in-Some.line, c.in-Some.behind.now) (λ i. omega (arith, c.type_inv.bytes i)) some) (λ r. absurd (let both = c.if-not-is_in_range.ensures.1 r in cc))
-
-pub returns-clause-found : goal.returns-clause-found
-returns-clause-found c =
-    let some = front_some (λ x. (x.0, x.1.now)) c.in_ok-line.field-0 (c.in-Some.line, c.in-Some.behind) c.args.bytes.now c.in_ok-line.ensures.gives c.in-Some.is in
-    front_by c.args.bytes.now c.in-Some.line c.in-Some.behind.now (front_takes c.args.bytes.now (c.in-Some.line, c.in-Some.behind.now) (λ i. omega (arith, c.type_inv.bytes i)) some) (c.if-not-is_in_range.ensures.0 refl)
-
-pub returns-in_err-line-clause-early : goal.returns-in_err-line-clause-early
-returns-in_err-line-clause-early c = λ u.
-    let none = unfinished_is_none c.args.bytes.now (λ i. omega (arith, c.type_inv.bytes i)) u in
-    absurd (let f = c.in_err-line.ensures.early none in cc)
-
-pub returns-then-not-is_in_range-clause-early : goal.returns-then-not-is_in_range-clause-early
-returns-then-not-is_in_range-clause-early c = λ u.
-    let some = front_some (λ x. (x.0, x.1.now)) c.in_ok-line.field-0 (c.in-Some.line, c.in-Some.behind) c.args.bytes.now c.in_ok-line.ensures.gives c.in-Some.is in
-    absurd (begun_is_whole c.in-Some.line c.in-Some.behind.now c.args.bytes.now (front_takes c.args.bytes.now (c.in-Some.line, c.in-Some.behind.now) (λ i. omega (arith, c.type_inv.bytes i)) some) u)
