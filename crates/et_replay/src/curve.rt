@@ -67,6 +67,7 @@ impl Curve {
         }
     }
 
+    #[inline(always)]
     fn note(&mut self, line: &TraceLine) -> Result<(), NoMemory>
         ensures { (past : List TraceLine) → IsCurveOf self.old past →
             OnOk result (IsCurveOf self.new (line.now ∷ past)) }
@@ -95,6 +96,7 @@ impl Curve {
 impl Follower for Curve {
     ghost follows = { IsCurveOf };
 
+    #[inline(always)]
     fn line(&mut self, line: &TraceLine) -> Result<(), NoMemory> {
         self.note(line)
     }
@@ -140,8 +142,12 @@ fn put_rows<O: Sink>(
         (flat_map (row_by lives.born.items lives.died.items) events.now)) }
     ensures never_falls { O.faults sink.old ≤ O.faults sink.new }
 {
-    let mut born = Sizes::begin(lives.born);
-    let mut died = Sizes::begin(lives.died);
+    let Ok(mut born) = Sizes::begin(lives.born) else {
+        return Err(RunFault::NoMemory);
+    };
+    let Ok(mut died) = Sizes::begin(lives.died) else {
+        return Err(RunFault::NoMemory);
+    };
     let mut rows = Vec::new(alloc);
     for event in events {
         let made = born.below(*event + 1);

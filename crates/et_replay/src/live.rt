@@ -15,8 +15,8 @@ pub fn live_bytes(alloc: Global, trace: &Trace, event: u64) -> Result<u64, NoMem
     ensures { IfOk result (λ bytes. bytes ≡ live trace.now event) }
 {
     let lives = lives_of(alloc, trace.lines())?;
-    let mut born = Sizes::begin(lives.born);
-    let mut died = Sizes::begin(lives.died);
+    let mut born = Sizes::begin(lives.born)?;
+    let mut died = Sizes::begin(lives.died)?;
     let made = born.below(event + 1);
     let gone = died.below(event);
     Ok(made - gone)

@@ -38,6 +38,7 @@ impl Lives {
     }
 
     /// Takes the next line.
+    #[inline]
     pub fn note(&mut self, line: &TraceLine) -> Result<(), NoMemory>
         ensures born { OnOk result
             (self.new.born.items ≡ born_with self.old.born.items line.now) }

@@ -1,8 +1,10 @@
 //! Sizes by time, added up as time goes on.
-ghost use Rattle.std.specs.Prelude.{◌≡◌, ◌<◌, ◌^◌, ℕ};
+ghost use Rattle.std.specs.Prelude.{◌≡◌, ◌<◌, ◌^◌, ℕ, IfOk};
 ghost use Rattle.std.specs.List.{sum_by};
 ghost use Rattle.std.specs.List.Sorted.{IsNonDecreasingBy};
 ghost use Rattle.et_replay.specs.Lives.{CountsTo, sum_below};
+
+use et_base::NoMemory;
 
 /// Sizes by time, and how far they are added up.
 #[derive(Drop)]
@@ -13,22 +15,22 @@ pub struct Sizes {
 }
 
 impl Sizes {
-    /// Puts the sizes in order of time.
-    pub fn begin(sizes: Vec<(u64, u64)>) -> Sizes
+    /// Puts the sizes in order of time, which stretches that stand so already make cheap.
+    pub fn begin(sizes: Vec<(u64, u64)>) -> Result<Sizes, NoMemory>
         requires fits { sum_by (λ (p : ℕ × ℕ). p.1) sizes.items < 2 ^ 64 }
-        ensures counts { (limit : ℕ) → CountsTo result.sizes.items result.at result.sum limit }
-        ensures sorted { IsNonDecreasingBy (λ (p : ℕ × ℕ). p.0) result.sizes.items }
-        ensures fits { sum_by (λ (p : ℕ × ℕ). p.1) result.sizes.items < 2 ^ 64 }
-        ensures same { (limit : ℕ) →
-            sum_below limit result.sizes.items ≡ sum_below limit sizes.items }
+        ensures counts { IfOk result (λ s. (limit : ℕ) → CountsTo s.sizes.items s.at s.sum limit) }
+        ensures sorted { IfOk result (λ s. IsNonDecreasingBy (λ (p : ℕ × ℕ). p.0) s.sizes.items) }
+        ensures fits { IfOk result (λ s. sum_by (λ (p : ℕ × ℕ). p.1) s.sizes.items < 2 ^ 64) }
+        ensures same { IfOk result (λ s. (limit : ℕ) →
+            sum_below limit s.sizes.items ≡ sum_below limit sizes.items) }
     {
         let mut sizes = sizes;
-        sizes.sort_unstable_by_key(|p| p.0);
-        Sizes {
+        sizes.sort_by_key(|p| p.0)?;
+        Ok(Sizes {
             sizes,
             at: 0,
             sum: 0,
-        }
+        })
     }
 
     /// The sum of the sizes of a time below the limit. The limits of the calls never fall.

@@ -20,32 +20,32 @@ left_of : (version : ℕ) (lines trace : List TraceLine) (e made gone : ℕ) (bo
 left_of version lines trace e made gone born died is fine low m g b d =
     subst (λ (t : List TraceLine). IsLeft t e made gone) is (left version lines e made gone (fine_as version lines trace is fine) low (m ∙ b) (g ∙ d))
 
-pub begin-born-requires : goal.begin-born-requires
-begin-born-requires c =
+pub begin-requires : goal.begin-requires
+begin-requires c =
     let small = born_small c.lines.ensures.good.version c.lines.result.now (fine_as _ _ _ c.lines.ensures.value c.lines.ensures.good.good.fine) in
     let same = ap bytes c.in_ok-lives.ensures.born in
     record { fits = omega (arith, small, same) }
 
-pub begin-died-requires : goal.begin-died-requires
-begin-died-requires c =
+pub begin-requires-2 : goal.begin-requires-2
+begin-requires-2 c =
     let small = died_small c.lines.ensures.good.version c.lines.result.now (fine_as _ _ _ c.lines.ensures.value c.lines.ensures.good.good.fine) in
     let same = ap bytes c.in_ok-lives.ensures.died in
     record { fits = omega (arith, small, same) }
 
 pub overflow_sub-result : goal.overflow_sub-result
 overflow_sub-result c =
-    (left_of c.lines.ensures.good.version c.lines.result.now c.args.trace.now c.args.event c.below-made.result c.below-gone.result c.begin-born.result.sizes.items c.begin-died.result.sizes.items c.lines.ensures.value c.lines.ensures.good.good.fine c.requires.event c.below-made.ensures.sum c.below-gone.ensures.sum
-    (c.begin-born.ensures.same (c.args.event + 1) ∙ ap (λ (t : Sizes). sum_below (c.args.event + 1) t) c.in_ok-lives.ensures.born)
-    (c.begin-died.ensures.same c.args.event ∙ ap (λ (t : Sizes). sum_below c.args.event t) c.in_ok-lives.ensures.died)).fits
+    (left_of c.lines.ensures.good.version c.lines.result.now c.args.trace.now c.args.event c.below-made.result c.below-gone.result c.in_ok-born.born.sizes.items c.in_ok-died.died.sizes.items c.lines.ensures.value c.lines.ensures.good.good.fine c.requires.event c.below-made.ensures.sum c.below-gone.ensures.sum
+    (c.in_ok-born.ensures.same (c.args.event + 1) ∙ ap (λ (t : Sizes). sum_below (c.args.event + 1) t) c.in_ok-lives.ensures.born)
+    (c.in_ok-died.ensures.same c.args.event ∙ ap (λ (t : Sizes). sum_below c.args.event t) c.in_ok-lives.ensures.died)).fits
 
 pub returns : goal.returns
 returns c =
-    (left_of c.lines.ensures.good.version c.lines.result.now c.args.trace.now c.args.event c.below-made.result c.below-gone.result c.begin-born.result.sizes.items c.begin-died.result.sizes.items c.lines.ensures.value c.lines.ensures.good.good.fine c.requires.event c.below-made.ensures.sum c.below-gone.ensures.sum
-    (c.begin-born.ensures.same (c.args.event + 1) ∙ ap (λ (t : Sizes). sum_below (c.args.event + 1) t) c.in_ok-lives.ensures.born)
-    (c.begin-died.ensures.same c.args.event ∙ ap (λ (t : Sizes). sum_below c.args.event t) c.in_ok-lives.ensures.died)).left
+    (left_of c.lines.ensures.good.version c.lines.result.now c.args.trace.now c.args.event c.below-made.result c.below-gone.result c.in_ok-born.born.sizes.items c.in_ok-died.died.sizes.items c.lines.ensures.value c.lines.ensures.good.good.fine c.requires.event c.below-made.ensures.sum c.below-gone.ensures.sum
+    (c.in_ok-born.ensures.same (c.args.event + 1) ∙ ap (λ (t : Sizes). sum_below (c.args.event + 1) t) c.in_ok-lives.ensures.born)
+    (c.in_ok-died.ensures.same c.args.event ∙ ap (λ (t : Sizes). sum_below c.args.event t) c.in_ok-lives.ensures.died)).left
 
 pub below-made-requires-clause-counts : goal.below-made-requires-clause-counts
-below-made-requires-clause-counts c = c.begin-born.ensures.counts (c.args.event + 1)
+below-made-requires-clause-counts c = c.in_ok-born.ensures.counts (c.args.event + 1)
 
 pub below-gone-requires-clause-counts : goal.below-gone-requires-clause-counts
-below-gone-requires-clause-counts c = c.begin-died.ensures.counts c.args.event
+below-gone-requires-clause-counts c = c.in_ok-died.ensures.counts c.args.event
