@@ -121,19 +121,39 @@ fn one_box(rt: HostRuntime) -> Result<(), Fail> {
     let class = program.resolve_class(b"Box")?;
     assert_eq!(rt; class, ClassId::new(45));
     assert_eq!(rt; program.class(class).name.as_slice(), b"Box".as_slice());
+    let object = program.resolve_class(b"java/lang/Object")?;
+    assert_eq!(rt; program.init_order(class), [object, class].as_slice());
+    Ok(())
+}
+
+#[test]
+fn main_of_one_box(rt: HostRuntime) -> Result<(), Fail> {
+    let program = link_all(&rt, rt.alloc(), &[&BOX])??;
     let main = program.method(program.main());
     assert_eq!(rt; main.name.as_slice(), b"main".as_slice());
-    assert_eq!(rt; main.class, class);
+    assert_eq!(rt; main.class, ClassId::new(45));
     assert_eq!(rt; program.file_methods(), [program.main()].as_slice());
+    Ok(())
+}
+
+#[test]
+fn arrays_of_strings(rt: HostRuntime) -> Result<(), Fail> {
+    let program = link_all(&rt, rt.alloc(), &[&BOX])??;
     let strings = program.resolve_class(b"[Ljava/lang/String;")?;
     let string = program.resolve_class(b"java/lang/String")?;
     assert_eq!(rt; program.array_over(string), Some(strings));
-    assert_eq!(rt; program.array_over(class), None);
-    assert!(rt; program.pool(class).is_some());
     assert!(rt; program.pool(strings).is_none());
     let object = program.resolve_class(b"java/lang/Object")?;
-    assert_eq!(rt; program.init_order(class), [object, class].as_slice());
     assert!(rt; program.passes(strings, object));
+    Ok(())
+}
+
+#[test]
+fn no_arrays_of_boxes(rt: HostRuntime) -> Result<(), Fail> {
+    let program = link_all(&rt, rt.alloc(), &[&BOX])??;
+    let class = program.resolve_class(b"Box")?;
+    assert_eq!(rt; program.array_over(class), None);
+    assert!(rt; program.pool(class).is_some());
     Ok(())
 }
 
@@ -215,23 +235,32 @@ fn class_of(program: &Program, method: Result<MethodId, LinkError>) -> Result<Cl
 }
 
 #[test]
-fn diamonds(rt: HostRuntime) -> Result<(), Fail> {
+fn the_first_is_resolved_and_none_selected(rt: HostRuntime) -> Result<(), Fail> {
     let sources: [&[u8]; 5] = [&BOTH, &ONE, &TOP, &LEFT, &RIGHT];
     let program = link_all(&rt, rt.alloc(), &sources)??;
     let both = program.resolve_class(b"Both")?;
-    let one = program.resolve_class(b"One")?;
     let top = program.resolve_class(b"Top")?;
-    let left = program.resolve_class(b"Left")?;
-    // several are maximally specific: the first is resolved, and none is selected (5.4.3.3, 6.5)
+    // several are maximally specific (5.4.3.3, 6.5)
     let method = program.resolve_method(both, false, b"m", b"()V")?;
     assert_eq!(rt; program.method(method).class, top);
     assert_eq!(rt;
         program.select(both, method, false),
         Err(LinkError::IncompatibleClassChange)
     );
+    Ok(())
+}
+
+#[test]
+fn the_lower_interface_decides(rt: HostRuntime) -> Result<(), Fail> {
+    let sources: [&[u8]; 5] = [&BOTH, &ONE, &TOP, &LEFT, &RIGHT];
+    let program = link_all(&rt, rt.alloc(), &sources)??;
+    let one = program.resolve_class(b"One")?;
+    let left = program.resolve_class(b"Left")?;
     // Left is below Top
     let found = program.resolve_method(one, false, b"m", b"()V");
     assert_eq!(rt; class_of(&program, found), Ok(left));
+    let both = program.resolve_class(b"Both")?;
+    let method = program.resolve_method(both, false, b"m", b"()V")?;
     assert_eq!(rt;
         class_of(&program, program.select(one, method, true)),
         Ok(left)
@@ -256,14 +285,13 @@ fn a_common_subinterface_decides(rt: HostRuntime) -> Result<(), Fail> {
 }
 
 #[test]
-fn errors(rt: HostRuntime) -> Result<(), Fail> {
+fn errors_of_names(rt: HostRuntime) -> Result<(), Fail> {
     let program = link_all(&rt, rt.alloc(), &[&NONE, &OPEN])??;
-    let none = program.resolve_class(b"None")?;
-    let open = program.resolve_class(b"Open")?;
     assert_eq!(rt;
         program.resolve_class(b"Gone"),
         Err(LinkError::NoClassDefFound)
     );
+    let none = program.resolve_class(b"None")?;
     assert_eq!(rt;
         program.resolve_field(none, b"f", b"I"),
         Err(LinkError::NoSuchField)
@@ -273,20 +301,51 @@ fn errors(rt: HostRuntime) -> Result<(), Fail> {
         Err(LinkError::NoSuchMethod)
     );
     assert_eq!(rt;
+        program.resolve_method(none, true, b"m", b"()V"),
+        Err(LinkError::IncompatibleClassChange)
+    );
+    Ok(())
+}
+
+#[test]
+fn errors_of_names_in_an_interface(rt: HostRuntime) -> Result<(), Fail> {
+    let program = link_all(&rt, rt.alloc(), &[&NONE, &OPEN])??;
+    let open = program.resolve_class(b"Open")?;
+    assert_eq!(rt;
         program.resolve_method(open, true, b"n", b"()V"),
         Err(LinkError::NoSuchMethod)
     );
-    let wrong = Err(LinkError::IncompatibleClassChange);
-    assert_eq!(rt; program.resolve_method(open, false, b"m", b"()V"), wrong);
-    assert_eq!(rt; program.resolve_method(none, true, b"m", b"()V"), wrong);
+    assert_eq!(rt;
+        program.resolve_method(open, false, b"m", b"()V"),
+        Err(LinkError::IncompatibleClassChange)
+    );
+    Ok(())
+}
+
+#[test]
+fn errors_of_selection(rt: HostRuntime) -> Result<(), Fail> {
+    let program = link_all(&rt, rt.alloc(), &[&NONE, &OPEN])??;
+    let none = program.resolve_class(b"None")?;
+    let open = program.resolve_class(b"Open")?;
     let method = program.resolve_method(open, true, b"m", b"()V")?;
     assert_eq!(rt;
         program.select(none, method, true),
         Err(LinkError::AbstractMethod)
     );
     let object = program.resolve_class(b"java/lang/Object")?;
-    assert_eq!(rt; program.select(object, method, true), wrong);
-    // a constructor is that of the class that is named (6.5, invokespecial)
+    assert_eq!(rt;
+        program.select(object, method, true),
+        Err(LinkError::IncompatibleClassChange)
+    );
+    Ok(())
+}
+
+// A constructor is that of the class that is named (6.5, invokespecial).
+#[test]
+fn constructors_are_not_inherited(rt: HostRuntime) -> Result<(), Fail> {
+    let program = link_all(&rt, rt.alloc(), &[&NONE, &OPEN])??;
+    let none = program.resolve_class(b"None")?;
+    let object = program.resolve_class(b"java/lang/Object")?;
     let constructor = program.resolve_method(none, false, b"<init>", b"()V")?;
     assert_eq!(rt;
         program.select_special(none, none, constructor),

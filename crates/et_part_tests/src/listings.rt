@@ -12,220 +12,159 @@ fn faulty(rt: &impl Abort, alloc: Global, text: &str, line: u64, kind: u8) -> Re
     Ok(())
 }
 
-/// Tests that the body of a method, which begins at line 3, is faulty at this line by this kind.
-fn body_faulty(
+/// A text, or the body of a method, which begins at line 3, and the line of its fault.
+type Faulty = (&'static str, u64);
+
+/// Tests that each text is faulty at its line by this kind.
+fn are_faulty(rt: &impl Abort, alloc: Global, kind: u8, texts: &[Faulty]) -> Result<(), Fail> {
+    for (text, line) in texts {
+        faulty(rt, alloc, text, *line, kind)?;
+    }
+    Ok(())
+}
+
+/// Tests that each body of a method is faulty at its line by this kind.
+fn bodies_are_faulty(
     rt: &impl Abort,
     alloc: Global,
-    body: &str,
-    line: u64,
     kind: u8,
+    bodies: &[Faulty],
 ) -> Result<(), Fail> {
-    let text = format!(in alloc; "class A O 0021\nmethod m ()V 0009 1 1\n{body}")?;
-    faulty(rt, alloc, text.as_str(), line, kind)
+    for (body, line) in bodies {
+        let text = format!(in alloc; "class A O 0021\nmethod m ()V 0009 1 1\n{body}")?;
+        faulty(rt, alloc, text.as_str(), *line, kind)?;
+    }
+    Ok(())
 }
+
+/// Bodies of a method with a wrong word, and the line of the fault.
+static WRONG_WORDS_IN_BODIES: [Faulty; 8] = [
+    ("new Box\npopp\nreturn\nend\n", 4),
+    ("fadd\nend\n", 3),
+    ("wide\nend\n", 3),
+    ("ldc_w int 1\nend\n", 3),
+    ("ret 1\nend\n", 3),
+    ("a :\nend\n", 3),
+    ("pop\\t\nend\n", 3),
+    ("popp x y\npopq\nend\n", 3),
+];
 
 #[test]
 fn finds_wrong_words(rt: HostRuntime) -> Result<(), Fail> {
-    body_faulty(&rt, rt.alloc(), "new Box\npopp\nreturn\nend\n", 4, WORD)?;
-    body_faulty(&rt, rt.alloc(), "fadd\nend\n", 3, WORD)?;
-    body_faulty(&rt, rt.alloc(), "wide\nend\n", 3, WORD)?;
-    body_faulty(&rt, rt.alloc(), "ldc_w int 1\nend\n", 3, WORD)?;
-    body_faulty(&rt, rt.alloc(), "ret 1\nend\n", 3, WORD)?;
-    body_faulty(&rt, rt.alloc(), "a :\nend\n", 3, WORD)?;
-    body_faulty(&rt, rt.alloc(), "pop\\t\nend\n", 3, WORD)?;
-    body_faulty(&rt, rt.alloc(), "popp x y\npopq\nend\n", 3, WORD)?;
+    bodies_are_faulty(&rt, rt.alloc(), WORD, &WRONG_WORDS_IN_BODIES)?;
     Ok(())
 }
+
+/// Texts with a wrong operand, and the line of the fault.
+static WRONG_OPERANDS: [Faulty; 8] = [
+    ("class Box java/lang/Object 21\n", 1),
+    ("class Box java/lang/Object 002g\n", 1),
+    ("class B%41 O 0021\n", 1),
+    ("class B%2f O 0021\n", 1),
+    ("class Box\tO 0021\n", 1),
+    ("class A O 0021\nmethod m ()V 0009 70000 x\n", 2),
+    ("class A O 0021\nfield f I 0000 string\n", 2),
+    ("class A O 0021\nfield f I 0000 float 1\n", 2),
+];
 
 #[test]
 fn finds_wrong_operands(rt: HostRuntime) -> Result<(), Fail> {
-    faulty(
-        &rt,
-        rt.alloc(),
-        "class Box java/lang/Object 21\n",
-        1,
-        OPERANDS,
-    )?;
-    faulty(
-        &rt,
-        rt.alloc(),
-        "class Box java/lang/Object 002g\n",
-        1,
-        OPERANDS,
-    )?;
-    faulty(&rt, rt.alloc(), "class B%41 O 0021\n", 1, OPERANDS)?;
-    faulty(&rt, rt.alloc(), "class B%2f O 0021\n", 1, OPERANDS)?;
-    faulty(&rt, rt.alloc(), "class Box\tO 0021\n", 1, OPERANDS)?;
-    faulty(
-        &rt,
-        rt.alloc(),
-        "class A O 0021\nmethod m ()V 0009 70000 x\n",
-        2,
-        OPERANDS,
-    )?;
-    faulty(
-        &rt,
-        rt.alloc(),
-        "class A O 0021\nfield f I 0000 string\n",
-        2,
-        OPERANDS,
-    )?;
-    faulty(
-        &rt,
-        rt.alloc(),
-        "class A O 0021\nfield f I 0000 float 1\n",
-        2,
-        OPERANDS,
-    )?;
+    are_faulty(&rt, rt.alloc(), OPERANDS, &WRONG_OPERANDS)?;
     Ok(())
 }
+
+/// Bodies of a method with a wrong operand of an instruction, and the line of the fault.
+static WRONG_OPERANDS_OF_INSTRUCTIONS: [Faulty; 10] = [
+    ("goto b\nb: x\nend\n", 4),
+    ("tableswitch 1 default a\na:\nend\n", 3),
+    ("lookupswitch 1 default a\na:\nend\n", 3),
+    ("ldc string\nend\n", 3),
+    ("ldc long 1\nend\n", 3),
+    ("iinc 99999 x\nend\n", 3),
+    ("newarray Object\nend\n", 3),
+    ("goto a-b\nend\n", 3),
+    ("end x\n", 3),
+    ("a:\ncatch a a a\nend\n", 4),
+];
 
 #[test]
 fn finds_wrong_operands_of_instructions(rt: HostRuntime) -> Result<(), Fail> {
-    body_faulty(&rt, rt.alloc(), "goto b\nb: x\nend\n", 4, OPERANDS)?;
-    body_faulty(
-        &rt,
-        rt.alloc(),
-        "tableswitch 1 default a\na:\nend\n",
-        3,
-        OPERANDS,
-    )?;
-    body_faulty(
-        &rt,
-        rt.alloc(),
-        "lookupswitch 1 default a\na:\nend\n",
-        3,
-        OPERANDS,
-    )?;
-    body_faulty(&rt, rt.alloc(), "ldc string\nend\n", 3, OPERANDS)?;
-    body_faulty(&rt, rt.alloc(), "ldc long 1\nend\n", 3, OPERANDS)?;
-    body_faulty(&rt, rt.alloc(), "iinc 99999 x\nend\n", 3, OPERANDS)?;
-    body_faulty(&rt, rt.alloc(), "newarray Object\nend\n", 3, OPERANDS)?;
-    body_faulty(&rt, rt.alloc(), "goto a-b\nend\n", 3, OPERANDS)?;
-    body_faulty(&rt, rt.alloc(), "end x\n", 3, OPERANDS)?;
-    body_faulty(&rt, rt.alloc(), "a:\ncatch a a a\nend\n", 4, OPERANDS)?;
+    bodies_are_faulty(&rt, rt.alloc(), OPERANDS, &WRONG_OPERANDS_OF_INSTRUCTIONS)?;
     Ok(())
 }
+
+/// Texts with a wrong number, and the line of the fault.
+static WRONG_NUMBERS: [Faulty; 4] = [
+    ("class A O 0021\nmethod m ()V 0009 1 70000\n", 2),
+    ("class A O 0021\nmethod m ()V 0009 -1 0\n", 2),
+    ("class A O 0021\nfield f I 0008 int 2147483648\n", 2),
+    (
+        "class A O 0021\nfield f J 0008 long -9223372036854775809\n",
+        2,
+    ),
+];
+
+/// Bodies of a method with a wrong number, and the line of the fault.
+static WRONG_NUMBERS_IN_BODIES: [Faulty; 7] = [
+    ("bipush 128\nend\n", 3),
+    ("sipush -32769\nend\n", 3),
+    ("iload 65536\nend\n", 3),
+    ("iinc 0 32768\nend\n", 3),
+    ("multianewarray A 256\nend\n", 3),
+    ("tableswitch 2147483647 a a default a\na:\nend\n", 3),
+    ("lookupswitch 2147483648 a default a\na:\nend\n", 3),
+];
 
 #[test]
 fn finds_wrong_numbers(rt: HostRuntime) -> Result<(), Fail> {
-    faulty(
-        &rt,
-        rt.alloc(),
-        "class A O 0021\nmethod m ()V 0009 1 70000\n",
-        2,
-        NUMBER,
-    )?;
-    faulty(
-        &rt,
-        rt.alloc(),
-        "class A O 0021\nmethod m ()V 0009 -1 0\n",
-        2,
-        NUMBER,
-    )?;
-    faulty(
-        &rt,
-        rt.alloc(),
-        "class A O 0021\nfield f I 0008 int 2147483648\n",
-        2,
-        NUMBER,
-    )?;
-    faulty(
-        &rt,
-        rt.alloc(),
-        "class A O 0021\nfield f J 0008 long -9223372036854775809\n",
-        2,
-        NUMBER,
-    )?;
-    body_faulty(&rt, rt.alloc(), "bipush 128\nend\n", 3, NUMBER)?;
-    body_faulty(&rt, rt.alloc(), "sipush -32769\nend\n", 3, NUMBER)?;
-    body_faulty(&rt, rt.alloc(), "iload 65536\nend\n", 3, NUMBER)?;
-    body_faulty(&rt, rt.alloc(), "iinc 0 32768\nend\n", 3, NUMBER)?;
-    body_faulty(&rt, rt.alloc(), "multianewarray A 256\nend\n", 3, NUMBER)?;
-    body_faulty(
-        &rt,
-        rt.alloc(),
-        "tableswitch 2147483647 a a default a\na:\nend\n",
-        3,
-        NUMBER,
-    )?;
-    body_faulty(
-        &rt,
-        rt.alloc(),
-        "lookupswitch 2147483648 a default a\na:\nend\n",
-        3,
-        NUMBER,
-    )?;
+    are_faulty(&rt, rt.alloc(), NUMBER, &WRONG_NUMBERS)?;
+    bodies_are_faulty(&rt, rt.alloc(), NUMBER, &WRONG_NUMBERS_IN_BODIES)?;
     Ok(())
 }
+
+/// Texts with a wrong label, and the line of the fault.
+static WRONG_LABELS: [Faulty; 1] = [("class A O 0021\ngoto x\n", 2)];
+
+/// Bodies of a method with a wrong label, and the line of the fault.
+static WRONG_LABELS_IN_BODIES: [Faulty; 6] = [
+    ("a:\na:\nend\n", 4),
+    ("goto b\nend\nb:\n", 3),
+    ("goto b\nend\nmethod n ()V 0009 1 1\nb:\nend\n", 3),
+    ("a:\ncatch a a b *\nend\n", 4),
+    ("a:\ntableswitch 0 a b default a\nend\n", 4),
+    ("a:\nlookupswitch 0 a default b\nend\n", 4),
+];
 
 #[test]
 fn finds_wrong_labels(rt: HostRuntime) -> Result<(), Fail> {
-    body_faulty(&rt, rt.alloc(), "a:\na:\nend\n", 4, LABEL)?;
-    body_faulty(&rt, rt.alloc(), "goto b\nend\nb:\n", 3, LABEL)?;
-    body_faulty(
-        &rt,
-        rt.alloc(),
-        "goto b\nend\nmethod n ()V 0009 1 1\nb:\nend\n",
-        3,
-        LABEL,
-    )?;
-    body_faulty(&rt, rt.alloc(), "a:\ncatch a a b *\nend\n", 4, LABEL)?;
-    body_faulty(
-        &rt,
-        rt.alloc(),
-        "a:\ntableswitch 0 a b default a\nend\n",
-        4,
-        LABEL,
-    )?;
-    body_faulty(
-        &rt,
-        rt.alloc(),
-        "a:\nlookupswitch 0 a default b\nend\n",
-        4,
-        LABEL,
-    )?;
-    faulty(&rt, rt.alloc(), "class A O 0021\ngoto x\n", 2, LABEL)?;
+    are_faulty(&rt, rt.alloc(), LABEL, &WRONG_LABELS)?;
+    bodies_are_faulty(&rt, rt.alloc(), LABEL, &WRONG_LABELS_IN_BODIES)?;
     Ok(())
 }
 
+/// Texts with a wrong order, and the line of the fault.
+static WRONG_ORDER: [Faulty; 9] = [
+    ("", 1),
+    ("\n# x\n", 3),
+    ("interface A\nclass A O 0021\n", 1),
+    ("class A O 0021\nclass B O 0021\n", 2),
+    ("class A O 0021\nfield f I 0000\ninterface B\n", 3),
+    ("class A O 0021\nmethod m ()V 0009\nfield f I 0000\n", 3),
+    ("class A O 0021\nend\n", 2),
+    ("class A O 0021\npop\n", 2),
+    ("class A O 0021\nmethod m ()V 0009\na:\n", 3),
+];
+
+/// Bodies of a method with a wrong order, and the line of the fault.
+static WRONG_ORDER_IN_BODIES: [Faulty; 2] = [
+    ("new Box\npop\nreturn\n", 6),
+    ("method n ()V 0009\nend\n", 3),
+];
+
 #[test]
 fn finds_wrong_order(rt: HostRuntime) -> Result<(), Fail> {
-    faulty(&rt, rt.alloc(), "", 1, ORDER)?;
-    faulty(&rt, rt.alloc(), "\n# x\n", 3, ORDER)?;
-    body_faulty(&rt, rt.alloc(), "new Box\npop\nreturn\n", 6, ORDER)?;
-    faulty(&rt, rt.alloc(), "interface A\nclass A O 0021\n", 1, ORDER)?;
-    faulty(
-        &rt,
-        rt.alloc(),
-        "class A O 0021\nclass B O 0021\n",
-        2,
-        ORDER,
-    )?;
-    faulty(
-        &rt,
-        rt.alloc(),
-        "class A O 0021\nfield f I 0000\ninterface B\n",
-        3,
-        ORDER,
-    )?;
-    faulty(
-        &rt,
-        rt.alloc(),
-        "class A O 0021\nmethod m ()V 0009\nfield f I 0000\n",
-        3,
-        ORDER,
-    )?;
-    faulty(&rt, rt.alloc(), "class A O 0021\nend\n", 2, ORDER)?;
-    faulty(&rt, rt.alloc(), "class A O 0021\npop\n", 2, ORDER)?;
-    faulty(
-        &rt,
-        rt.alloc(),
-        "class A O 0021\nmethod m ()V 0009\na:\n",
-        3,
-        ORDER,
-    )?;
-    body_faulty(&rt, rt.alloc(), "method n ()V 0009\nend\n", 3, ORDER)?;
+    are_faulty(&rt, rt.alloc(), ORDER, &WRONG_ORDER)?;
+    bodies_are_faulty(&rt, rt.alloc(), ORDER, &WRONG_ORDER_IN_BODIES)?;
     Ok(())
 }
 

@@ -1,4 +1,7 @@
 //! A machine with one thread, whose frame is entered and left again.
+ghost use Rattle.std.specs.Prelude.{◌<◌, ◌^◌, length};
+ghost use Rattle.et_state.specs.Words.{HasFrame};
+
 use et_base::{ClassId, MethodId, NoMemory, ObjectId, ThreadId, Value};
 use et_heap::RootList;
 use et_state::{ClassState, Machine, NewFrame, Stage, Turn};
@@ -50,13 +53,25 @@ fn the_first_state(rt: HostRuntime) -> Result<(), Fail> {
     Ok(())
 }
 
+/// Makes an object a string. Neither the text nor the object is one yet.
+fn make_string(
+    rt: &impl Abort,
+    machine: &mut Machine,
+    text: &[u8],
+    o: ObjectId,
+) -> Result<(), NoMemory>
+    requires { length text.now < 2 ^ 16 }
+{
+    assert!(rt; machine.interned(text).is_none());
+    assert!(rt; machine.text_of(o).is_none());
+    machine.intern(text, o)
+}
+
 #[test]
 fn strings_of_constants(rt: HostRuntime) -> Result<(), Fail> {
     let mut machine = first(rt.alloc())?;
     let o = ObjectId::new(1);
-    assert_eq!(rt; machine.interned(b"ab"), None);
-    assert_eq!(rt; machine.text_of(o), None);
-    machine.intern(b"ab", o)?;
+    make_string(&rt, &mut machine, b"ab", o)?;
     assert_eq!(rt; machine.interned(b"ab"), Some(o));
     assert_eq!(rt; machine.interned(b"a"), None);
     assert_eq!(rt; machine.text_of(o), Some(b"ab".as_slice()));
@@ -64,39 +79,69 @@ fn strings_of_constants(rt: HostRuntime) -> Result<(), Fail> {
     Ok(())
 }
 
-fn work(rt: &impl Abort, machine: &mut Machine, made: NewFrame) -> Result<(), NoMemory> {
+fn enter(rt: &impl Abort, machine: &mut Machine, made: NewFrame) -> Result<(), NoMemory> {
     assert_eq!(rt; machine.started(), 1);
     assert_eq!(rt; machine.frames(ThreadId::new(0)), 0);
     assert!(rt; made.arguments.len() <= made.max_locals as usize);
-    machine.enter_frame(ThreadId::new(0), made)?;
+    machine.enter_frame(ThreadId::new(0), made)
+}
+
+/// The thread has one frame.
+fn is_entered(rt: &impl Abort, machine: &Machine)
+    ensures { HasFrame machine.now.guest 0 }
+{
     assert_eq!(rt; machine.started(), 1);
     assert_eq!(rt; machine.frames(ThreadId::new(0)), 1);
+}
+
+fn begins(rt: &impl Abort, machine: &Machine)
+    requires { HasFrame machine.now.guest 0 }
+{
     assert_eq!(rt; machine.turn(ThreadId::new(0)), Turn::Instruction);
     assert_eq!(rt; machine.depth(ThreadId::new(0)), 0);
     assert_eq!(rt; machine.room(ThreadId::new(0)), 2);
+}
+
+fn push_null(rt: &impl Abort, machine: &mut Machine)
+    requires { HasFrame machine.old.guest 0 }
+{
+    assert!(rt; machine.depth(ThreadId::new(0)) < u32::from(machine.room(ThreadId::new(0))));
     machine.push(ThreadId::new(0), Value::Null);
-    assert_eq!(rt; machine.started(), 1);
-    assert_eq!(rt; machine.frames(ThreadId::new(0)), 1);
+}
+
+fn holds_null(rt: &impl Abort, machine: &Machine)
+    requires { HasFrame machine.now.guest 0 }
+{
     assert_eq!(rt; machine.depth(ThreadId::new(0)), 1);
     assert_eq!(rt; machine.operand(ThreadId::new(0), 0), Value::Null);
+}
+
+fn holds_its_argument(rt: &impl Abort, machine: &Machine)
+    requires { HasFrame machine.now.guest 0 }
+{
     assert_eq!(rt; machine.locals(ThreadId::new(0)), 3);
     assert_eq!(rt; machine.local(ThreadId::new(0), 0), Value::Int(5));
     assert_eq!(rt; machine.local(ThreadId::new(0), 2), Value::Unset);
-    Ok(())
 }
 
 #[test]
 fn a_frame(rt: HostRuntime) -> Result<(), Fail> {
     let mut machine = first(rt.alloc())?;
     let made = frame(rt.alloc())?;
-    work(&rt, &mut machine, made)?;
+    enter(&rt, &mut machine, made)?;
+    is_entered(&rt, &machine);
+    begins(&rt, &machine);
+    push_null(&rt, &mut machine);
+    is_entered(&rt, &machine);
+    holds_null(&rt, &machine);
+    holds_its_argument(&rt, &machine);
     Ok(())
 }
 
 fn two_threads(rt: &impl Abort, machine: &mut Machine) -> Result<(), NoMemory> {
     let o = ObjectId::new(1);
     assert_eq!(rt; machine.started(), 1);
-    assert_eq!(rt; machine.thread_of(o), None);
+    assert!(rt; machine.thread_of(o).is_none());
     let second = machine.start_thread(o)?;
     assert_eq!(rt; second.number(), 1);
     assert_eq!(rt; machine.thread_of(o), Some(second));

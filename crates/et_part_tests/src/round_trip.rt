@@ -31,21 +31,28 @@ fn makes(rt: &impl Abort, alloc: Global, name: &str, text: &str, digits: &str) -
     Ok(())
 }
 
-#[test]
-fn makes_objects(rt: HostRuntime) -> Result<(), Fail> {
-    makes(
-        &rt,
-        rt.alloc(),
+/// The name of a class, its listing, and the digits of its class file.
+type Listing = (&'static str, &'static str, &'static str);
+
+/// Tests that each listing makes its class file.
+fn make_all(rt: &impl Abort, alloc: Global, listings: &[Listing]) -> Result<(), Fail> {
+    for (name, text, digits) in listings {
+        makes(rt, alloc, name, text, digits)?;
+    }
+    Ok(())
+}
+
+/// Objects and their fields.
+static OBJECTS: [Listing; 7] = [
+    (
         "Box",
         "class Box java/lang/Object 0021\nmethod main ([Ljava/lang/String;)V 0009 1 1\n\
          new Box\npop\nreturn\nend\n",
         "cafebabe000000340008010003426f780700010100106a6176612f6c616e672f4f626a65637407000301\
          00046d61696e010016285b4c6a6176612f6c616e672f537472696e673b2956010004436f646500210002\
          000400000000000100090005000600010007000000110001000100000005bb000257b1000000000000",
-    )?;
-    makes(
-        &rt,
-        rt.alloc(),
+    ),
+    (
         "Node",
         "class Node java/lang/Object 0021\nfield next LNode; 0000\n\
          method main ([Ljava/lang/String;)V 0009 4 1\nnew Node\nnew Node\ndup2\n\
@@ -55,10 +62,8 @@ fn makes_objects(rt: HostRuntime) -> Result<(), Fail> {
          696e673b2956010004436f64650c00050006090002000a00210002000400000001000000050006000000\
          01000900070008000100090000001b000400010000000fbb0002bb00025cb5000b5fb5000bb100000000\
          0000",
-    )?;
-    makes(
-        &rt,
-        rt.alloc(),
+    ),
+    (
         "Chain",
         "class Chain java/lang/Object 0021\nfield next LChain; 0000\n\
          method main ([Ljava/lang/String;)V 0009 4 2\nnew Chain\nastore 1\nnew Chain\ndup\n\
@@ -69,10 +74,8 @@ fn makes_objects(rt: HostRuntime) -> Result<(), Fail> {
          7472696e673b2956010004436f64650c00050006090002000a0021000200040000000100000005000600\
          0000010009000700080001000900000029000400020000001dbb00023a01bb0002591901b5000bbb0002\
          5a5fb5000b013a01000057b1000000000000",
-    )?;
-    makes(
-        &rt,
-        rt.alloc(),
+    ),
+    (
         "Two",
         "class Two java/lang/Object 0021\nmethod main ([Ljava/lang/String;)V 0009 5 1\n\
          new java/lang/ref/WeakReference\ndup\nnew java/lang/ref/WeakReference\ndup\n\
@@ -87,10 +90,8 @@ fn makes_objects(rt: HostRuntime) -> Result<(), Fail> {
          6a6176612f6c616e672f4f626a6563743b0c000e000f0a00090010002100020004000000000001000900\
          05000600010007000000240005000100000018bb000959bb000959bb0002b7000db7000d0000b6001157\
          b1000000000000",
-    )?;
-    makes(
-        &rt,
-        rt.alloc(),
+    ),
+    (
         "Big",
         "class Big java/lang/Object 0021\nmethod main ([Ljava/lang/String;)V 0009 1 1\n\
          ldc int 67108864\nanewarray java/lang/Object\npop\nreturn\nend\n",
@@ -98,10 +99,8 @@ fn makes_objects(rt: HostRuntime) -> Result<(), Fail> {
          00046d61696e010016285b4c6a6176612f6c616e672f537472696e673b2956010004436f646503040000\
          00002100020004000000000001000900050006000100070000001300010001000000071208bd000457b1\
          000000000000",
-    )?;
-    makes(
-        &rt,
-        rt.alloc(),
+    ),
+    (
         "Big",
         "class Big java/lang/Object 0021\nmethod main ([Ljava/lang/String;)V 0009 1 1\n\
          ldc int 67108865\nanewarray java/lang/Object\npop\nreturn\nend\n",
@@ -109,25 +108,26 @@ fn makes_objects(rt: HostRuntime) -> Result<(), Fail> {
          00046d61696e010016285b4c6a6176612f6c616e672f537472696e673b2956010004436f646503040000\
          01002100020004000000000001000900050006000100070000001300010001000000071208bd000457b1\
          000000000000",
-    )?;
-    makes(
-        &rt,
-        rt.alloc(),
+    ),
+    (
         "Ill",
         "class Ill java/lang/Object 0021\nmethod main ([Ljava/lang/String;)V 0009 2 1\niadd\n\
          return\nend\n",
         "cafebabe000000340008010003496c6c0700010100106a6176612f6c616e672f4f626a65637407000301\
          00046d61696e010016285b4c6a6176612f6c616e672f537472696e673b2956010004436f646500210002\
          0004000000000001000900050006000100070000000e000200010000000260b1000000000000",
-    )?;
+    ),
+];
+
+#[test]
+fn makes_objects(rt: HostRuntime) -> Result<(), Fail> {
+    make_all(&rt, rt.alloc(), &OBJECTS)?;
     Ok(())
 }
 
-#[test]
-fn makes_references(rt: HostRuntime) -> Result<(), Fail> {
-    makes(
-        &rt,
-        rt.alloc(),
+/// Weak references, their queues, and texts.
+static REFERENCES: [Listing; 5] = [
+    (
         "Rev",
         "class Rev java/lang/Object 0021\nfield next LRev; 0000\n\
          method main ([Ljava/lang/String;)V 0009 5 1\nnew java/lang/ref/WeakReference\ndup\n\
@@ -143,10 +143,8 @@ fn makes_references(rt: HostRuntime) -> Result<(), Fail> {
          0c001200130a000b00140021000200040000000100000005000600000001000900070008000100090000\
          0029000500010000001dbb000b59bb000259bb0002b5000db70011000059b60015c600040057b1000000\
          000000",
-    )?;
-    makes(
-        &rt,
-        rt.alloc(),
+    ),
+    (
         "Clr",
         "class Clr java/lang/Object 0021\nfield next LClr; 0000\n\
          method main ([Ljava/lang/String;)V 0009 5 1\nnew java/lang/ref/WeakReference\ndup\n\
@@ -160,10 +158,8 @@ fn makes_references(rt: HostRuntime) -> Result<(), Fail> {
          3b29560c000e000f0a000b0010010005636c6561720100032829560c001200130a000b00140021000200\
          04000000010000000500060000000100090007000800010009000000230005000100000017bb000b59bb\
          000259bb0002b5000db7001159b6001557b1000000000000",
-    )?;
-    makes(
-        &rt,
-        rt.alloc(),
+    ),
+    (
         "Que",
         "class Que java/lang/Object 0021\nmethod main ([Ljava/lang/String;)V 0009 6 2\n\
          new java/lang/ref/ReferenceQueue\ndup\n\
@@ -182,10 +178,8 @@ fn makes_references(rt: HostRuntime) -> Result<(), Fail> {
          612f6c616e672f7265662f5265666572656e63653b0c001300140a000900150021000200040000000000\
          01000900050006000100070000002b000600020000001fbb000959b7000d3a01bb000f59bb00021901b7\
          00120057001901b6001657b1000000000000",
-    )?;
-    makes(
-        &rt,
-        rt.alloc(),
+    ),
+    (
         "Str",
         "class Str java/lang/Object 0021\nmethod main ([Ljava/lang/String;)V 0009 2 1\n\
          ldc string a\nldc string a\nif_acmpeq q\nnop\nq:\nreturn\nend\n",
@@ -193,10 +187,8 @@ fn makes_references(rt: HostRuntime) -> Result<(), Fail> {
          00046d61696e010016285b4c6a6176612f6c616e672f537472696e673b2956010004436f646501000161\
          0800080021000200040000000000010009000500060001000700000015000200010000000912091209a5\
          000400b1000000000000",
-    )?;
-    makes(
-        &rt,
-        rt.alloc(),
+    ),
+    (
         "Hello",
         "class Hello java/lang/Object 0021\nmethod main ([Ljava/lang/String;)V 0009 2 1\n\
          getstatic java/lang/System out Ljava/io/PrintStream;\nldc string Hi\n\
@@ -208,15 +200,18 @@ fn makes_references(rt: HostRuntime) -> Result<(), Fail> {
          53747265616d0700100100077072696e746c6e010015284c6a6176612f6c616e672f537472696e673b29\
          560c001200130a0011001400210002000400000000000100090005000600010007000000150002000100\
          000009b2000d120fb60015b1000000000000",
-    )?;
+    ),
+];
+
+#[test]
+fn makes_references(rt: HostRuntime) -> Result<(), Fail> {
+    make_all(&rt, rt.alloc(), &REFERENCES)?;
     Ok(())
 }
 
-#[test]
-fn makes_throwing(rt: HostRuntime) -> Result<(), Fail> {
-    makes(
-        &rt,
-        rt.alloc(),
+/// Exceptions, monitors and calls.
+static THROWING: [Listing; 5] = [
+    (
         "Div",
         "class Div java/lang/Object 0021\nmethod main ([Ljava/lang/String;)V 0009 4 1\na:\n\
          new Div\nnew Div\niconst_1\niconst_0\nidiv\nb:\npop\nreturn\n\
@@ -226,10 +221,8 @@ fn makes_throwing(rt: HostRuntime) -> Result<(), Fail> {
          6176612f6c616e672f41726974686d65746963457863657074696f6e0700080021000200040000000000\
          01000900050006000100070000001f000400010000000bbb0002bb000204036c57b10001000000090009\
          000900000000",
-    )?;
-    makes(
-        &rt,
-        rt.alloc(),
+    ),
+    (
         "Syn",
         "class Syn java/lang/Object 0021\nmethod main ([Ljava/lang/String;)V 0009 1 1\na:\n\
          invokestatic Syn f ()V\nb:\nreturn\nh:\npop\nreturn\ncatch a b h *\nend\n\
@@ -243,10 +236,8 @@ fn makes_throwing(rt: HostRuntime) -> Result<(), Fail> {
          00010000000300040000000000290008000900010007000000100001000000000004b8000eb100000000\
          0029000c000900010007000000100001000000000004b80011b1000000000029000f0009000100070000\
          000e000100000000000201bf000000000000",
-    )?;
-    makes(
-        &rt,
-        rt.alloc(),
+    ),
+    (
         "Use",
         "class Use java/lang/Object 0021\nmethod main ([Ljava/lang/String;)V 0009 1 1\na:\n\
          getstatic Bad x I\nb:\npop\nreturn\nh:\npop\nc:\ngetstatic Bad x I\nd:\npop\n\
@@ -256,20 +247,16 @@ fn makes_throwing(rt: HostRuntime) -> Result<(), Fail> {
          616407000801000178010001490c000a000b090009000c00210002000400000000000100090005000600\
          01000700000029000100010000000db2000d57b157b2000d57b157b10002000000030005000000060009\
          000b000000000000",
-    )?;
-    makes(
-        &rt,
-        rt.alloc(),
+    ),
+    (
         "Bad",
         "class Bad java/lang/Object 0021\nfield x I 0008\nmethod <clinit> ()V 0008 2 0\n\
          iconst_1\niconst_0\nidiv\npop\nreturn\nend\n",
         "cafebabe00000034000a0100034261640700010100106a6176612f6c616e672f4f626a65637407000301\
          000178010001490100083c636c696e69743e010003282956010004436f64650021000200040000000100\
          0800050006000000010008000700080001000900000011000200000000000504036c57b1000000000000",
-    )?;
-    makes(
-        &rt,
-        rt.alloc(),
+    ),
+    (
         "Deep",
         "class Deep java/lang/Object 0021\nmethod main ([Ljava/lang/String;)V 0009 1 1\n\
          invokestatic Deep f ()V\nreturn\nend\nmethod f ()V 0009 1 0\n\
@@ -279,15 +266,18 @@ fn makes_throwing(rt: HostRuntime) -> Result<(), Fail> {
          660100032829560c000800090a0002000a00210002000400000000000200090005000600010007000000\
          100001000100000004b8000bb10000000000090008000900010007000000100001000000000004b8000b\
          b1000000000000",
-    )?;
+    ),
+];
+
+#[test]
+fn makes_throwing(rt: HostRuntime) -> Result<(), Fail> {
+    make_all(&rt, rt.alloc(), &THROWING)?;
     Ok(())
 }
 
-#[test]
-fn makes_threads(rt: HostRuntime) -> Result<(), Fail> {
-    makes(
-        &rt,
-        rt.alloc(),
+/// Threads and monitors.
+static THREADS: [Listing; 3] = [
+    (
         "Wrk",
         "class Wrk java/lang/Thread 0021\nfield top Ljava/lang/Object; 0008\n\
          method <init> ()V 0001 1 1\naload 0\ninvokespecial java/lang/Thread <init> ()V\n\
@@ -306,20 +296,16 @@ fn makes_threads(rt: HostRuntime) -> Result<(), Fail> {
          00b7000bb1000000000001000c000800010009000000100001000100000004b8000fb100000000002900\
          0d000800010009000000130001000000000007bb0011b30013b100000000000900140015000100090000\
          001a000200010000000ebb000259b70016b60019b8000fb1000000000000",
-    )?;
-    makes(
-        &rt,
-        rt.alloc(),
+    ),
+    (
         "Mon",
         "class Mon java/lang/Object 0021\nmethod main ([Ljava/lang/String;)V 0009 2 1\n\
          new Mon\nmonitorexit\nreturn\nend\n",
         "cafebabe0000003400080100034d6f6e0700010100106a6176612f6c616e672f4f626a65637407000301\
          00046d61696e010016285b4c6a6176612f6c616e672f537472696e673b2956010004436f646500210002\
          000400000000000100090005000600010007000000110002000100000005bb0002c3b1000000000000",
-    )?;
-    makes(
-        &rt,
-        rt.alloc(),
+    ),
+    (
         "Slf",
         "class Slf java/lang/Thread 0021\nmethod <init> ()V 0001 1 1\naload 0\n\
          invokespecial java/lang/Thread <init> ()V\nreturn\nend\nmethod run ()V 0001 1 1\n\
@@ -333,15 +319,18 @@ fn makes_threads(rt: HostRuntime) -> Result<(), Fail> {
          06000100070000001200010001000000061900b70009b1000000000001000a0006000100070000001200\
          010001000000061900b6000db1000000000009000e000f0001000700000017000200010000000bbb0002\
          59b70010b60013b1000000000000",
-    )?;
+    ),
+];
+
+#[test]
+fn makes_threads(rt: HostRuntime) -> Result<(), Fail> {
+    make_all(&rt, rt.alloc(), &THREADS)?;
     Ok(())
 }
 
-#[test]
-fn makes_others(rt: HostRuntime) -> Result<(), Fail> {
-    makes(
-        &rt,
-        rt.alloc(),
+/// What is left: an array of arrays, an error, and a superclass that is not there.
+static OTHERS: [Listing; 3] = [
+    (
         "Mul",
         "class Mul java/lang/Object 0021\nmethod main ([Ljava/lang/String;)V 0009 2 1\n\
          iconst_2\niconst_1\nmultianewarray [[I 2\npop\nreturn\nend\n",
@@ -349,26 +338,27 @@ fn makes_others(rt: HostRuntime) -> Result<(), Fail> {
          00046d61696e010016285b4c6a6176612f6c616e672f537472696e673b2956010004436f64650100035b\
          5b49070008002100020004000000000001000900050006000100070000001400020001000000080504c5\
          00090257b1000000000000",
-    )?;
-    makes(
-        &rt,
-        rt.alloc(),
+    ),
+    (
         "Sev",
         "class Sev java/lang/Object 0021\nmethod main ([Ljava/lang/String;)V 0009 1 1\n\
          new Sev\nathrow\nend\n",
         "cafebabe0000003400080100035365760700010100106a6176612f6c616e672f4f626a65637407000301\
          00046d61696e010016285b4c6a6176612f6c616e672f537472696e673b2956010004436f646500210002\
          000400000000000100090005000600010007000000100001000100000004bb0002bf000000000000",
-    )?;
-    makes(
-        &rt,
-        rt.alloc(),
+    ),
+    (
         "Sub",
         "class Sub Gone 0021\nmethod main ([Ljava/lang/String;)V 0009 1 1\nreturn\nend\n",
         "cafebabe000000340008010003537562070001010004476f6e650700030100046d61696e010016285b4c\
          6a6176612f6c616e672f537472696e673b2956010004436f646500210002000400000000000100090005\
          0006000100070000000d0001000100000001b1000000000000",
-    )?;
+    ),
+];
+
+#[test]
+fn makes_others(rt: HostRuntime) -> Result<(), Fail> {
+    make_all(&rt, rt.alloc(), &OTHERS)?;
     Ok(())
 }
 
