@@ -1,12 +1,18 @@
 //! Each read and each write of a run that fails, in turn; and a second thread whose event has no meaning.
 
-use crate::traces::{BAD, Row, USE, USE_TRACE, are_answered, files_of};
+use crate::traces::{BAD, Traced, USE, USE_TRACE, files_of, is_ill_typed};
 use et_files::Status;
-use et_io::{GatheringMemSink, MemSink};
-use et_test_runs::{answer, run_process, words_of};
+use et_io::{GatheringMemSink, MemFiles, MemSink};
+use et_test_runs::{answer, is_answered, run_process, words_of};
+use std::alloc::Global;
 use std::test::Fail;
 
 const USE_LINE: &str = "trace Use.class Bad.class";
+
+/// The files of that line.
+fn use_files(alloc: Global) -> Result<MemFiles, Fail> {
+    files_of(alloc, &[("Use.class", USE), ("Bad.class", BAD)])
+}
 
 /// The trace is written to a sink of which one put fails, the first, the second and so on up to the last: what it took is a
 /// prefix of the trace. Without that fault the trace is whole.
@@ -14,7 +20,7 @@ const USE_LINE: &str = "trace Use.class Bad.class";
 fn each_put_of_a_trace_fails_in_turn(rt: HostRuntime) -> Result<(), Fail> {
     let alloc = rt.alloc();
     for call in 1..=9 {
-        let mut files = files_of(alloc, &[("Use.class", USE), ("Bad.class", BAD)])?;
+        let mut files = use_files(alloc)?;
         let mut out = MemSink::begin(alloc, 1000);
         let mut err = MemSink::begin(alloc, 1000);
         out.fail_at(call)?;
@@ -26,6 +32,7 @@ fn each_put_of_a_trace_fails_in_turn(rt: HostRuntime) -> Result<(), Fail> {
         } else {
             assert_eq!(rt; status, Status::Done);
             assert_eq!(rt; out.bytes(), USE_TRACE);
+            assert!(rt; err.bytes().is_empty());
         }
     }
     Ok(())
@@ -37,7 +44,7 @@ fn each_put_of_a_trace_fails_in_turn(rt: HostRuntime) -> Result<(), Fail> {
 fn each_call_of_a_gathering_sink_fails_in_turn(rt: HostRuntime) -> Result<(), Fail> {
     let alloc = rt.alloc();
     for call in 1..=10 {
-        let mut files = files_of(alloc, &[("Use.class", USE), ("Bad.class", BAD)])?;
+        let mut files = use_files(alloc)?;
         let mut out = GatheringMemSink::begin(alloc);
         let mut err = MemSink::begin(alloc, 1000);
         out.fail_at(call)?;
@@ -62,7 +69,7 @@ fn each_call_of_a_gathering_sink_fails_in_turn(rt: HostRuntime) -> Result<(), Fa
 fn each_read_of_a_run_fails_in_turn(rt: HostRuntime) -> Result<(), Fail> {
     let alloc = rt.alloc();
     for call in 1..=3 {
-        let mut files = files_of(alloc, &[("Use.class", USE), ("Bad.class", BAD)])?;
+        let mut files = use_files(alloc)?;
         let mut out = MemSink::begin(alloc, 1000);
         let mut err = MemSink::begin(alloc, 1000);
         files.fail_at(call)?;
@@ -86,24 +93,27 @@ const SAD: &str = "class Sad java/lang/Thread 0021\nmethod <init> ()V 0001 1 1\n
     method main ([Ljava/lang/String;)V 0009 2 1\nnew Sad\ndup\ninvokespecial Sad <init> ()V\n\
     invokevirtual Sad start ()V\nreturn\nend\n";
 
+const SAD_TRACE: Traced = Traced {
+    line: "trace Sad.class",
+    interval: 0,
+    trace: "A 2 0 2 2 24 0\nN 2 2 <init> ()V\nM 4 0 2 2\nE 7 0 2\nE 9 0 1\nN 3 2 run ()V\n\
+         M 11 1 3 2\nF 11 1\nD 1 8\nZ 11 2\n",
+};
+
 /// The line of an event without a meaning names its thread.
 #[test]
 fn a_second_thread_is_ill_typed(rt: HostRuntime) -> Result<(), Fail> {
-    let rows: [Row; 2] = [
-        Row {
-            line: "run Sad.class",
-            status: Status::IllTyped,
-            trace: b"",
-            refusal: b"elephant: ill typed 1 Sad run ()V 0\n",
-        },
-        Row {
-            line: "trace Sad.class",
-            status: Status::IllTyped,
-            trace: b"H 1 0\nC 1 [Ljava/lang/String;\nA 0 0 1 1 24 0\nC 2 Sad\nN 1 2 main ([Ljava/lang/String;)V\nM 1 0 1 0\n\
-             A 2 0 2 2 24 0\nN 2 2 <init> ()V\nM 4 0 2 2\nE 7 0 2\nE 9 0 1\nN 3 2 run ()V\nM 11 1 3 2\nF 11 1\nD 1 8\n\
-             Z 11 2\n",
-            refusal: b"elephant: ill typed 1 Sad run ()V 0\n",
-        },
-    ];
-    are_answered(&rt, rt.alloc(), &[("Sad.class", SAD)], &rows)
+    let alloc = rt.alloc();
+    let listings = [("Sad.class", SAD)];
+    let mut files = files_of(alloc, &listings)?;
+    let refusal = b"elephant: ill typed 1 Sad run ()V 0\n";
+    is_answered(
+        alloc,
+        &mut files,
+        "run Sad.class",
+        Status::IllTyped,
+        b"",
+        refusal,
+    )?;
+    is_ill_typed(alloc, "Sad", &listings, &SAD_TRACE, "1 Sad run ()V 0")
 }

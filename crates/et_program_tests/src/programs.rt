@@ -1,11 +1,11 @@
 //! Programs of one class `T` that differ in its methods alone, run beside classes that serve all of them.
 
+use crate::traces::beginning;
 use et_asm::assemble;
 use et_files::Status;
 use et_io::MemFiles;
 use et_test_runs::is_answered;
 use std::alloc::Global;
-use std::process::Abort;
 use std::test::Fail;
 
 /// The classes beside `T`, by the paths of their files.
@@ -95,11 +95,6 @@ const PATHS: &str =
 /// What the listing of `T` begins with.
 pub const HEAD: &str = "class T java/lang/Object 0021\n";
 
-/// What each trace begins with: the argument array, and the entry of `main`.
-pub const BEGIN: &str =
-    "H 1 0\nC 1 [Ljava/lang/String;\nA 0 0 1 1 24 0\nC 2 T\nN 1 2 main ([Ljava/lang/String;)V\n\
-     M 1 0 1 0\n";
-
 /// Files with the classes beside `T`.
 pub fn library(alloc: Global) -> Result<MemFiles, Fail> {
     let mut files = MemFiles::begin(alloc);
@@ -114,13 +109,13 @@ pub fn library(alloc: Global) -> Result<MemFiles, Fail> {
 #[derive(Clone, Copy)]
 pub struct Wanted<'a> {
     pub status: Status,
+    /// How the trace goes on behind the entry of `main`.
     pub trace: &'a str,
     pub refusal: &'a str,
 }
 
 /// `trace` with these options answers so, where `T` is the class of this listing.
 pub fn is_run(
-    rt: &impl Abort,
     alloc: Global,
     files: &mut MemFiles,
     listing: &str,
@@ -130,19 +125,33 @@ pub fn is_run(
     let class = assemble(alloc, listing.as_bytes())?;
     files.hold("T.class", class.as_slice())?;
     let line = format!(in alloc; "trace {options}{PATHS}")?;
-    let Wanted {
-        status,
-        trace,
-        refusal,
-    } = wanted;
+    let mut trace = beginning(alloc, "T", 0)?;
+    trace.push_str(wanted.trace)?;
+    let refusal = wanted.refusal.as_bytes();
     is_answered(
         alloc,
         files,
         &line,
-        status,
+        wanted.status,
         trace.as_bytes(),
-        refusal.as_bytes(),
+        refusal,
     )
+}
+
+/// `trace` goes on so behind the entry of `main`, up to the end of the run.
+pub fn is_done(
+    alloc: Global,
+    files: &mut MemFiles,
+    listing: &str,
+    options: &str,
+    trace: &str,
+) -> Result<(), Fail> {
+    let wanted = Wanted {
+        status: Status::Done,
+        trace,
+        refusal: "",
+    };
+    is_run(alloc, files, listing, options, wanted)
 }
 
 /// The listing of `T` with this `main`, from its two numbers on.
@@ -160,33 +169,63 @@ pub struct Program {
 }
 
 /// Each of these programs is run so.
-pub fn are_thrown(rt: &impl Abort, alloc: Global, rows: &[Program]) -> Result<(), Fail> {
+pub fn are_done(alloc: Global, options: &str, rows: &[Program]) -> Result<(), Fail> {
     let mut files = library(alloc)?;
     for Program { main, trace } in rows {
         let listing = with_main(alloc, main)?;
-        let trace = format!(in alloc; "{BEGIN}{trace}")?;
-        let wanted = Wanted {
-            status: Status::Done,
-            trace: &trace,
-            refusal: "",
-        };
-        is_run(rt, alloc, &mut files, &listing, "", wanted)?;
+        is_done(alloc, &mut files, &listing, options, trace)?;
+    }
+    Ok(())
+}
+
+/// A program whose `main` is left by an error, before which it makes no object.
+#[derive(Clone, Copy)]
+pub struct Thrown {
+    /// The body of `main`, from its two numbers on.
+    pub main: &'static str,
+    /// The class of the error, in `java/lang`.
+    pub error: &'static str,
+    /// The event that throws it.
+    pub event: u32,
+}
+
+/// How the trace goes on: the arguments of `main` die as the error is made, and the error as `main` is left.
+fn trace_of(alloc: Global, error: &str, event: u32) -> Result<String, Fail> {
+    let left = event.saturating_add(1);
+    let end = event.saturating_add(2);
+    Ok(format!(in alloc;
+        "C 3 java/lang/{error}\nA {event} 0 2 3 32 0\nX {left} 0 1 2\nF {end} 2\nD 1 {event}\nD 2 {left}\n\
+         Z {end} 0\n"
+    )?)
+}
+
+/// Each of these programs is left by its error.
+pub fn are_thrown(alloc: Global, rows: &[Thrown]) -> Result<(), Fail> {
+    let mut files = library(alloc)?;
+    for Thrown { main, error, event } in rows {
+        let listing = with_main(alloc, main)?;
+        let trace = trace_of(alloc, error, *event)?;
+        is_done(alloc, &mut files, &listing, "", &trace)?;
     }
     Ok(())
 }
 
 /// A part of a long trace: a text, and then lines of one letter, one for each event from one up to another, with the
 /// same numbers behind.
-pub type Part = (&'static str, &'static str, u32, u32, &'static str);
+#[derive(Clone, Copy)]
+pub struct Part {
+    pub text: &'static str,
+    pub letter: &'static str,
+    pub from: u32,
+    pub to: u32,
+    pub rest: &'static str,
+}
 
-/// The trace of these parts.
-pub fn joined(alloc: Global, parts: &[Part]) -> Result<String, Fail> {
-    let mut trace = String::from_str(alloc, "")?;
-    for (text, letter, from, to, rest) in parts {
-        trace.push_str(text)?;
-        for event in *from..*to {
-            trace.push_str(&format!(in alloc; "{letter} {event} {rest}\n")?)?;
-        }
+/// The trace of this part, behind what stands before.
+pub fn push_part(alloc: Global, trace: &mut String, part: &Part) -> Result<(), Fail> {
+    trace.push_str(part.text)?;
+    for event in part.from..part.to {
+        trace.push_str(&format!(in alloc; "{} {event} {}\n", part.letter, part.rest)?)?;
     }
-    Ok(trace)
+    Ok(())
 }

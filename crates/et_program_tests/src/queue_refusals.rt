@@ -1,9 +1,7 @@
 //! What is refused of references and queues: operands that are no queue, null, and methods that a class lacks. The lines `make
 //! queue`, `make reference` and `poll` of a listing stand for calls of constructors and methods.
 
-use crate::traces::{Row, are_answered};
-use et_files::Status;
-use std::process::Abort;
+use crate::traces::{Traced, are_traced, is_ill_typed};
 use std::test::Fail;
 
 /// A constructor that is given a queue that is none.
@@ -46,62 +44,81 @@ const SEL_QUEUE: &str =
 /// The class that lacks it.
 const W2: &str = "class W2 java/lang/ref/WeakReference 0021\n";
 
+const NOQ_TRACE: Traced = Traced {
+    line: "trace Noq.class",
+    interval: 0,
+    trace: "C 3 java/lang/ref/WeakReference\nA 2 0 2 3 16 0\nA 4 0 3 2 16 0\nA 5 0 4 2 16 0\n\
+         F 5 0\nZ 5 2\n",
+};
+
 #[test]
 fn a_queue_that_is_none(rt: HostRuntime) -> Result<(), Fail> {
     let listings = [("Noq.class", NOQ)];
-    let rows: [Row; 1] = [Row {
-        line: "trace Noq.class",
-        status: Status::IllTyped,
-        trace: b"H 1 0\nC 1 [Ljava/lang/String;\nA 0 0 1 1 24 0\nC 2 Noq\nN 1 2 main ([Ljava/lang/String;)V\n\
-             M 1 0 1 0\nC 3 java/lang/ref/WeakReference\nA 2 0 2 3 16 0\nA 4 0 3 2 16 0\nA 5 0 4 2 16 0\n\
-             F 5 0\nZ 5 2\n",
-        refusal: b"elephant: ill typed 0 Noq main ([Ljava/lang/String;)V 10\n",
-    }];
-    are_answered(&rt, rt.alloc(), &listings, &rows)
+    is_ill_typed(
+        rt.alloc(),
+        "Noq",
+        &listings,
+        &NOQ_TRACE,
+        "0 Noq main ([Ljava/lang/String;)V 10",
+    )
 }
+
+const NPE_TRACES: [Traced; 1] = [Traced {
+    line: "trace Npe.class",
+    interval: 0,
+    trace: "A 3 0 2 2 16 0\nA 4 0 3 2 16 0\nC 3 java/lang/NullPointerException\n\
+         A 5 0 4 3 32 0\nX 6 0 1 4\nF 7 4\nD 1 5\nD 2 5\nD 3 5\nD 4 6\nZ 7 0\n",
+}];
 
 #[test]
 fn null_is_refused_before_what_is_no_queue(rt: HostRuntime) -> Result<(), Fail> {
-    let listings = [("Npe.class", NPE)];
-    let rows: [Row; 1] = [Row {
-        line: "trace Npe.class",
-        status: Status::Done,
-        trace: b"H 1 0\nC 1 [Ljava/lang/String;\nA 0 0 1 1 24 0\nC 2 Npe\nN 1 2 main ([Ljava/lang/String;)V\n\
-             M 1 0 1 0\nA 3 0 2 2 16 0\nA 4 0 3 2 16 0\nC 3 java/lang/NullPointerException\n\
-             A 5 0 4 3 32 0\nX 6 0 1 4\nF 7 4\nD 1 5\nD 2 5\nD 3 5\nD 4 6\nZ 7 0\n",
-        refusal: b"",
-    }];
-    are_answered(&rt, rt.alloc(), &listings, &rows)
+    are_traced(rt.alloc(), "Npe", &[("Npe.class", NPE)], &NPE_TRACES)
 }
+
+const REM_TRACES: [Traced; 1] = [Traced {
+    line: "trace Rem.class",
+    interval: 0,
+    trace: "C 3 java/lang/ref/ReferenceQueue\nA 2 0 2 3 16 0\nC 4 java/lang/NoSuchMethodError\n\
+         A 3 0 3 4 32 0\nX 4 0 1 3\nF 5 3\nD 1 3\nD 2 3\nD 3 4\nZ 5 0\n",
+}];
 
 #[test]
 fn what_queues_do_not_have_is_no_method(rt: HostRuntime) -> Result<(), Fail> {
-    let listings = [("Rem.class", REM)];
-    let rows: [Row; 1] = [Row {
-        line: "trace Rem.class",
-        status: Status::Done,
-        trace: b"H 1 0\nC 1 [Ljava/lang/String;\nA 0 0 1 1 24 0\nC 2 Rem\nN 1 2 main ([Ljava/lang/String;)V\n\
-             M 1 0 1 0\nC 3 java/lang/ref/ReferenceQueue\nA 2 0 2 3 16 0\n\
-             C 4 java/lang/NoSuchMethodError\nA 3 0 3 4 32 0\nX 4 0 1 3\nF 5 3\nD 1 3\nD 2 3\nD 3 4\n\
-             Z 5 0\n",
-        refusal: b"",
-    }];
-    are_answered(&rt, rt.alloc(), &listings, &rows)
+    are_traced(rt.alloc(), "Rem", &[("Rem.class", REM)], &REM_TRACES)
 }
+
+const NIL_TRACES: [Traced; 1] = [Traced {
+    line: "trace Nil.class",
+    interval: 0,
+    trace: "C 3 java/lang/NullPointerException\nA 3 0 2 3 32 0\nX 4 0 1 2\nF 5 2\nD 1 3\n\
+         D 2 4\nZ 5 0\n",
+}];
 
 #[test]
 fn null_is_no_queue_to_poll(rt: HostRuntime) -> Result<(), Fail> {
-    let listings = [("Nil.class", NIL)];
-    let rows: [Row; 1] = [Row {
-        line: "trace Nil.class",
-        status: Status::Done,
-        trace: b"H 1 0\nC 1 [Ljava/lang/String;\nA 0 0 1 1 24 0\nC 2 Nil\nN 1 2 main ([Ljava/lang/String;)V\n\
-             M 1 0 1 0\nC 3 java/lang/NullPointerException\nA 3 0 2 3 32 0\nX 4 0 1 2\nF 5 2\nD 1 3\n\
-             D 2 4\nZ 5 0\n",
-        refusal: b"",
-    }];
-    are_answered(&rt, rt.alloc(), &listings, &rows)
+    are_traced(rt.alloc(), "Nil", &[("Nil.class", NIL)], &NIL_TRACES)
 }
+
+const SEL_TRACE: Traced = Traced {
+    line: "trace Sel.class W2.class",
+    interval: 0,
+    trace: "C 3 W2\nA 2 0 2 3 16 0\nA 4 0 3 2 16 0\nF 4 0\nZ 4 2\n",
+};
+
+const SEL_NULL_TRACES: [Traced; 1] = [Traced {
+    line: "trace SelNull.class W2.class",
+    interval: 0,
+    trace: "C 3 W2\nA 2 0 2 3 16 0\nC 4 java/lang/NoSuchMethodError\nA 5 0 3 4 32 0\n\
+         X 6 0 1 3\nF 7 3\nD 1 5\nD 2 5\nD 3 6\nZ 7 0\n",
+}];
+
+const SEL_QUEUE_TRACES: [Traced; 1] = [Traced {
+    line: "trace SelQueue.class W2.class",
+    interval: 0,
+    trace: "C 3 W2\nA 2 0 2 3 16 0\nC 4 java/lang/ref/ReferenceQueue\nA 4 0 3 4 16 0\n\
+         C 5 java/lang/NoSuchMethodError\nA 5 0 4 5 32 0\nX 6 0 1 4\nF 7 4\nD 1 5\nD 2 5\nD 3 5\n\
+         D 4 6\nZ 7 0\n",
+}];
 
 #[test]
 fn what_is_no_queue_is_refused_before_selection(rt: HostRuntime) -> Result<(), Fail> {
@@ -111,33 +128,13 @@ fn what_is_no_queue_is_refused_before_selection(rt: HostRuntime) -> Result<(), F
         ("SelQueue.class", SEL_QUEUE),
         ("W2.class", W2),
     ];
-    let rows: [Row; 3] = [
-        Row {
-            line: "trace Sel.class W2.class",
-            status: Status::IllTyped,
-            trace: b"H 1 0\nC 1 [Ljava/lang/String;\nA 0 0 1 1 24 0\nC 2 Sel\n\
-             N 1 2 main ([Ljava/lang/String;)V\nM 1 0 1 0\nC 3 W2\nA 2 0 2 3 16 0\nA 4 0 3 2 16 0\n\
-             F 4 0\nZ 4 2\n",
-            refusal: b"elephant: ill typed 0 Sel main ([Ljava/lang/String;)V 7\n",
-        },
-        Row {
-            line: "trace SelNull.class W2.class",
-            status: Status::Done,
-            trace: b"H 1 0\nC 1 [Ljava/lang/String;\nA 0 0 1 1 24 0\nC 2 SelNull\n\
-             N 1 2 main ([Ljava/lang/String;)V\nM 1 0 1 0\nC 3 W2\nA 2 0 2 3 16 0\n\
-             C 4 java/lang/NoSuchMethodError\nA 5 0 3 4 32 0\nX 6 0 1 3\nF 7 3\nD 1 5\nD 2 5\nD 3 6\n\
-             Z 7 0\n",
-            refusal: b"",
-        },
-        Row {
-            line: "trace SelQueue.class W2.class",
-            status: Status::Done,
-            trace: b"H 1 0\nC 1 [Ljava/lang/String;\nA 0 0 1 1 24 0\nC 2 SelQueue\n\
-             N 1 2 main ([Ljava/lang/String;)V\nM 1 0 1 0\nC 3 W2\nA 2 0 2 3 16 0\n\
-             C 4 java/lang/ref/ReferenceQueue\nA 4 0 3 4 16 0\nC 5 java/lang/NoSuchMethodError\n\
-             A 5 0 4 5 32 0\nX 6 0 1 4\nF 7 4\nD 1 5\nD 2 5\nD 3 5\nD 4 6\nZ 7 0\n",
-            refusal: b"",
-        },
-    ];
-    are_answered(&rt, rt.alloc(), &listings, &rows)
+    is_ill_typed(
+        rt.alloc(),
+        "Sel",
+        &listings,
+        &SEL_TRACE,
+        "0 Sel main ([Ljava/lang/String;)V 7",
+    )?;
+    are_traced(rt.alloc(), "SelNull", &listings, &SEL_NULL_TRACES)?;
+    are_traced(rt.alloc(), "SelQueue", &listings, &SEL_QUEUE_TRACES)
 }

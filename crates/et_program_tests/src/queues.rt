@@ -1,9 +1,7 @@
 //! Programs with reference queues, and their traces. The lines `make queue`, `make reference` and `poll` of a listing stand for
 //! calls of constructors and methods.
 
-use crate::traces::{Row, are_answered};
-use et_files::Status;
-use std::process::Abort;
+use crate::traces::{Traced, are_traced};
 use std::test::Fail;
 
 /// A reference whose referent dies while the reference is on the operand stack, and which is polled.
@@ -135,585 +133,534 @@ const ITSELF: &str = "class Itself java/lang/Object 0021\nfield kept Ljava/lang/
     invokevirtual java/lang/ref/WeakReference get ()Ljava/lang/Object;\npop\nnop\naload 1\npoll\n\
     putstatic Itself kept Ljava/lang/Object;\nreturn\nend\n";
 
+const QUE_TRACES: [Traced; 2] = [
+    Traced {
+        line: "trace --flush 11 Que.class",
+        interval: 11,
+        trace: "C 3 java/lang/ref/ReferenceQueue\nA 2 0 2 3 16 0\nC 4 java/lang/ref/WeakReference\n\
+         A 6 0 3 4 16 0\nA 8 0 4 2 16 0\nF 11 1\nD 4 9\nE 17 0 1\nF 18 3\nD 1 16\nD 2 16\nD 3 15\n\
+         Z 18 0\n",
+    },
+    Traced {
+        line: "trace Que.class",
+        interval: 0,
+        trace: "C 3 java/lang/ref/ReferenceQueue\nA 2 0 2 3 16 0\nC 4 java/lang/ref/WeakReference\n\
+         A 6 0 3 4 16 0\nA 8 0 4 2 16 0\nE 17 0 1\nF 18 4\nD 1 16\nD 2 16\nD 3 11\nD 4 9\nZ 18 0\n",
+    },
+];
+
 #[test]
 fn a_reference_waits_in_its_queue(rt: HostRuntime) -> Result<(), Fail> {
-    let listings = [("Que.class", QUE)];
-    let rows: [Row; 2] = [
-        Row {
-            line: "trace --flush 11 Que.class",
-            status: Status::Done,
-            trace: b"H 1 11\nC 1 [Ljava/lang/String;\nA 0 0 1 1 24 0\nC 2 Que\n\
-             N 1 2 main ([Ljava/lang/String;)V\nM 1 0 1 0\nC 3 java/lang/ref/ReferenceQueue\n\
-             A 2 0 2 3 16 0\nC 4 java/lang/ref/WeakReference\nA 6 0 3 4 16 0\nA 8 0 4 2 16 0\nF 11 1\n\
-             D 4 9\nE 17 0 1\nF 18 3\nD 1 16\nD 2 16\nD 3 15\nZ 18 0\n",
-            refusal: b"",
-        },
-        Row {
-            line: "trace Que.class",
-            status: Status::Done,
-            trace: b"H 1 0\nC 1 [Ljava/lang/String;\nA 0 0 1 1 24 0\nC 2 Que\nN 1 2 main ([Ljava/lang/String;)V\n\
-             M 1 0 1 0\nC 3 java/lang/ref/ReferenceQueue\nA 2 0 2 3 16 0\n\
-             C 4 java/lang/ref/WeakReference\nA 6 0 3 4 16 0\nA 8 0 4 2 16 0\nE 17 0 1\nF 18 4\nD 1 16\n\
-             D 2 16\nD 3 11\nD 4 9\nZ 18 0\n",
-            refusal: b"",
-        },
-    ];
-    are_answered(&rt, rt.alloc(), &listings, &rows)
+    are_traced(rt.alloc(), "Que", &[("Que.class", QUE)], &QUE_TRACES)
 }
+
+const GONE_TRACES: [Traced; 2] = [
+    Traced {
+        line: "trace --flush 12 Gone.class",
+        interval: 12,
+        trace: "C 3 java/lang/ref/ReferenceQueue\nA 2 0 2 3 16 0\nC 4 java/lang/ref/WeakReference\n\
+         A 6 0 3 4 16 0\nA 8 0 4 2 16 0\nF 12 1\nD 4 9\nE 19 0 1\nF 20 3\nD 1 18\nD 2 18\nD 3 18\n\
+         Z 20 0\n",
+    },
+    Traced {
+        line: "trace --flush 3 Gone.class",
+        interval: 3,
+        trace: "C 3 java/lang/ref/ReferenceQueue\nA 2 0 2 3 16 0\nF 3 0\n\
+         C 4 java/lang/ref/WeakReference\nA 6 0 3 4 16 0\nF 6 0\nA 8 0 4 2 16 0\nF 9 0\nF 12 1\n\
+         D 4 9\nF 15 0\nF 18 0\nE 19 0 1\nF 20 3\nD 1 18\nD 2 18\nD 3 18\nZ 20 0\n",
+    },
+];
 
 #[test]
 fn a_waiting_reference_keeps_its_queue(rt: HostRuntime) -> Result<(), Fail> {
-    let listings = [("Gone.class", GONE)];
-    let rows: [Row; 2] = [
-        Row {
-            line: "trace --flush 12 Gone.class",
-            status: Status::Done,
-            trace: b"H 1 12\nC 1 [Ljava/lang/String;\nA 0 0 1 1 24 0\nC 2 Gone\n\
-             N 1 2 main ([Ljava/lang/String;)V\nM 1 0 1 0\nC 3 java/lang/ref/ReferenceQueue\n\
-             A 2 0 2 3 16 0\nC 4 java/lang/ref/WeakReference\nA 6 0 3 4 16 0\nA 8 0 4 2 16 0\nF 12 1\n\
-             D 4 9\nE 19 0 1\nF 20 3\nD 1 18\nD 2 18\nD 3 18\nZ 20 0\n",
-            refusal: b"",
-        },
-        Row {
-            line: "trace --flush 3 Gone.class",
-            status: Status::Done,
-            trace: b"H 1 3\nC 1 [Ljava/lang/String;\nA 0 0 1 1 24 0\nC 2 Gone\n\
-             N 1 2 main ([Ljava/lang/String;)V\nM 1 0 1 0\nC 3 java/lang/ref/ReferenceQueue\n\
-             A 2 0 2 3 16 0\nF 3 0\nC 4 java/lang/ref/WeakReference\nA 6 0 3 4 16 0\nF 6 0\n\
-             A 8 0 4 2 16 0\nF 9 0\nF 12 1\nD 4 9\nF 15 0\nF 18 0\nE 19 0 1\nF 20 3\nD 1 18\nD 2 18\n\
-             D 3 18\nZ 20 0\n",
-            refusal: b"",
-        },
-    ];
-    are_answered(&rt, rt.alloc(), &listings, &rows)
+    are_traced(rt.alloc(), "Gone", &[("Gone.class", GONE)], &GONE_TRACES)
 }
+
+const EMPTY_TRACES: [Traced; 1] = [Traced {
+    line: "trace --flush 16 Twice.class",
+    interval: 16,
+    trace: "C 3 java/lang/ref/ReferenceQueue\nA 2 0 2 3 16 0\nC 4 java/lang/ref/WeakReference\n\
+         A 9 0 3 4 16 0\nA 11 0 4 2 16 0\nF 16 1\nD 4 12\nE 24 0 1\nF 25 3\nD 1 23\nD 2 23\n\
+         D 3 23\nZ 25 0\n",
+}];
+
+const CLEARED_TRACES: [Traced; 1] = [Traced {
+    line: "trace --flush 13 Cleared.class",
+    interval: 13,
+    trace: "C 3 java/lang/ref/ReferenceQueue\nA 2 0 2 3 16 0\nC 4 java/lang/ref/WeakReference\n\
+         A 6 0 3 4 16 0\nA 8 0 4 2 16 0\nF 13 1\nD 4 9\nE 19 0 1\nF 20 3\nD 1 18\nD 2 18\nD 3 18\n\
+         Z 20 0\n",
+}];
 
 #[test]
 fn an_empty_queue_gives_null(rt: HostRuntime) -> Result<(), Fail> {
-    let listings = [("Twice.class", TWICE), ("Cleared.class", CLEARED)];
-    let rows: [Row; 2] = [
-        Row {
-            line: "trace --flush 16 Twice.class",
-            status: Status::Done,
-            trace: b"H 1 16\nC 1 [Ljava/lang/String;\nA 0 0 1 1 24 0\nC 2 Twice\n\
-             N 1 2 main ([Ljava/lang/String;)V\nM 1 0 1 0\nC 3 java/lang/ref/ReferenceQueue\n\
-             A 2 0 2 3 16 0\nC 4 java/lang/ref/WeakReference\nA 9 0 3 4 16 0\nA 11 0 4 2 16 0\nF 16 1\n\
-             D 4 12\nE 24 0 1\nF 25 3\nD 1 23\nD 2 23\nD 3 23\nZ 25 0\n",
-            refusal: b"",
-        },
-        Row {
-            line: "trace --flush 13 Cleared.class",
-            status: Status::Done,
-            trace: b"H 1 13\nC 1 [Ljava/lang/String;\nA 0 0 1 1 24 0\nC 2 Cleared\n\
-             N 1 2 main ([Ljava/lang/String;)V\nM 1 0 1 0\nC 3 java/lang/ref/ReferenceQueue\n\
-             A 2 0 2 3 16 0\nC 4 java/lang/ref/WeakReference\nA 6 0 3 4 16 0\nA 8 0 4 2 16 0\nF 13 1\n\
-             D 4 9\nE 19 0 1\nF 20 3\nD 1 18\nD 2 18\nD 3 18\nZ 20 0\n",
-            refusal: b"",
-        },
-    ];
-    are_answered(&rt, rt.alloc(), &listings, &rows)
+    are_traced(
+        rt.alloc(),
+        "Twice",
+        &[("Twice.class", TWICE)],
+        &EMPTY_TRACES,
+    )?;
+    are_traced(
+        rt.alloc(),
+        "Cleared",
+        &[("Cleared.class", CLEARED)],
+        &CLEARED_TRACES,
+    )
 }
+
+const PAIR_TRACES: [Traced; 2] = [
+    Traced {
+        line: "trace --flush 21 Pair.class",
+        interval: 21,
+        trace: "C 3 java/lang/ref/ReferenceQueue\nA 2 0 2 3 16 0\nC 4 java/lang/ref/WeakReference\n\
+         A 6 0 3 4 16 0\nA 8 0 4 4 16 0\nA 10 0 5 2 16 0\nF 21 1\nD 5 20\nE 36 0 1\nF 37 4\n\
+         D 1 35\nD 2 35\nD 3 29\nD 4 33\nZ 37 0\n",
+    },
+    Traced {
+        line: "trace --flush 1 Pair.class",
+        interval: 1,
+        trace: "F 1 0\nC 3 java/lang/ref/ReferenceQueue\nA 2 0 2 3 16 0\nF 2 0\nF 3 0\nF 4 0\n\
+         F 5 0\nC 4 java/lang/ref/WeakReference\nA 6 0 3 4 16 0\nF 6 0\nF 7 0\nA 8 0 4 4 16 0\n\
+         F 8 0\nF 9 0\nA 10 0 5 2 16 0\nF 10 0\nF 11 0\nF 12 0\nF 13 0\nF 14 0\nF 15 0\nF 16 0\n\
+         F 17 0\nF 18 0\nF 19 0\nF 20 0\nF 21 1\nD 5 20\nF 22 0\nF 23 0\nF 24 0\nF 25 0\nF 26 0\n\
+         F 27 0\nF 28 0\nF 29 0\nF 30 1\nD 3 29\nF 31 0\nF 32 0\nF 33 0\nF 34 1\nD 4 33\nF 35 0\n\
+         E 36 0 1\nF 36 2\nD 1 35\nD 2 35\nF 37 0\nZ 37 0\n",
+    },
+];
 
 #[test]
 fn references_wait_in_rising_order(rt: HostRuntime) -> Result<(), Fail> {
-    let listings = [("Pair.class", PAIR)];
-    let rows: [Row; 2] = [
-        Row {
-            line: "trace --flush 21 Pair.class",
-            status: Status::Done,
-            trace: b"H 1 21\nC 1 [Ljava/lang/String;\nA 0 0 1 1 24 0\nC 2 Pair\n\
-             N 1 2 main ([Ljava/lang/String;)V\nM 1 0 1 0\nC 3 java/lang/ref/ReferenceQueue\n\
-             A 2 0 2 3 16 0\nC 4 java/lang/ref/WeakReference\nA 6 0 3 4 16 0\nA 8 0 4 4 16 0\n\
-             A 10 0 5 2 16 0\nF 21 1\nD 5 20\nE 36 0 1\nF 37 4\nD 1 35\nD 2 35\nD 3 29\nD 4 33\nZ 37 0\n",
-            refusal: b"",
-        },
-        Row {
-            line: "trace --flush 1 Pair.class",
-            status: Status::Done,
-            trace: b"H 1 1\nC 1 [Ljava/lang/String;\nA 0 0 1 1 24 0\nC 2 Pair\n\
-             N 1 2 main ([Ljava/lang/String;)V\nM 1 0 1 0\nF 1 0\nC 3 java/lang/ref/ReferenceQueue\n\
-             A 2 0 2 3 16 0\nF 2 0\nF 3 0\nF 4 0\nF 5 0\nC 4 java/lang/ref/WeakReference\n\
-             A 6 0 3 4 16 0\nF 6 0\nF 7 0\nA 8 0 4 4 16 0\nF 8 0\nF 9 0\nA 10 0 5 2 16 0\nF 10 0\n\
-             F 11 0\nF 12 0\nF 13 0\nF 14 0\nF 15 0\nF 16 0\nF 17 0\nF 18 0\nF 19 0\nF 20 0\nF 21 1\n\
-             D 5 20\nF 22 0\nF 23 0\nF 24 0\nF 25 0\nF 26 0\nF 27 0\nF 28 0\nF 29 0\nF 30 1\nD 3 29\n\
-             F 31 0\nF 32 0\nF 33 0\nF 34 1\nD 4 33\nF 35 0\nE 36 0 1\nF 36 2\nD 1 35\nD 2 35\nF 37 0\n\
-             Z 37 0\n",
-            refusal: b"",
-        },
-    ];
-    are_answered(&rt, rt.alloc(), &listings, &rows)
+    are_traced(rt.alloc(), "Pair", &[("Pair.class", PAIR)], &PAIR_TRACES)
 }
+
+const NONE_TRACES: [Traced; 2] = [
+    Traced {
+        line: "trace --flush 15 None.class",
+        interval: 15,
+        trace: "C 3 java/lang/ref/ReferenceQueue\nA 2 0 2 3 16 0\nC 4 java/lang/ref/WeakReference\n\
+         A 6 0 3 4 16 0\nA 8 0 4 2 16 0\nA 13 0 5 2 16 0\nF 15 2\nD 4 9\nD 5 13\nA 20 0 6 4 16 0\n\
+         A 22 0 7 2 16 0\nE 27 0 1\nF 28 5\nD 1 26\nD 2 26\nD 3 26\nD 6 24\nD 7 23\nZ 28 0\n",
+    },
+    Traced {
+        line: "trace --flush 1 None.class",
+        interval: 1,
+        trace: "F 1 0\nC 3 java/lang/ref/ReferenceQueue\nA 2 0 2 3 16 0\nF 2 0\nF 3 0\nF 4 0\n\
+         F 5 0\nC 4 java/lang/ref/WeakReference\nA 6 0 3 4 16 0\nF 6 0\nF 7 0\nA 8 0 4 2 16 0\n\
+         F 8 0\nF 9 0\nF 10 1\nD 4 9\nF 11 0\nF 12 0\nA 13 0 5 2 16 0\nF 13 0\nF 14 1\nD 5 13\n\
+         F 15 0\nF 16 0\nF 17 0\nF 18 0\nF 19 0\nA 20 0 6 4 16 0\nF 20 0\nF 21 0\nA 22 0 7 2 16 0\n\
+         F 22 0\nF 23 0\nF 24 1\nD 7 23\nF 25 1\nD 6 24\nF 26 0\nE 27 0 1\nF 27 3\nD 1 26\nD 2 26\n\
+         D 3 26\nF 28 0\nZ 28 0\n",
+    },
+];
 
 #[test]
 fn a_null_queue_is_none(rt: HostRuntime) -> Result<(), Fail> {
-    let listings = [("None.class", NONE)];
-    let rows: [Row; 2] = [
-        Row {
-            line: "trace --flush 15 None.class",
-            status: Status::Done,
-            trace: b"H 1 15\nC 1 [Ljava/lang/String;\nA 0 0 1 1 24 0\nC 2 None\n\
-             N 1 2 main ([Ljava/lang/String;)V\nM 1 0 1 0\nC 3 java/lang/ref/ReferenceQueue\n\
-             A 2 0 2 3 16 0\nC 4 java/lang/ref/WeakReference\nA 6 0 3 4 16 0\nA 8 0 4 2 16 0\n\
-             A 13 0 5 2 16 0\nF 15 2\nD 4 9\nD 5 13\nA 20 0 6 4 16 0\nA 22 0 7 2 16 0\nE 27 0 1\nF 28 5\n\
-             D 1 26\nD 2 26\nD 3 26\nD 6 24\nD 7 23\nZ 28 0\n",
-            refusal: b"",
-        },
-        Row {
-            line: "trace --flush 1 None.class",
-            status: Status::Done,
-            trace: b"H 1 1\nC 1 [Ljava/lang/String;\nA 0 0 1 1 24 0\nC 2 None\n\
-             N 1 2 main ([Ljava/lang/String;)V\nM 1 0 1 0\nF 1 0\nC 3 java/lang/ref/ReferenceQueue\n\
-             A 2 0 2 3 16 0\nF 2 0\nF 3 0\nF 4 0\nF 5 0\nC 4 java/lang/ref/WeakReference\n\
-             A 6 0 3 4 16 0\nF 6 0\nF 7 0\nA 8 0 4 2 16 0\nF 8 0\nF 9 0\nF 10 1\nD 4 9\nF 11 0\nF 12 0\n\
-             A 13 0 5 2 16 0\nF 13 0\nF 14 1\nD 5 13\nF 15 0\nF 16 0\nF 17 0\nF 18 0\nF 19 0\n\
-             A 20 0 6 4 16 0\nF 20 0\nF 21 0\nA 22 0 7 2 16 0\nF 22 0\nF 23 0\nF 24 1\nD 7 23\nF 25 1\n\
-             D 6 24\nF 26 0\nE 27 0 1\nF 27 3\nD 1 26\nD 2 26\nD 3 26\nF 28 0\nZ 28 0\n",
-            refusal: b"",
-        },
-    ];
-    are_answered(&rt, rt.alloc(), &listings, &rows)
+    are_traced(rt.alloc(), "None", &[("None.class", NONE)], &NONE_TRACES)
 }
+
+const CLEAN_TRACES: [Traced; 2] = [
+    Traced {
+        line: "trace --flush 1 --limit 40 Clean.class",
+        interval: 1,
+        trace: "F 1 0\nC 3 java/lang/ref/ReferenceQueue\nA 2 0 2 3 16 0\nF 2 0\nF 3 0\nF 4 0\n\
+         F 5 0\nC 4 java/lang/ref/WeakReference\nA 6 0 3 4 16 0\nF 6 0\nF 7 0\nA 8 0 4 2 16 0\n\
+         F 8 0\nF 9 0\nF 10 1\nD 4 9\nF 11 0\nA 12 0 5 4 16 0\nF 12 0\nF 13 0\nA 14 0 6 2 16 0\n\
+         F 14 0\nF 15 0\nF 16 1\nD 6 15\nF 17 0\nF 18 0\nF 19 0\nF 20 0\nF 21 0\nF 22 0\nF 23 1\n\
+         D 5 22\nE 24 0 1\nF 24 3\nD 1 23\nD 2 23\nD 3 23\nF 25 0\nZ 25 0\n",
+    },
+    Traced {
+        line: "trace --flush 2 --limit 40 Clean.class",
+        interval: 2,
+        trace: "C 3 java/lang/ref/ReferenceQueue\nA 2 0 2 3 16 0\nF 2 0\nF 4 0\n\
+         C 4 java/lang/ref/WeakReference\nA 6 0 3 4 16 0\nF 6 0\nA 8 0 4 2 16 0\nF 8 0\nF 10 1\n\
+         D 4 9\nA 12 0 5 4 16 0\nF 12 0\nA 14 0 6 2 16 0\nF 14 0\nF 16 1\nD 6 15\nF 18 0\nF 20 0\n\
+         F 22 0\nE 24 0 1\nF 24 4\nD 1 23\nD 2 23\nD 3 23\nD 5 22\nF 25 0\nZ 25 0\n",
+    },
+];
 
 #[test]
 fn a_loop_that_polls_at_short_intervals(rt: HostRuntime) -> Result<(), Fail> {
-    let listings = [("Clean.class", CLEAN)];
-    let rows: [Row; 2] = [
-        Row {
-            line: "trace --flush 1 --limit 40 Clean.class",
-            status: Status::Done,
-            trace: b"H 1 1\nC 1 [Ljava/lang/String;\nA 0 0 1 1 24 0\nC 2 Clean\n\
-             N 1 2 main ([Ljava/lang/String;)V\nM 1 0 1 0\nF 1 0\nC 3 java/lang/ref/ReferenceQueue\n\
-             A 2 0 2 3 16 0\nF 2 0\nF 3 0\nF 4 0\nF 5 0\nC 4 java/lang/ref/WeakReference\n\
-             A 6 0 3 4 16 0\nF 6 0\nF 7 0\nA 8 0 4 2 16 0\nF 8 0\nF 9 0\nF 10 1\nD 4 9\nF 11 0\n\
-             A 12 0 5 4 16 0\nF 12 0\nF 13 0\nA 14 0 6 2 16 0\nF 14 0\nF 15 0\nF 16 1\nD 6 15\nF 17 0\n\
-             F 18 0\nF 19 0\nF 20 0\nF 21 0\nF 22 0\nF 23 1\nD 5 22\nE 24 0 1\nF 24 3\nD 1 23\nD 2 23\n\
-             D 3 23\nF 25 0\nZ 25 0\n",
-            refusal: b"",
-        },
-        Row {
-            line: "trace --flush 2 --limit 40 Clean.class",
-            status: Status::Done,
-            trace: b"H 1 2\nC 1 [Ljava/lang/String;\nA 0 0 1 1 24 0\nC 2 Clean\n\
-             N 1 2 main ([Ljava/lang/String;)V\nM 1 0 1 0\nC 3 java/lang/ref/ReferenceQueue\n\
-             A 2 0 2 3 16 0\nF 2 0\nF 4 0\nC 4 java/lang/ref/WeakReference\nA 6 0 3 4 16 0\nF 6 0\n\
-             A 8 0 4 2 16 0\nF 8 0\nF 10 1\nD 4 9\nA 12 0 5 4 16 0\nF 12 0\nA 14 0 6 2 16 0\nF 14 0\n\
-             F 16 1\nD 6 15\nF 18 0\nF 20 0\nF 22 0\nE 24 0 1\nF 24 4\nD 1 23\nD 2 23\nD 3 23\nD 5 22\n\
-             F 25 0\nZ 25 0\n",
-            refusal: b"",
-        },
-    ];
-    are_answered(&rt, rt.alloc(), &listings, &rows)
+    are_traced(
+        rt.alloc(),
+        "Clean",
+        &[("Clean.class", CLEAN)],
+        &CLEAN_TRACES,
+    )
 }
+
+const VAIN_TRACES: [Traced; 2] = [
+    Traced {
+        line: "trace --flush 3 --limit 40 Clean.class",
+        interval: 3,
+        trace: "C 3 java/lang/ref/ReferenceQueue\nA 2 0 2 3 16 0\nF 3 0\n\
+         C 4 java/lang/ref/WeakReference\nA 6 0 3 4 16 0\nF 6 0\nA 8 0 4 2 16 0\nF 9 0\n\
+         A 12 0 5 4 16 0\nF 12 1\nD 4 9\nA 14 0 6 2 16 0\nF 15 0\nF 18 2\nD 5 16\nD 6 15\nF 21 0\n\
+         F 24 0\nF 27 0\nF 30 0\nF 33 0\nF 36 0\nF 39 0\nF 40 0\nZ 40 1\n",
+    },
+    Traced {
+        line: "trace --flush 0 --limit 40 Clean.class",
+        interval: 0,
+        trace: "C 3 java/lang/ref/ReferenceQueue\nA 2 0 2 3 16 0\nC 4 java/lang/ref/WeakReference\n\
+         A 6 0 3 4 16 0\nA 8 0 4 2 16 0\nA 12 0 5 4 16 0\nA 14 0 6 2 16 0\nF 40 3\nD 4 9\nD 5 16\n\
+         D 6 15\nZ 40 1\n",
+    },
+];
 
 #[test]
 fn a_loop_that_polls_in_vain(rt: HostRuntime) -> Result<(), Fail> {
-    let listings = [("Clean.class", CLEAN)];
-    let rows: [Row; 2] = [
-        Row {
-            line: "trace --flush 3 --limit 40 Clean.class",
-            status: Status::Done,
-            trace: b"H 1 3\nC 1 [Ljava/lang/String;\nA 0 0 1 1 24 0\nC 2 Clean\n\
-             N 1 2 main ([Ljava/lang/String;)V\nM 1 0 1 0\nC 3 java/lang/ref/ReferenceQueue\n\
-             A 2 0 2 3 16 0\nF 3 0\nC 4 java/lang/ref/WeakReference\nA 6 0 3 4 16 0\nF 6 0\n\
-             A 8 0 4 2 16 0\nF 9 0\nA 12 0 5 4 16 0\nF 12 1\nD 4 9\nA 14 0 6 2 16 0\nF 15 0\nF 18 2\n\
-             D 5 16\nD 6 15\nF 21 0\nF 24 0\nF 27 0\nF 30 0\nF 33 0\nF 36 0\nF 39 0\nF 40 0\nZ 40 1\n",
-            refusal: b"",
-        },
-        Row {
-            line: "trace --flush 0 --limit 40 Clean.class",
-            status: Status::Done,
-            trace: b"H 1 0\nC 1 [Ljava/lang/String;\nA 0 0 1 1 24 0\nC 2 Clean\n\
-             N 1 2 main ([Ljava/lang/String;)V\nM 1 0 1 0\nC 3 java/lang/ref/ReferenceQueue\n\
-             A 2 0 2 3 16 0\nC 4 java/lang/ref/WeakReference\nA 6 0 3 4 16 0\nA 8 0 4 2 16 0\n\
-             A 12 0 5 4 16 0\nA 14 0 6 2 16 0\nF 40 3\nD 4 9\nD 5 16\nD 6 15\nZ 40 1\n",
-            refusal: b"",
-        },
-    ];
-    are_answered(&rt, rt.alloc(), &listings, &rows)
+    are_traced(rt.alloc(), "Clean", &[("Clean.class", CLEAN)], &VAIN_TRACES)
 }
+
+const OLD_TRACES: [Traced; 3] = [
+    Traced {
+        line: "trace --flush 1 Old.class",
+        interval: 1,
+        trace: "F 1 0\nC 3 java/lang/ref/ReferenceQueue\nA 2 0 2 3 16 0\nF 2 0\nF 3 0\nF 4 0\n\
+         F 5 0\nC 4 java/lang/ref/WeakReference\nA 6 0 3 4 16 0\nF 6 0\nF 7 0\nA 8 0 4 2 16 0\n\
+         F 8 0\nF 9 0\nF 10 1\nD 4 9\nF 11 0\nF 12 0\nF 13 0\nA 14 0 5 3 16 0\nF 14 0\nF 15 0\n\
+         F 16 0\nF 17 0\nA 18 0 6 2 16 0\nF 18 0\nF 19 0\nF 20 0\nF 21 0\nF 22 0\nF 23 0\nF 24 0\n\
+         F 25 1\nD 2 24\nF 26 0\nF 27 0\nF 28 1\nD 6 27\nF 29 0\nF 30 0\nF 31 0\nF 32 0\nE 33 0 1\n\
+         F 33 3\nD 1 32\nD 3 32\nD 5 32\nF 34 0\nZ 34 0\n",
+    },
+    Traced {
+        line: "trace --flush 14 Old.class",
+        interval: 14,
+        trace: "C 3 java/lang/ref/ReferenceQueue\nA 2 0 2 3 16 0\nC 4 java/lang/ref/WeakReference\n\
+         A 6 0 3 4 16 0\nA 8 0 4 2 16 0\nA 14 0 5 3 16 0\nF 14 1\nD 4 9\nA 18 0 6 2 16 0\nF 28 2\n\
+         D 2 24\nD 6 27\nE 33 0 1\nF 34 3\nD 1 32\nD 3 32\nD 5 32\nZ 34 0\n",
+    },
+    Traced {
+        line: "trace --flush 28 Old.class",
+        interval: 28,
+        trace: "C 3 java/lang/ref/ReferenceQueue\nA 2 0 2 3 16 0\nC 4 java/lang/ref/WeakReference\n\
+         A 6 0 3 4 16 0\nA 8 0 4 2 16 0\nA 14 0 5 3 16 0\nA 18 0 6 2 16 0\nF 28 3\nD 2 24\nD 4 9\n\
+         D 6 27\nE 35 0 1\nF 36 3\nD 1 34\nD 3 34\nD 5 34\nZ 36 0\n",
+    },
+];
 
 #[test]
 fn a_reference_of_a_dead_queue_waits_still(rt: HostRuntime) -> Result<(), Fail> {
-    let listings = [("Old.class", OLD)];
-    let rows: [Row; 3] = [
-        Row {
-            line: "trace --flush 1 Old.class",
-            status: Status::Done,
-            trace: b"H 1 1\nC 1 [Ljava/lang/String;\nA 0 0 1 1 24 0\nC 2 Old\nN 1 2 main ([Ljava/lang/String;)V\n\
-             M 1 0 1 0\nF 1 0\nC 3 java/lang/ref/ReferenceQueue\nA 2 0 2 3 16 0\nF 2 0\nF 3 0\nF 4 0\n\
-             F 5 0\nC 4 java/lang/ref/WeakReference\nA 6 0 3 4 16 0\nF 6 0\nF 7 0\nA 8 0 4 2 16 0\n\
-             F 8 0\nF 9 0\nF 10 1\nD 4 9\nF 11 0\nF 12 0\nF 13 0\nA 14 0 5 3 16 0\nF 14 0\nF 15 0\n\
-             F 16 0\nF 17 0\nA 18 0 6 2 16 0\nF 18 0\nF 19 0\nF 20 0\nF 21 0\nF 22 0\nF 23 0\nF 24 0\n\
-             F 25 1\nD 2 24\nF 26 0\nF 27 0\nF 28 1\nD 6 27\nF 29 0\nF 30 0\nF 31 0\nF 32 0\nE 33 0 1\n\
-             F 33 3\nD 1 32\nD 3 32\nD 5 32\nF 34 0\nZ 34 0\n",
-            refusal: b"",
-        },
-        Row {
-            line: "trace --flush 14 Old.class",
-            status: Status::Done,
-            trace: b"H 1 14\nC 1 [Ljava/lang/String;\nA 0 0 1 1 24 0\nC 2 Old\n\
-             N 1 2 main ([Ljava/lang/String;)V\nM 1 0 1 0\nC 3 java/lang/ref/ReferenceQueue\n\
-             A 2 0 2 3 16 0\nC 4 java/lang/ref/WeakReference\nA 6 0 3 4 16 0\nA 8 0 4 2 16 0\n\
-             A 14 0 5 3 16 0\nF 14 1\nD 4 9\nA 18 0 6 2 16 0\nF 28 2\nD 2 24\nD 6 27\nE 33 0 1\nF 34 3\n\
-             D 1 32\nD 3 32\nD 5 32\nZ 34 0\n",
-            refusal: b"",
-        },
-        Row {
-            line: "trace --flush 28 Old.class",
-            status: Status::Done,
-            trace: b"H 1 28\nC 1 [Ljava/lang/String;\nA 0 0 1 1 24 0\nC 2 Old\n\
-             N 1 2 main ([Ljava/lang/String;)V\nM 1 0 1 0\nC 3 java/lang/ref/ReferenceQueue\n\
-             A 2 0 2 3 16 0\nC 4 java/lang/ref/WeakReference\nA 6 0 3 4 16 0\nA 8 0 4 2 16 0\n\
-             A 14 0 5 3 16 0\nA 18 0 6 2 16 0\nF 28 3\nD 2 24\nD 4 9\nD 6 27\nE 35 0 1\nF 36 3\nD 1 34\n\
-             D 3 34\nD 5 34\nZ 36 0\n",
-            refusal: b"",
-        },
-    ];
-    are_answered(&rt, rt.alloc(), &listings, &rows)
+    are_traced(rt.alloc(), "Old", &[("Old.class", OLD)], &OLD_TRACES)
 }
+
+const MOVED_TRACES: [Traced; 2] = [
+    Traced {
+        line: "trace --flush 1 Moved.class",
+        interval: 1,
+        trace: "F 1 0\nC 3 java/lang/ref/ReferenceQueue\nA 2 0 2 3 16 0\nF 2 0\nF 3 0\nF 4 0\n\
+         F 5 0\nC 4 java/lang/ref/WeakReference\nA 6 0 3 4 16 0\nF 6 0\nF 7 0\nA 8 0 4 2 16 0\n\
+         F 8 0\nF 9 0\nF 10 1\nD 4 9\nF 11 0\nF 12 0\nF 13 0\nA 14 0 5 3 16 0\nF 14 0\nF 15 0\n\
+         F 16 0\nF 17 0\nF 18 0\nA 19 0 6 2 16 0\nF 19 0\nF 20 0\nF 21 1\nD 6 20\nF 22 0\nF 23 0\n\
+         F 24 0\nF 25 0\nF 26 0\nF 27 0\nF 28 0\nF 29 0\nF 30 0\nA 31 0 7 2 16 0\nF 31 0\nF 32 0\n\
+         F 33 1\nD 7 32\nF 34 0\nF 35 0\nF 36 0\nF 37 0\nF 38 0\nF 39 0\nF 40 0\nF 41 1\nD 3 40\n\
+         F 42 0\nE 43 0 1\nF 43 3\nD 1 42\nD 2 42\nD 5 42\nF 44 0\nZ 44 0\n",
+    },
+    Traced {
+        line: "trace --flush 16 Moved.class",
+        interval: 16,
+        trace: "C 3 java/lang/ref/ReferenceQueue\nA 2 0 2 3 16 0\nC 4 java/lang/ref/WeakReference\n\
+         A 6 0 3 4 16 0\nA 8 0 4 2 16 0\nA 14 0 5 3 16 0\nF 16 1\nD 4 9\nA 19 0 6 2 16 0\n\
+         A 31 0 7 2 16 0\nF 32 1\nD 6 20\nE 43 0 1\nF 44 5\nD 1 42\nD 2 42\nD 3 40\nD 5 42\n\
+         D 7 32\nZ 44 0\n",
+    },
+];
 
 #[test]
 fn a_reference_goes_to_its_new_queue(rt: HostRuntime) -> Result<(), Fail> {
-    let listings = [("Moved.class", MOVED)];
-    let rows: [Row; 2] = [
-        Row {
-            line: "trace --flush 1 Moved.class",
-            status: Status::Done,
-            trace: b"H 1 1\nC 1 [Ljava/lang/String;\nA 0 0 1 1 24 0\nC 2 Moved\n\
-             N 1 2 main ([Ljava/lang/String;)V\nM 1 0 1 0\nF 1 0\nC 3 java/lang/ref/ReferenceQueue\n\
-             A 2 0 2 3 16 0\nF 2 0\nF 3 0\nF 4 0\nF 5 0\nC 4 java/lang/ref/WeakReference\n\
-             A 6 0 3 4 16 0\nF 6 0\nF 7 0\nA 8 0 4 2 16 0\nF 8 0\nF 9 0\nF 10 1\nD 4 9\nF 11 0\nF 12 0\n\
-             F 13 0\nA 14 0 5 3 16 0\nF 14 0\nF 15 0\nF 16 0\nF 17 0\nF 18 0\nA 19 0 6 2 16 0\nF 19 0\n\
-             F 20 0\nF 21 1\nD 6 20\nF 22 0\nF 23 0\nF 24 0\nF 25 0\nF 26 0\nF 27 0\nF 28 0\nF 29 0\n\
-             F 30 0\nA 31 0 7 2 16 0\nF 31 0\nF 32 0\nF 33 1\nD 7 32\nF 34 0\nF 35 0\nF 36 0\nF 37 0\n\
-             F 38 0\nF 39 0\nF 40 0\nF 41 1\nD 3 40\nF 42 0\nE 43 0 1\nF 43 3\nD 1 42\nD 2 42\nD 5 42\n\
-             F 44 0\nZ 44 0\n",
-            refusal: b"",
-        },
-        Row {
-            line: "trace --flush 16 Moved.class",
-            status: Status::Done,
-            trace: b"H 1 16\nC 1 [Ljava/lang/String;\nA 0 0 1 1 24 0\nC 2 Moved\n\
-             N 1 2 main ([Ljava/lang/String;)V\nM 1 0 1 0\nC 3 java/lang/ref/ReferenceQueue\n\
-             A 2 0 2 3 16 0\nC 4 java/lang/ref/WeakReference\nA 6 0 3 4 16 0\nA 8 0 4 2 16 0\n\
-             A 14 0 5 3 16 0\nF 16 1\nD 4 9\nA 19 0 6 2 16 0\nA 31 0 7 2 16 0\nF 32 1\nD 6 20\nE 43 0 1\n\
-             F 44 5\nD 1 42\nD 2 42\nD 3 40\nD 5 42\nD 7 32\nZ 44 0\n",
-            refusal: b"",
-        },
-    ];
-    are_answered(&rt, rt.alloc(), &listings, &rows)
+    are_traced(
+        rt.alloc(),
+        "Moved",
+        &[("Moved.class", MOVED)],
+        &MOVED_TRACES,
+    )
 }
+
+const LONE_TRACES: [Traced; 3] = [
+    Traced {
+        line: "trace Lone.class",
+        interval: 0,
+        trace: "C 3 java/lang/ref/ReferenceQueue\nA 2 0 2 3 16 0\nC 4 java/lang/ref/WeakReference\n\
+         A 6 0 3 4 16 0\nA 8 0 4 2 16 0\nE 21 0 1\nF 22 4\nD 1 20\nD 2 17\nD 3 14\nD 4 9\nZ 22 0\n",
+    },
+    Traced {
+        line: "trace --flush 1 Lone.class",
+        interval: 1,
+        trace: "F 1 0\nC 3 java/lang/ref/ReferenceQueue\nA 2 0 2 3 16 0\nF 2 0\nF 3 0\nF 4 0\n\
+         F 5 0\nC 4 java/lang/ref/WeakReference\nA 6 0 3 4 16 0\nF 6 0\nF 7 0\nA 8 0 4 2 16 0\n\
+         F 8 0\nF 9 0\nF 10 1\nD 4 9\nF 11 0\nF 12 0\nF 13 0\nF 14 0\nF 15 0\nF 16 0\nF 17 0\n\
+         F 18 2\nD 2 17\nD 3 17\nF 19 0\nF 20 0\nE 21 0 1\nF 21 1\nD 1 20\nF 22 0\nZ 22 0\n",
+    },
+    Traced {
+        line: "trace --flush 12 Lone.class",
+        interval: 12,
+        trace: "C 3 java/lang/ref/ReferenceQueue\nA 2 0 2 3 16 0\nC 4 java/lang/ref/WeakReference\n\
+         A 6 0 3 4 16 0\nA 8 0 4 2 16 0\nF 12 1\nD 4 9\nE 21 0 1\nF 22 3\nD 1 20\nD 2 17\nD 3 17\n\
+         Z 22 0\n",
+    },
+];
 
 #[test]
 fn a_queue_dies_with_what_waits_in_it(rt: HostRuntime) -> Result<(), Fail> {
-    let listings = [("Lone.class", LONE)];
-    let rows: [Row; 3] = [
-        Row {
-            line: "trace Lone.class",
-            status: Status::Done,
-            trace: b"H 1 0\nC 1 [Ljava/lang/String;\nA 0 0 1 1 24 0\nC 2 Lone\n\
-             N 1 2 main ([Ljava/lang/String;)V\nM 1 0 1 0\nC 3 java/lang/ref/ReferenceQueue\n\
-             A 2 0 2 3 16 0\nC 4 java/lang/ref/WeakReference\nA 6 0 3 4 16 0\nA 8 0 4 2 16 0\nE 21 0 1\n\
-             F 22 4\nD 1 20\nD 2 17\nD 3 14\nD 4 9\nZ 22 0\n",
-            refusal: b"",
-        },
-        Row {
-            line: "trace --flush 1 Lone.class",
-            status: Status::Done,
-            trace: b"H 1 1\nC 1 [Ljava/lang/String;\nA 0 0 1 1 24 0\nC 2 Lone\n\
-             N 1 2 main ([Ljava/lang/String;)V\nM 1 0 1 0\nF 1 0\nC 3 java/lang/ref/ReferenceQueue\n\
-             A 2 0 2 3 16 0\nF 2 0\nF 3 0\nF 4 0\nF 5 0\nC 4 java/lang/ref/WeakReference\n\
-             A 6 0 3 4 16 0\nF 6 0\nF 7 0\nA 8 0 4 2 16 0\nF 8 0\nF 9 0\nF 10 1\nD 4 9\nF 11 0\nF 12 0\n\
-             F 13 0\nF 14 0\nF 15 0\nF 16 0\nF 17 0\nF 18 2\nD 2 17\nD 3 17\nF 19 0\nF 20 0\nE 21 0 1\n\
-             F 21 1\nD 1 20\nF 22 0\nZ 22 0\n",
-            refusal: b"",
-        },
-        Row {
-            line: "trace --flush 12 Lone.class",
-            status: Status::Done,
-            trace: b"H 1 12\nC 1 [Ljava/lang/String;\nA 0 0 1 1 24 0\nC 2 Lone\n\
-             N 1 2 main ([Ljava/lang/String;)V\nM 1 0 1 0\nC 3 java/lang/ref/ReferenceQueue\n\
-             A 2 0 2 3 16 0\nC 4 java/lang/ref/WeakReference\nA 6 0 3 4 16 0\nA 8 0 4 2 16 0\nF 12 1\n\
-             D 4 9\nE 21 0 1\nF 22 3\nD 1 20\nD 2 17\nD 3 17\nZ 22 0\n",
-            refusal: b"",
-        },
-    ];
-    are_answered(&rt, rt.alloc(), &listings, &rows)
+    are_traced(rt.alloc(), "Lone", &[("Lone.class", LONE)], &LONE_TRACES)
 }
+
+const TWICE_TRACES: [Traced; 2] = [
+    Traced {
+        line: "trace --flush 1 Twice.class",
+        interval: 1,
+        trace: "F 1 0\nC 3 java/lang/ref/ReferenceQueue\nA 2 0 2 3 16 0\nF 2 0\nF 3 0\nF 4 0\n\
+         F 5 0\nF 6 0\nF 7 0\nF 8 0\nC 4 java/lang/ref/WeakReference\nA 9 0 3 4 16 0\nF 9 0\n\
+         F 10 0\nA 11 0 4 2 16 0\nF 11 0\nF 12 0\nF 13 1\nD 4 12\nF 14 0\nF 15 0\nF 16 0\nF 17 0\n\
+         F 18 0\nF 19 0\nF 20 0\nF 21 0\nF 22 0\nF 23 0\nE 24 0 1\nF 24 3\nD 1 23\nD 2 23\nD 3 23\n\
+         F 25 0\nZ 25 0\n",
+    },
+    Traced {
+        line: "trace --flush 2 Twice.class",
+        interval: 2,
+        trace: "C 3 java/lang/ref/ReferenceQueue\nA 2 0 2 3 16 0\nF 2 0\nF 4 0\nF 6 0\nF 8 0\n\
+         C 4 java/lang/ref/WeakReference\nA 9 0 3 4 16 0\nF 10 0\nA 11 0 4 2 16 0\nF 12 0\nF 14 1\n\
+         D 4 12\nF 16 0\nF 18 0\nF 20 0\nF 22 0\nE 24 0 1\nF 24 3\nD 1 23\nD 2 23\nD 3 23\nF 25 0\n\
+         Z 25 0\n",
+    },
+];
 
 #[test]
 fn a_polled_reference_is_enqueued_no_more(rt: HostRuntime) -> Result<(), Fail> {
-    let listings = [("Twice.class", TWICE)];
-    let rows: [Row; 2] = [
-        Row {
-            line: "trace --flush 1 Twice.class",
-            status: Status::Done,
-            trace: b"H 1 1\nC 1 [Ljava/lang/String;\nA 0 0 1 1 24 0\nC 2 Twice\n\
-             N 1 2 main ([Ljava/lang/String;)V\nM 1 0 1 0\nF 1 0\nC 3 java/lang/ref/ReferenceQueue\n\
-             A 2 0 2 3 16 0\nF 2 0\nF 3 0\nF 4 0\nF 5 0\nF 6 0\nF 7 0\nF 8 0\n\
-             C 4 java/lang/ref/WeakReference\nA 9 0 3 4 16 0\nF 9 0\nF 10 0\nA 11 0 4 2 16 0\nF 11 0\n\
-             F 12 0\nF 13 1\nD 4 12\nF 14 0\nF 15 0\nF 16 0\nF 17 0\nF 18 0\nF 19 0\nF 20 0\nF 21 0\n\
-             F 22 0\nF 23 0\nE 24 0 1\nF 24 3\nD 1 23\nD 2 23\nD 3 23\nF 25 0\nZ 25 0\n",
-            refusal: b"",
-        },
-        Row {
-            line: "trace --flush 2 Twice.class",
-            status: Status::Done,
-            trace: b"H 1 2\nC 1 [Ljava/lang/String;\nA 0 0 1 1 24 0\nC 2 Twice\n\
-             N 1 2 main ([Ljava/lang/String;)V\nM 1 0 1 0\nC 3 java/lang/ref/ReferenceQueue\n\
-             A 2 0 2 3 16 0\nF 2 0\nF 4 0\nF 6 0\nF 8 0\nC 4 java/lang/ref/WeakReference\n\
-             A 9 0 3 4 16 0\nF 10 0\nA 11 0 4 2 16 0\nF 12 0\nF 14 1\nD 4 12\nF 16 0\nF 18 0\nF 20 0\n\
-             F 22 0\nE 24 0 1\nF 24 3\nD 1 23\nD 2 23\nD 3 23\nF 25 0\nZ 25 0\n",
-            refusal: b"",
-        },
-    ];
-    are_answered(&rt, rt.alloc(), &listings, &rows)
+    are_traced(
+        rt.alloc(),
+        "Twice",
+        &[("Twice.class", TWICE)],
+        &TWICE_TRACES,
+    )
 }
+
+const SUB_TRACES: [Traced; 2] = [
+    Traced {
+        line: "trace --flush 8 Sub.class",
+        interval: 8,
+        trace: "A 2 0 2 2 16 0\nC 3 java/lang/ref/WeakReference\nA 4 0 3 3 16 0\nA 6 0 4 2 16 0\n\
+         F 8 1\nD 4 7\nE 14 0 1\nF 15 3\nD 1 13\nD 2 13\nD 3 12\nZ 15 0\n",
+    },
+    Traced {
+        line: "trace --flush 9 Sub.class",
+        interval: 9,
+        trace: "A 2 0 2 2 16 0\nC 3 java/lang/ref/WeakReference\nA 4 0 3 3 16 0\nA 6 0 4 2 16 0\n\
+         F 9 2\nD 3 8\nD 4 7\nE 14 0 1\nF 15 2\nD 1 13\nD 2 13\nZ 15 0\n",
+    },
+];
 
 #[test]
 fn an_unreached_reference_is_not_enqueued(rt: HostRuntime) -> Result<(), Fail> {
-    let listings = [("Sub.class", SUB)];
-    let rows: [Row; 2] = [
-        Row {
-            line: "trace --flush 8 Sub.class",
-            status: Status::Done,
-            trace: b"H 1 8\nC 1 [Ljava/lang/String;\nA 0 0 1 1 24 0\nC 2 Sub\nN 1 2 main ([Ljava/lang/String;)V\n\
-             M 1 0 1 0\nA 2 0 2 2 16 0\nC 3 java/lang/ref/WeakReference\nA 4 0 3 3 16 0\nA 6 0 4 2 16 0\n\
-             F 8 1\nD 4 7\nE 14 0 1\nF 15 3\nD 1 13\nD 2 13\nD 3 12\nZ 15 0\n",
-            refusal: b"",
-        },
-        Row {
-            line: "trace --flush 9 Sub.class",
-            status: Status::Done,
-            trace: b"H 1 9\nC 1 [Ljava/lang/String;\nA 0 0 1 1 24 0\nC 2 Sub\nN 1 2 main ([Ljava/lang/String;)V\n\
-             M 1 0 1 0\nA 2 0 2 2 16 0\nC 3 java/lang/ref/WeakReference\nA 4 0 3 3 16 0\nA 6 0 4 2 16 0\n\
-             F 9 2\nD 3 8\nD 4 7\nE 14 0 1\nF 15 2\nD 1 13\nD 2 13\nZ 15 0\n",
-            refusal: b"",
-        },
-    ];
-    are_answered(&rt, rt.alloc(), &listings, &rows)
+    are_traced(rt.alloc(), "Sub", &[("Sub.class", SUB)], &SUB_TRACES)
 }
+
+const LOOP_TRACES: [Traced; 2] = [
+    Traced {
+        line: "trace --flush 1 Loop.class",
+        interval: 1,
+        trace: "F 1 0\nC 3 java/lang/ref/ReferenceQueue\nA 2 0 2 3 16 0\nF 2 0\nF 3 0\nF 4 0\n\
+         F 5 0\nF 6 0\nF 7 0\nF 8 0\nF 9 0\nF 10 0\nC 4 java/lang/ref/WeakReference\n\
+         A 11 0 3 4 16 0\nF 11 0\nF 12 0\nA 13 0 4 2 16 0\nF 13 0\nF 14 0\nF 15 1\nD 4 14\nF 16 0\n\
+         F 17 0\nF 18 0\nF 19 0\nF 20 0\nF 21 0\nF 22 0\nF 23 0\nF 24 0\nA 25 0 5 4 16 0\nF 25 0\n\
+         F 26 0\nA 27 0 6 2 16 0\nF 27 0\nF 28 0\nF 29 1\nD 6 28\nF 30 1\nD 3 29\nF 31 0\nF 32 0\n\
+         F 33 0\nF 34 0\nF 35 0\nF 36 0\nF 37 0\nF 38 0\nA 39 0 7 4 16 0\nF 39 0\nF 40 0\n\
+         A 41 0 8 2 16 0\nF 41 0\nF 42 0\nF 43 1\nD 8 42\nF 44 1\nD 5 43\nF 45 0\nF 46 0\nF 47 0\n\
+         F 48 0\nF 49 0\nF 50 0\nF 51 0\nF 52 0\nA 53 0 9 4 16 0\nF 53 0\nF 54 0\n\
+         A 55 0 10 2 16 0\nF 55 0\nF 56 0\nF 57 1\nD 10 56\nF 58 1\nD 7 57\nF 59 0\nF 60 0\n\
+         F 61 0\nF 62 0\nF 63 0\nF 64 0\nF 65 0\nF 66 0\nA 67 0 11 4 16 0\nF 67 0\nF 68 0\n\
+         A 69 0 12 2 16 0\nF 69 0\nF 70 0\nF 71 1\nD 12 70\nF 72 1\nD 9 71\nF 73 0\nF 74 0\n\
+         F 75 0\nF 76 0\nF 77 0\nF 78 0\nF 79 0\nF 80 0\nA 81 0 13 4 16 0\nF 81 0\nF 82 0\n\
+         A 83 0 14 2 16 0\nF 83 0\nF 84 0\nF 85 1\nD 14 84\nF 86 1\nD 11 85\nF 87 0\nF 88 0\n\
+         F 89 0\nF 90 0\nF 91 0\nF 92 0\nF 93 0\nF 94 0\nE 95 0 1\nF 95 3\nD 1 94\nD 2 94\n\
+         D 13 94\nF 96 0\nZ 96 0\n",
+    },
+    Traced {
+        line: "trace --flush 0 Loop.class",
+        interval: 0,
+        trace: "C 3 java/lang/ref/ReferenceQueue\nA 2 0 2 3 16 0\nC 4 java/lang/ref/WeakReference\n\
+         A 11 0 3 4 16 0\nA 13 0 4 2 16 0\nA 25 0 5 4 16 0\nA 27 0 6 2 16 0\nA 39 0 7 4 16 0\n\
+         A 41 0 8 2 16 0\nA 53 0 9 4 16 0\nA 55 0 10 2 16 0\nA 67 0 11 4 16 0\nA 69 0 12 2 16 0\n\
+         A 81 0 13 4 16 0\nA 83 0 14 2 16 0\nE 95 0 1\nF 96 14\nD 1 94\nD 2 94\nD 3 29\nD 4 14\n\
+         D 5 43\nD 6 28\nD 7 57\nD 8 42\nD 9 71\nD 10 56\nD 11 85\nD 12 70\nD 13 94\nD 14 84\n\
+         Z 96 0\n",
+    },
+];
 
 #[test]
 fn rounds_with_a_flush_at_each_event_or_none(rt: HostRuntime) -> Result<(), Fail> {
-    let listings = [("Loop.class", LOOP)];
-    let rows: [Row; 2] = [
-        Row {
-            line: "trace --flush 1 Loop.class",
-            status: Status::Done,
-            trace: b"H 1 1\nC 1 [Ljava/lang/String;\nA 0 0 1 1 24 0\nC 2 Loop\n\
-             N 1 2 main ([Ljava/lang/String;)V\nM 1 0 1 0\nF 1 0\nC 3 java/lang/ref/ReferenceQueue\n\
-             A 2 0 2 3 16 0\nF 2 0\nF 3 0\nF 4 0\nF 5 0\nF 6 0\nF 7 0\nF 8 0\nF 9 0\nF 10 0\n\
-             C 4 java/lang/ref/WeakReference\nA 11 0 3 4 16 0\nF 11 0\nF 12 0\nA 13 0 4 2 16 0\nF 13 0\n\
-             F 14 0\nF 15 1\nD 4 14\nF 16 0\nF 17 0\nF 18 0\nF 19 0\nF 20 0\nF 21 0\nF 22 0\nF 23 0\n\
-             F 24 0\nA 25 0 5 4 16 0\nF 25 0\nF 26 0\nA 27 0 6 2 16 0\nF 27 0\nF 28 0\nF 29 1\nD 6 28\n\
-             F 30 1\nD 3 29\nF 31 0\nF 32 0\nF 33 0\nF 34 0\nF 35 0\nF 36 0\nF 37 0\nF 38 0\n\
-             A 39 0 7 4 16 0\nF 39 0\nF 40 0\nA 41 0 8 2 16 0\nF 41 0\nF 42 0\nF 43 1\nD 8 42\nF 44 1\n\
-             D 5 43\nF 45 0\nF 46 0\nF 47 0\nF 48 0\nF 49 0\nF 50 0\nF 51 0\nF 52 0\nA 53 0 9 4 16 0\n\
-             F 53 0\nF 54 0\nA 55 0 10 2 16 0\nF 55 0\nF 56 0\nF 57 1\nD 10 56\nF 58 1\nD 7 57\nF 59 0\n\
-             F 60 0\nF 61 0\nF 62 0\nF 63 0\nF 64 0\nF 65 0\nF 66 0\nA 67 0 11 4 16 0\nF 67 0\nF 68 0\n\
-             A 69 0 12 2 16 0\nF 69 0\nF 70 0\nF 71 1\nD 12 70\nF 72 1\nD 9 71\nF 73 0\nF 74 0\nF 75 0\n\
-             F 76 0\nF 77 0\nF 78 0\nF 79 0\nF 80 0\nA 81 0 13 4 16 0\nF 81 0\nF 82 0\nA 83 0 14 2 16 0\n\
-             F 83 0\nF 84 0\nF 85 1\nD 14 84\nF 86 1\nD 11 85\nF 87 0\nF 88 0\nF 89 0\nF 90 0\nF 91 0\n\
-             F 92 0\nF 93 0\nF 94 0\nE 95 0 1\nF 95 3\nD 1 94\nD 2 94\nD 13 94\nF 96 0\nZ 96 0\n",
-            refusal: b"",
-        },
-        Row {
-            line: "trace --flush 0 Loop.class",
-            status: Status::Done,
-            trace: b"H 1 0\nC 1 [Ljava/lang/String;\nA 0 0 1 1 24 0\nC 2 Loop\n\
-             N 1 2 main ([Ljava/lang/String;)V\nM 1 0 1 0\nC 3 java/lang/ref/ReferenceQueue\n\
-             A 2 0 2 3 16 0\nC 4 java/lang/ref/WeakReference\nA 11 0 3 4 16 0\nA 13 0 4 2 16 0\n\
-             A 25 0 5 4 16 0\nA 27 0 6 2 16 0\nA 39 0 7 4 16 0\nA 41 0 8 2 16 0\nA 53 0 9 4 16 0\n\
-             A 55 0 10 2 16 0\nA 67 0 11 4 16 0\nA 69 0 12 2 16 0\nA 81 0 13 4 16 0\nA 83 0 14 2 16 0\n\
-             E 95 0 1\nF 96 14\nD 1 94\nD 2 94\nD 3 29\nD 4 14\nD 5 43\nD 6 28\nD 7 57\nD 8 42\nD 9 71\n\
-             D 10 56\nD 11 85\nD 12 70\nD 13 94\nD 14 84\nZ 96 0\n",
-            refusal: b"",
-        },
-    ];
-    are_answered(&rt, rt.alloc(), &listings, &rows)
+    are_traced(rt.alloc(), "Loop", &[("Loop.class", LOOP)], &LOOP_TRACES)
 }
+
+const SOME_FLUSHES_TRACES: [Traced; 2] = [
+    Traced {
+        line: "trace --flush 2 Loop.class",
+        interval: 2,
+        trace: "C 3 java/lang/ref/ReferenceQueue\nA 2 0 2 3 16 0\nF 2 0\nF 4 0\nF 6 0\nF 8 0\n\
+         F 10 0\nC 4 java/lang/ref/WeakReference\nA 11 0 3 4 16 0\nF 12 0\nA 13 0 4 2 16 0\n\
+         F 14 0\nF 16 1\nD 4 14\nF 18 0\nF 20 0\nF 22 0\nF 24 0\nA 25 0 5 4 16 0\nF 26 0\n\
+         A 27 0 6 2 16 0\nF 28 0\nF 30 2\nD 3 29\nD 6 28\nF 32 0\nF 34 0\nF 36 0\nF 38 0\n\
+         A 39 0 7 4 16 0\nF 40 0\nA 41 0 8 2 16 0\nF 42 0\nF 44 2\nD 5 43\nD 8 42\nF 46 0\nF 48 0\n\
+         F 50 0\nF 52 0\nA 53 0 9 4 16 0\nF 54 0\nA 55 0 10 2 16 0\nF 56 0\nF 58 2\nD 7 57\n\
+         D 10 56\nF 60 0\nF 62 0\nF 64 0\nF 66 0\nA 67 0 11 4 16 0\nF 68 0\nA 69 0 12 2 16 0\n\
+         F 70 0\nF 72 2\nD 9 71\nD 12 70\nF 74 0\nF 76 0\nF 78 0\nF 80 0\nA 81 0 13 4 16 0\n\
+         F 82 0\nA 83 0 14 2 16 0\nF 84 0\nF 86 2\nD 11 85\nD 14 84\nF 88 0\nF 90 0\nF 92 0\n\
+         F 94 0\nE 95 0 1\nF 96 3\nD 1 94\nD 2 94\nD 13 94\nZ 96 0\n",
+    },
+    Traced {
+        line: "trace --flush 3 Loop.class",
+        interval: 3,
+        trace: "C 3 java/lang/ref/ReferenceQueue\nA 2 0 2 3 16 0\nF 3 0\nF 6 0\nF 9 0\n\
+         C 4 java/lang/ref/WeakReference\nA 11 0 3 4 16 0\nF 12 0\nA 13 0 4 2 16 0\nF 15 1\n\
+         D 4 14\nF 18 0\nF 21 0\nF 24 0\nA 25 0 5 4 16 0\nA 27 0 6 2 16 0\nF 27 0\nF 30 2\nD 3 29\n\
+         D 6 28\nF 33 0\nF 36 0\nA 39 0 7 4 16 0\nF 39 0\nA 41 0 8 2 16 0\nF 42 0\nF 45 2\nD 5 43\n\
+         D 8 42\nF 48 0\nF 51 0\nA 53 0 9 4 16 0\nF 54 0\nA 55 0 10 2 16 0\nF 57 1\nD 10 56\n\
+         F 60 1\nD 7 57\nF 63 0\nF 66 0\nA 67 0 11 4 16 0\nA 69 0 12 2 16 0\nF 69 0\nF 72 2\n\
+         D 9 71\nD 12 70\nF 75 0\nF 78 0\nA 81 0 13 4 16 0\nF 81 0\nA 83 0 14 2 16 0\nF 84 0\n\
+         F 87 2\nD 11 85\nD 14 84\nF 90 0\nF 93 0\nE 95 0 1\nF 96 3\nD 1 94\nD 2 94\nD 13 94\n\
+         Z 96 0\n",
+    },
+];
 
 #[test]
 fn rounds_with_some_flushes(rt: HostRuntime) -> Result<(), Fail> {
-    let listings = [("Loop.class", LOOP)];
-    let rows: [Row; 2] = [
-        Row {
-            line: "trace --flush 2 Loop.class",
-            status: Status::Done,
-            trace: b"H 1 2\nC 1 [Ljava/lang/String;\nA 0 0 1 1 24 0\nC 2 Loop\n\
-             N 1 2 main ([Ljava/lang/String;)V\nM 1 0 1 0\nC 3 java/lang/ref/ReferenceQueue\n\
-             A 2 0 2 3 16 0\nF 2 0\nF 4 0\nF 6 0\nF 8 0\nF 10 0\nC 4 java/lang/ref/WeakReference\n\
-             A 11 0 3 4 16 0\nF 12 0\nA 13 0 4 2 16 0\nF 14 0\nF 16 1\nD 4 14\nF 18 0\nF 20 0\nF 22 0\n\
-             F 24 0\nA 25 0 5 4 16 0\nF 26 0\nA 27 0 6 2 16 0\nF 28 0\nF 30 2\nD 3 29\nD 6 28\nF 32 0\n\
-             F 34 0\nF 36 0\nF 38 0\nA 39 0 7 4 16 0\nF 40 0\nA 41 0 8 2 16 0\nF 42 0\nF 44 2\nD 5 43\n\
-             D 8 42\nF 46 0\nF 48 0\nF 50 0\nF 52 0\nA 53 0 9 4 16 0\nF 54 0\nA 55 0 10 2 16 0\nF 56 0\n\
-             F 58 2\nD 7 57\nD 10 56\nF 60 0\nF 62 0\nF 64 0\nF 66 0\nA 67 0 11 4 16 0\nF 68 0\n\
-             A 69 0 12 2 16 0\nF 70 0\nF 72 2\nD 9 71\nD 12 70\nF 74 0\nF 76 0\nF 78 0\nF 80 0\n\
-             A 81 0 13 4 16 0\nF 82 0\nA 83 0 14 2 16 0\nF 84 0\nF 86 2\nD 11 85\nD 14 84\nF 88 0\n\
-             F 90 0\nF 92 0\nF 94 0\nE 95 0 1\nF 96 3\nD 1 94\nD 2 94\nD 13 94\nZ 96 0\n",
-            refusal: b"",
-        },
-        Row {
-            line: "trace --flush 3 Loop.class",
-            status: Status::Done,
-            trace: b"H 1 3\nC 1 [Ljava/lang/String;\nA 0 0 1 1 24 0\nC 2 Loop\n\
-             N 1 2 main ([Ljava/lang/String;)V\nM 1 0 1 0\nC 3 java/lang/ref/ReferenceQueue\n\
-             A 2 0 2 3 16 0\nF 3 0\nF 6 0\nF 9 0\nC 4 java/lang/ref/WeakReference\nA 11 0 3 4 16 0\n\
-             F 12 0\nA 13 0 4 2 16 0\nF 15 1\nD 4 14\nF 18 0\nF 21 0\nF 24 0\nA 25 0 5 4 16 0\n\
-             A 27 0 6 2 16 0\nF 27 0\nF 30 2\nD 3 29\nD 6 28\nF 33 0\nF 36 0\nA 39 0 7 4 16 0\nF 39 0\n\
-             A 41 0 8 2 16 0\nF 42 0\nF 45 2\nD 5 43\nD 8 42\nF 48 0\nF 51 0\nA 53 0 9 4 16 0\nF 54 0\n\
-             A 55 0 10 2 16 0\nF 57 1\nD 10 56\nF 60 1\nD 7 57\nF 63 0\nF 66 0\nA 67 0 11 4 16 0\n\
-             A 69 0 12 2 16 0\nF 69 0\nF 72 2\nD 9 71\nD 12 70\nF 75 0\nF 78 0\nA 81 0 13 4 16 0\n\
-             F 81 0\nA 83 0 14 2 16 0\nF 84 0\nF 87 2\nD 11 85\nD 14 84\nF 90 0\nF 93 0\nE 95 0 1\n\
-             F 96 3\nD 1 94\nD 2 94\nD 13 94\nZ 96 0\n",
-            refusal: b"",
-        },
-    ];
-    are_answered(&rt, rt.alloc(), &listings, &rows)
+    are_traced(
+        rt.alloc(),
+        "Loop",
+        &[("Loop.class", LOOP)],
+        &SOME_FLUSHES_TRACES,
+    )
 }
+
+const ARRIVAL_TRACES: [Traced; 1] = [Traced {
+    line: "trace --flush 3 Arrival.class",
+    interval: 3,
+    trace: "C 3 java/lang/ref/ReferenceQueue\nA 2 0 2 3 16 0\nF 3 0\n\
+         C 4 java/lang/ref/WeakReference\nA 6 0 3 4 16 0\nF 6 0\nA 8 0 4 4 16 0\nF 9 0\n\
+         A 10 0 5 2 16 0\nA 12 0 6 2 16 0\nF 12 0\nF 15 0\nF 18 0\nF 21 0\nF 24 1\nD 6 22\nF 27 1\n\
+         D 5 25\nF 30 0\nF 33 0\nF 36 1\nD 4 33\nF 39 1\nD 3 37\nE 40 0 1\nF 41 2\nD 1 39\nD 2 39\n\
+         Z 41 0\n",
+}];
 
 #[test]
 fn references_wait_in_the_order_of_their_flushes(rt: HostRuntime) -> Result<(), Fail> {
-    let listings = [("Arrival.class", ARRIVAL)];
-    let rows: [Row; 1] = [Row {
-        line: "trace --flush 3 Arrival.class",
-        status: Status::Done,
-        trace: b"H 1 3\nC 1 [Ljava/lang/String;\nA 0 0 1 1 24 0\nC 2 Arrival\n\
-             N 1 2 main ([Ljava/lang/String;)V\nM 1 0 1 0\nC 3 java/lang/ref/ReferenceQueue\n\
-             A 2 0 2 3 16 0\nF 3 0\nC 4 java/lang/ref/WeakReference\nA 6 0 3 4 16 0\nF 6 0\n\
-             A 8 0 4 4 16 0\nF 9 0\nA 10 0 5 2 16 0\nA 12 0 6 2 16 0\nF 12 0\nF 15 0\nF 18 0\nF 21 0\n\
-             F 24 1\nD 6 22\nF 27 1\nD 5 25\nF 30 0\nF 33 0\nF 36 1\nD 4 33\nF 39 1\nD 3 37\n\
-             E 40 0 1\nF 41 2\nD 1 39\nD 2 39\nZ 41 0\n",
-        refusal: b"",
-    }];
-    are_answered(&rt, rt.alloc(), &listings, &rows)
+    are_traced(
+        rt.alloc(),
+        "Arrival",
+        &[("Arrival.class", ARRIVAL)],
+        &ARRIVAL_TRACES,
+    )
 }
+
+const BACK_TRACES: [Traced; 3] = [
+    Traced {
+        line: "trace --flush 16 Back.class",
+        interval: 16,
+        trace: "C 3 java/lang/ref/ReferenceQueue\nA 2 0 2 3 16 0\nC 4 java/lang/ref/WeakReference\n\
+         A 6 0 3 4 16 0\nA 11 0 4 4 16 0\nA 13 0 5 2 16 0\nF 16 1\nD 5 14\nU 24 0 0 0 0 4\n\
+         E 25 0 1\nF 26 2\nD 1 24\nD 3 24\nZ 26 0\n",
+    },
+    Traced {
+        line: "trace --flush 20 Back.class",
+        interval: 20,
+        trace: "C 3 java/lang/ref/ReferenceQueue\nA 2 0 2 3 16 0\nC 4 java/lang/ref/WeakReference\n\
+         A 6 0 3 4 16 0\nA 11 0 4 4 16 0\nA 13 0 5 2 16 0\nF 20 3\nD 2 18\nD 4 16\nD 5 14\n\
+         C 5 java/lang/NullPointerException\nA 23 0 6 5 32 0\nX 24 0 1 6\nF 25 3\nD 1 23\nD 3 23\n\
+         D 6 24\nZ 25 0\n",
+    },
+    Traced {
+        line: "trace Back.class",
+        interval: 0,
+        trace: "C 3 java/lang/ref/ReferenceQueue\nA 2 0 2 3 16 0\nC 4 java/lang/ref/WeakReference\n\
+         A 6 0 3 4 16 0\nA 11 0 4 4 16 0\nA 13 0 5 2 16 0\nU 24 0 0 0 0 0\nE 25 0 1\nF 26 5\n\
+         D 1 24\nD 2 22\nD 3 24\nD 4 16\nD 5 14\nZ 26 0\n",
+    },
+];
 
 #[test]
 fn a_lost_queue_comes_back(rt: HostRuntime) -> Result<(), Fail> {
-    let listings = [("Back.class", BACK)];
-    let rows: [Row; 3] = [
-        Row {
-            line: "trace --flush 16 Back.class",
-            status: Status::Done,
-            trace: b"H 1 16\nC 1 [Ljava/lang/String;\nA 0 0 1 1 24 0\nC 2 Back\n\
-             N 1 2 main ([Ljava/lang/String;)V\nM 1 0 1 0\nC 3 java/lang/ref/ReferenceQueue\n\
-             A 2 0 2 3 16 0\nC 4 java/lang/ref/WeakReference\nA 6 0 3 4 16 0\nA 11 0 4 4 16 0\n\
-             A 13 0 5 2 16 0\nF 16 1\nD 5 14\nU 24 0 0 0 0 4\nE 25 0 1\nF 26 2\nD 1 24\nD 3 24\n\
-             Z 26 0\n",
-            refusal: b"",
-        },
-        Row {
-            line: "trace --flush 20 Back.class",
-            status: Status::Done,
-            trace: b"H 1 20\nC 1 [Ljava/lang/String;\nA 0 0 1 1 24 0\nC 2 Back\n\
-             N 1 2 main ([Ljava/lang/String;)V\nM 1 0 1 0\nC 3 java/lang/ref/ReferenceQueue\n\
-             A 2 0 2 3 16 0\nC 4 java/lang/ref/WeakReference\nA 6 0 3 4 16 0\nA 11 0 4 4 16 0\n\
-             A 13 0 5 2 16 0\nF 20 3\nD 2 18\nD 4 16\nD 5 14\nC 5 java/lang/NullPointerException\n\
-             A 23 0 6 5 32 0\nX 24 0 1 6\nF 25 3\nD 1 23\nD 3 23\nD 6 24\nZ 25 0\n",
-            refusal: b"",
-        },
-        Row {
-            line: "trace Back.class",
-            status: Status::Done,
-            trace: b"H 1 0\nC 1 [Ljava/lang/String;\nA 0 0 1 1 24 0\nC 2 Back\n\
-             N 1 2 main ([Ljava/lang/String;)V\nM 1 0 1 0\nC 3 java/lang/ref/ReferenceQueue\n\
-             A 2 0 2 3 16 0\nC 4 java/lang/ref/WeakReference\nA 6 0 3 4 16 0\nA 11 0 4 4 16 0\n\
-             A 13 0 5 2 16 0\nU 24 0 0 0 0 0\nE 25 0 1\nF 26 5\nD 1 24\nD 2 22\nD 3 24\nD 4 16\n\
-             D 5 14\nZ 26 0\n",
-            refusal: b"",
-        },
-    ];
-    are_answered(&rt, rt.alloc(), &listings, &rows)
+    are_traced(rt.alloc(), "Back", &[("Back.class", BACK)], &BACK_TRACES)
 }
+
+const SHARED_TRACES: [Traced; 3] = [
+    Traced {
+        line: "trace --flush 14 Shared.class",
+        interval: 14,
+        trace: "C 3 java/lang/ref/ReferenceQueue\nA 2 0 2 3 16 0\nU 5 0 0 0 0 2\n\
+         C 4 java/lang/ref/WeakReference\nA 6 0 3 4 16 0\nA 8 0 4 2 24 0\nA 12 0 5 2 24 0\nF 14 1\n\
+         D 4 9\nU 18 0 0 1 0 3\nE 19 0 1\nN 2 2 run ()V\nM 21 1 2 5\nU 24 1 0 2 0 0\nE 25 1 2\n\
+         F 26 2\nD 1 18\nD 5 25\nZ 26 0\n",
+    },
+    Traced {
+        line: "trace --flush 14 --quantum 1 Shared.class",
+        interval: 14,
+        trace: "C 3 java/lang/ref/ReferenceQueue\nA 2 0 2 3 16 0\nU 5 0 0 0 0 2\n\
+         C 4 java/lang/ref/WeakReference\nA 6 0 3 4 16 0\nA 8 0 4 2 24 0\nA 12 0 5 2 24 0\nF 14 1\n\
+         D 4 9\nN 2 2 run ()V\nM 17 1 2 5\nU 20 0 0 1 0 3\nE 22 0 1\nU 23 1 0 2 0 0\nE 25 1 2\n\
+         F 26 2\nD 1 21\nD 5 25\nZ 26 0\n",
+    },
+    Traced {
+        line: "trace --flush 14 --words 1 Shared.class",
+        interval: 14,
+        trace: "C 3 java/lang/ref/ReferenceQueue\nA 2 0 2 3 16 0\nU 5 0 0 0 0 2\n\
+         C 4 java/lang/ref/WeakReference\nA 6 0 3 4 16 0\nA 8 0 4 2 24 0\nA 12 0 5 2 24 0\nF 14 1\n\
+         D 4 9\nN 2 2 run ()V\nM 16 1 2 5\nU 19 1 0 2 0 3\nE 20 1 2\nU 24 0 0 1 0 0\nE 25 0 1\n\
+         F 26 2\nD 1 24\nD 5 20\nZ 26 0\n",
+    },
+];
 
 #[test]
 fn two_threads_poll_one_queue(rt: HostRuntime) -> Result<(), Fail> {
-    let listings = [("Shared.class", SHARED)];
-    let rows: [Row; 3] = [
-        Row {
-            line: "trace --flush 14 Shared.class",
-            status: Status::Done,
-            trace: b"H 1 14\nC 1 [Ljava/lang/String;\nA 0 0 1 1 24 0\nC 2 Shared\n\
-             N 1 2 main ([Ljava/lang/String;)V\nM 1 0 1 0\nC 3 java/lang/ref/ReferenceQueue\n\
-             A 2 0 2 3 16 0\nU 5 0 0 0 0 2\nC 4 java/lang/ref/WeakReference\nA 6 0 3 4 16 0\n\
-             A 8 0 4 2 24 0\nA 12 0 5 2 24 0\nF 14 1\nD 4 9\nU 18 0 0 1 0 3\nE 19 0 1\n\
-             N 2 2 run ()V\nM 21 1 2 5\nU 24 1 0 2 0 0\nE 25 1 2\nF 26 2\nD 1 18\nD 5 25\nZ 26 0\n",
-            refusal: b"",
-        },
-        Row {
-            line: "trace --flush 14 --quantum 1 Shared.class",
-            status: Status::Done,
-            trace: b"H 1 14\nC 1 [Ljava/lang/String;\nA 0 0 1 1 24 0\nC 2 Shared\n\
-             N 1 2 main ([Ljava/lang/String;)V\nM 1 0 1 0\nC 3 java/lang/ref/ReferenceQueue\n\
-             A 2 0 2 3 16 0\nU 5 0 0 0 0 2\nC 4 java/lang/ref/WeakReference\nA 6 0 3 4 16 0\n\
-             A 8 0 4 2 24 0\nA 12 0 5 2 24 0\nF 14 1\nD 4 9\nN 2 2 run ()V\nM 17 1 2 5\n\
-             U 20 0 0 1 0 3\nE 22 0 1\nU 23 1 0 2 0 0\nE 25 1 2\nF 26 2\nD 1 21\nD 5 25\nZ 26 0\n",
-            refusal: b"",
-        },
-        Row {
-            line: "trace --flush 14 --words 1 Shared.class",
-            status: Status::Done,
-            trace: b"H 1 14\nC 1 [Ljava/lang/String;\nA 0 0 1 1 24 0\nC 2 Shared\n\
-             N 1 2 main ([Ljava/lang/String;)V\nM 1 0 1 0\nC 3 java/lang/ref/ReferenceQueue\n\
-             A 2 0 2 3 16 0\nU 5 0 0 0 0 2\nC 4 java/lang/ref/WeakReference\nA 6 0 3 4 16 0\n\
-             A 8 0 4 2 24 0\nA 12 0 5 2 24 0\nF 14 1\nD 4 9\nN 2 2 run ()V\nM 16 1 2 5\n\
-             U 19 1 0 2 0 3\nE 20 1 2\nU 24 0 0 1 0 0\nE 25 0 1\nF 26 2\nD 1 24\nD 5 20\nZ 26 0\n",
-            refusal: b"",
-        },
-    ];
-    are_answered(&rt, rt.alloc(), &listings, &rows)
+    are_traced(
+        rt.alloc(),
+        "Shared",
+        &[("Shared.class", SHARED)],
+        &SHARED_TRACES,
+    )
 }
+
+const OWN_TRACES: [Traced; 2] = [
+    Traced {
+        line: "trace Own.class",
+        interval: 0,
+        trace: "C 3 java/lang/ref/ReferenceQueue\nA 2 0 2 3 16 0\nC 4 java/lang/ref/WeakReference\n\
+         A 6 0 3 4 16 0\nE 19 0 1\nF 20 3\nD 1 18\nD 2 18\nD 3 18\nZ 20 0\n",
+    },
+    Traced {
+        line: "trace --flush 5 Own.class",
+        interval: 5,
+        trace: "C 3 java/lang/ref/ReferenceQueue\nA 2 0 2 3 16 0\nF 5 0\n\
+         C 4 java/lang/ref/WeakReference\nA 6 0 3 4 16 0\nF 10 0\nF 15 0\nE 19 0 1\nF 20 3\n\
+         D 1 18\nD 2 18\nD 3 18\nZ 20 0\n",
+    },
+];
 
 #[test]
 fn a_reference_to_its_own_queue(rt: HostRuntime) -> Result<(), Fail> {
-    let listings = [("Own.class", OWN)];
-    let rows: [Row; 2] = [
-        Row {
-            line: "trace Own.class",
-            status: Status::Done,
-            trace: b"H 1 0\nC 1 [Ljava/lang/String;\nA 0 0 1 1 24 0\nC 2 Own\n\
-             N 1 2 main ([Ljava/lang/String;)V\nM 1 0 1 0\nC 3 java/lang/ref/ReferenceQueue\n\
-             A 2 0 2 3 16 0\nC 4 java/lang/ref/WeakReference\nA 6 0 3 4 16 0\nE 19 0 1\nF 20 3\n\
-             D 1 18\nD 2 18\nD 3 18\nZ 20 0\n",
-            refusal: b"",
-        },
-        Row {
-            line: "trace --flush 5 Own.class",
-            status: Status::Done,
-            trace: b"H 1 5\nC 1 [Ljava/lang/String;\nA 0 0 1 1 24 0\nC 2 Own\n\
-             N 1 2 main ([Ljava/lang/String;)V\nM 1 0 1 0\nC 3 java/lang/ref/ReferenceQueue\n\
-             A 2 0 2 3 16 0\nF 5 0\nC 4 java/lang/ref/WeakReference\nA 6 0 3 4 16 0\nF 10 0\nF 15 0\n\
-             E 19 0 1\nF 20 3\nD 1 18\nD 2 18\nD 3 18\nZ 20 0\n",
-            refusal: b"",
-        },
-    ];
-    are_answered(&rt, rt.alloc(), &listings, &rows)
+    are_traced(rt.alloc(), "Own", &[("Own.class", OWN)], &OWN_TRACES)
 }
+
+const ITSELF_TRACES: [Traced; 2] = [
+    Traced {
+        line: "trace Itself.class",
+        interval: 0,
+        trace: "C 3 java/lang/ref/ReferenceQueue\nA 2 0 2 3 16 0\nC 4 java/lang/ref/WeakReference\n\
+         A 6 0 3 4 16 0\nU 18 0 0 0 0 0\nE 19 0 1\nF 20 3\nD 1 18\nD 2 18\nD 3 13\nZ 20 0\n",
+    },
+    Traced {
+        line: "trace --flush 7 Itself.class",
+        interval: 7,
+        trace: "C 3 java/lang/ref/ReferenceQueue\nA 2 0 2 3 16 0\nC 4 java/lang/ref/WeakReference\n\
+         A 6 0 3 4 16 0\nF 7 0\nF 14 1\nD 3 13\nU 18 0 0 0 0 0\nE 19 0 1\nF 20 2\nD 1 18\nD 2 18\n\
+         Z 20 0\n",
+    },
+];
 
 #[test]
 fn a_reference_to_itself(rt: HostRuntime) -> Result<(), Fail> {
-    let listings = [("Itself.class", ITSELF)];
-    let rows: [Row; 2] = [
-        Row {
-            line: "trace Itself.class",
-            status: Status::Done,
-            trace: b"H 1 0\nC 1 [Ljava/lang/String;\nA 0 0 1 1 24 0\nC 2 Itself\n\
-             N 1 2 main ([Ljava/lang/String;)V\nM 1 0 1 0\nC 3 java/lang/ref/ReferenceQueue\n\
-             A 2 0 2 3 16 0\nC 4 java/lang/ref/WeakReference\nA 6 0 3 4 16 0\nU 18 0 0 0 0 0\n\
-             E 19 0 1\nF 20 3\nD 1 18\nD 2 18\nD 3 13\nZ 20 0\n",
-            refusal: b"",
-        },
-        Row {
-            line: "trace --flush 7 Itself.class",
-            status: Status::Done,
-            trace: b"H 1 7\nC 1 [Ljava/lang/String;\nA 0 0 1 1 24 0\nC 2 Itself\n\
-             N 1 2 main ([Ljava/lang/String;)V\nM 1 0 1 0\nC 3 java/lang/ref/ReferenceQueue\n\
-             A 2 0 2 3 16 0\nC 4 java/lang/ref/WeakReference\nA 6 0 3 4 16 0\nF 7 0\nF 14 1\nD 3 13\n\
-             U 18 0 0 0 0 0\nE 19 0 1\nF 20 2\nD 1 18\nD 2 18\nZ 20 0\n",
-            refusal: b"",
-        },
-    ];
-    are_answered(&rt, rt.alloc(), &listings, &rows)
+    are_traced(
+        rt.alloc(),
+        "Itself",
+        &[("Itself.class", ITSELF)],
+        &ITSELF_TRACES,
+    )
 }
