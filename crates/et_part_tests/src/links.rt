@@ -4,9 +4,10 @@ ghost use Rattle.std.specs.Prelude.{◌<◌, length, All, IfOk};
 ghost use Rattle.et_class.specs.Classes.{HasItsParts};
 ghost use Rattle.et_link.specs.Declaring.{HasItsFile};
 
+use crate::class_files::BOX;
 use crate::link_files::{
-    ALL, BAD, BOTH, BOX, GRID, HELD, LEFT, LOOP, LOWER, MID, NEAR, NONE, ONE, OPEN, RIGHT, SUB,
-    TEXT, TOP, UPPER,
+    ALL, BAD, BOTH, GRID, HELD, LEFT, LOOP, LOWER, MID, NEAR, NONE, ONE, OPEN, RIGHT, SUB, TEXT,
+    TOP, UPPER,
 };
 use et_base::{ClassId, MethodId};
 use et_class::{ClassFault, ClassFile, read_class};

@@ -3,11 +3,11 @@ ghost use Rattle.std.specs.Prelude.{◌≤◌, ℕ, [], length};
 ghost use Rattle.et_replay.specs.Items.{made_objects};
 ghost use Rattle.et_replay.specs.declared.model.Policy.{Policy};
 
+use crate::traces::read;
 use et_io::MemSink;
 use et_models::{Generational, MarkSweep, SemiSpace};
 use et_refcount::RefCount;
 use et_replay::{HeapModel, Kind, Policy, Timeline, replay, timeline};
-use et_text::TextReader;
 use std::alloc::Global;
 use std::process::Abort;
 use std::test::Fail;
@@ -29,6 +29,11 @@ D 4 7
 D 5 7
 Z 8 0
 ";
+
+fn items_of(alloc: Global, text: &str) -> Result<Timeline, Fail> {
+    let trace = read(alloc, text.as_bytes(), text.len())?;
+    Ok(timeline(alloc, &trace)?)
+}
 
 fn replay_both(
     alloc: Global,
@@ -52,10 +57,7 @@ fn replay_both(
 #[test]
 fn one_goes_on_where_another_is_exhausted(rt: HostRuntime) -> Result<(), Fail> {
     let alloc = rt.alloc();
-    let mut reader = TextReader::begin(alloc);
-    reader.feed(TRACE.as_bytes())?;
-    let trace = reader.finish()?;
-    let items = timeline(alloc, &trace)?;
+    let items = items_of(alloc, TRACE)?;
     let mut mark_sweep = MarkSweep::begin(alloc);
     mark_sweep.set_policy(
         Policy {
@@ -108,10 +110,7 @@ fn replay_generations(
 #[test]
 fn the_old_space_keeps_what_a_dead_object_refers_to(rt: HostRuntime) -> Result<(), Fail> {
     let alloc = rt.alloc();
-    let mut reader = TextReader::begin(alloc);
-    reader.feed(TRACE.as_bytes())?;
-    let trace = reader.finish()?;
-    let items = timeline(alloc, &trace)?;
+    let items = items_of(alloc, TRACE)?;
     let mut sink = MemSink::begin(alloc, 7);
     let roomy = replay_generations(alloc, &items, 48, 200, &mut sink)?;
     let narrow = replay_generations(alloc, &items, 23, 48, &mut sink)?;
@@ -139,13 +138,6 @@ D 2 7
 D 3 7
 Z 8 0
 ";
-
-fn items_of(alloc: Global, text: &str) -> Result<Timeline, Fail> {
-    let mut reader = TextReader::begin(alloc);
-    reader.feed(text.as_bytes())?;
-    let trace = reader.finish()?;
-    Ok(timeline(alloc, &trace)?)
-}
 
 fn replay_counts(
     alloc: Global,

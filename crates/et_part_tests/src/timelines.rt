@@ -1,6 +1,6 @@
 //! The timeline of a whole trace.
+use crate::traces::read;
 use et_replay::{Item, timeline};
-use et_text::TextReader;
 use std::process::Abort;
 use std::test::Fail;
 
@@ -37,9 +37,7 @@ fn death(object: u32, time: u64) -> Item {
 
 #[test]
 fn deaths_stand_in_time(rt: HostRuntime) -> Result<(), Fail> {
-    let mut reader = TextReader::begin(rt.alloc());
-    reader.feed(TRACE.as_bytes())?;
-    let trace = reader.finish()?;
+    let trace = read(rt.alloc(), TRACE.as_bytes(), TRACE.len())?;
     let found = timeline(rt.alloc(), &trace)?;
     let write = Item::Write {
         event: 4,

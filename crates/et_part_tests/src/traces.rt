@@ -56,51 +56,50 @@ D 3 4
 Z 5 0
 ";
 
-/// The lines of one trace.
-const BOX: [&str; 12] = [
-    "H 1 0\n",
-    "C 1 [Ljava/lang/String;\n",
-    "A 0 0 1 1 24 0\n",
-    "C 2 Box\n",
-    "N 1 2 main ([Ljava/lang/String;)V\n",
-    "M 1 0 1 0\n",
-    "A 2 0 2 2 16 0\n",
-    "E 4 0 1\n",
-    "F 5 2\n",
-    "D 1 3\n",
-    "D 2 2\n",
-    "Z 5 0\n",
-];
+/// An object is made and dropped at once, and the array of `main` lives up to the return.
+pub const BOX: [u8; 144] = *b"H 1 0\nC 1 [Ljava/lang/String;\nA 0 0 1 1 24 0\nC 2 Box\n\
+    N 1 2 main ([Ljava/lang/String;)V\nM 1 0 1 0\nA 2 0 2 2 16 0\nE 4 0 1\nF 5 2\nD 1 3\nD 2 2\nZ 5 0\n";
 
-/// The number of a line, what stands in its place, and the kind and line of the fault.
-const DAMAGED: [(usize, &str, u8, u64); 21] = [
-    (1, "H 2 0\n", 1, 1),
-    (2, "C 2 [Ljava/lang/String;\n", 2, 2),
-    (3, "A 0 0 1 1 024 0\n", 1, 3),
-    (
-        5,
-        "N 1 2 main ([Ljava/lang/String;)V\nN 2 2 main ([Ljava/lang/String;)V\n",
-        4,
-        6,
-    ),
-    (4, "C 2 Bo%78\n", 1, 4),
-    (4, "C 2 Box \n", 1, 4),
-    (7, "A 2 0 2 2 15 0\n", 1, 7),
-    (7, "A 2 0 2 3 16 0\n", 3, 7),
-    (8, "E 1 0 1\n", 2, 8),
-    (9, "F 5 3\n", 2, 12),
-    (9, "F 6 2\n", 2, 12),
-    (10, "D 1 6\n", 2, 10),
-    (10, "D 3 3\n", 3, 10),
-    (11, "D 1 3\n", 2, 11),
-    (11, "D 2 1\n", 2, 11),
-    (12, "Z 5 4\n", 1, 12),
-    (12, "C 3 Other\nZ 5 0\n", 2, 12),
-    (12, "", 5, 12),
-    (12, "Z 5 0", 5, 12),
-    (12, "Z 5 0\nZ 5 0\n", 6, 13),
-    (12, "Z 5 0\nZ", 6, 13),
-];
+/// The trace with another line, and its fault.
+#[derive(Clone, Copy)]
+struct Damage {
+    /// The number of the line.
+    place: usize,
+    new: &'static str,
+    kind: u8,
+    /// The line of the fault.
+    line: u64,
+}
+
+macro_rules! damages {
+    ($($new:literal at $place:literal => $kind:literal at $line:literal;)*) => {
+        [$(Damage { place: $place, new: $new, kind: $kind, line: $line }),*]
+    };
+}
+
+const DAMAGED: [Damage; 21] = damages! {
+    "H 2 0\n" at 1 => 1 at 1;
+    "C 2 [Ljava/lang/String;\n" at 2 => 2 at 2;
+    "A 0 0 1 1 024 0\n" at 3 => 1 at 3;
+    "N 1 2 main ([Ljava/lang/String;)V\nN 2 2 main ([Ljava/lang/String;)V\n" at 5 => 4 at 6;
+    "C 2 Bo%78\n" at 4 => 1 at 4;
+    "C 2 Box \n" at 4 => 1 at 4;
+    "A 2 0 2 2 15 0\n" at 7 => 1 at 7;
+    "A 2 0 2 3 16 0\n" at 7 => 3 at 7;
+    "E 1 0 1\n" at 8 => 2 at 8;
+    "F 5 3\n" at 9 => 2 at 12;
+    "F 6 2\n" at 9 => 2 at 12;
+    "D 1 6\n" at 10 => 2 at 10;
+    "D 3 3\n" at 10 => 3 at 10;
+    "D 1 3\n" at 11 => 2 at 11;
+    "D 2 1\n" at 11 => 2 at 11;
+    "Z 5 4\n" at 12 => 1 at 12;
+    "C 3 Other\nZ 5 0\n" at 12 => 2 at 12;
+    "" at 12 => 5 at 12;
+    "Z 5 0" at 12 => 5 at 12;
+    "Z 5 0\nZ 5 0\n" at 12 => 6 at 13;
+    "Z 5 0\nZ" at 12 => 6 at 13;
+};
 
 /// A death that was reported at an earlier flush.
 const DEAD_TWICE: &str = "H 1 1
@@ -120,7 +119,8 @@ D 2 2
 Z 4 1
 ";
 
-fn read(alloc: Global, text: &[u8], step: usize) -> Result<Trace, TraceFault> {
+/// The trace of a text that is read in pieces of so many bytes.
+pub fn read(alloc: Global, text: &[u8], step: usize) -> Result<Trace, TraceFault> {
     let mut reader = TextReader::begin(alloc);
     for piece in text.chunks(step.max(1)) {
         reader.feed(piece)?;
@@ -147,6 +147,20 @@ fn pieces(rt: HostRuntime) -> Result<(), Fail> {
     reads_back(&rt, alloc, UNWOUND.as_bytes())
 }
 
+/// The trace with that line.
+fn damaged_box(alloc: Global, damage: &Damage) -> Result<Vec<u8>, Fail> {
+    let mut text = Vec::new(alloc);
+    for (i, old) in BOX.split(|byte| *byte == b'\n').enumerate() {
+        if i + 1 == damage.place {
+            text.extend_from_slice(damage.new.as_bytes())?;
+        } else if !old.is_empty() {
+            text.extend_from_slice(old)?;
+            text.push(b'\n')?;
+        }
+    }
+    Ok(text)
+}
+
 fn fault_of(alloc: Global, text: &[u8]) -> Option<TraceFault> {
     read(alloc, text, 7).err()
 }
@@ -154,17 +168,19 @@ fn fault_of(alloc: Global, text: &[u8]) -> Option<TraceFault> {
 #[test]
 fn damaged(rt: HostRuntime) -> Result<(), Fail> {
     let alloc = rt.alloc();
-    for (at, new, kind, line) in DAMAGED {
-        let mut text = Vec::new(alloc);
-        for (i, old) in BOX.iter().enumerate() {
-            let part = if i + 1 == at { new } else { *old };
-            text.extend_from_slice(part.as_bytes())?;
-        }
+    for damage in &DAMAGED {
+        let text = damaged_box(alloc, damage)?;
         let fault = fault_of(alloc, text.as_slice());
+        let wanted = TraceFault::At {
+            kind: damage.kind,
+            line: damage.line,
+        };
         assert_eq!(rt;
             fault,
-            Some(TraceFault::At { kind, line }),
-            "line {at} made {new}"
+            Some(wanted),
+            "line {} made {}",
+            damage.place,
+            damage.new
         );
     }
     let twice = fault_of(alloc, DEAD_TWICE.as_bytes());
