@@ -30,28 +30,36 @@ fn summed_up<L: Ledger>(
     bench_run(alloc, 1, cells, rounds, out, &mut visits)
 }
 
-#[test]
-fn cells_that_are_dropped(rt: HostRuntime) -> Result<(), Fail> {
-    let alloc = rt.alloc();
+/// That summary is this.
+fn is_summed_up(
+    rt: &impl Abort,
+    alloc: Global,
+    cells: u32,
+    rounds: u32,
+    summary: &[u8],
+) -> Result<(), Fail>
+    requires cells { (1 ≤ cells) × (cells ≤ 50000) }
+    requires rounds { rounds ≤ 40000 }
+{
     let mut out = MemSink::begin(alloc, 10);
-    let status = summed_up::<Brand>(alloc, 2, 0, &mut out, Blank::new(1));
-    let summary = b"events=36 objects=4 deaths=4 flushes=1 live=0\n\
-        mark-sweep capacity=4000000 collections=0 marked=0 swept=0 peak=112\n";
+    let status = summed_up::<Brand>(alloc, cells, rounds, &mut out, Blank::new(1));
     assert_eq!(rt; status, Status::Done);
-    assert_eq!(rt; out.bytes(), summary.as_slice());
+    assert_eq!(rt; out.bytes(), summary);
     Ok(())
 }
 
 #[test]
+fn cells_that_are_dropped(rt: HostRuntime) -> Result<(), Fail> {
+    let summary = b"events=36 objects=4 deaths=4 flushes=1 live=0\n\
+        mark-sweep capacity=4000000 collections=0 marked=0 swept=0 peak=112\n";
+    is_summed_up(&rt, rt.alloc(), 2, 0, summary)
+}
+
+#[test]
 fn a_round_that_throws(rt: HostRuntime) -> Result<(), Fail> {
-    let alloc = rt.alloc();
-    let mut out = MemSink::begin(alloc, 1000);
-    let status = summed_up::<Brand>(alloc, 1, 1, &mut out, Blank::new(1));
     let summary = b"events=95 objects=6 deaths=5 flushes=1 live=16\n\
         mark-sweep capacity=4000000 collections=0 marked=0 swept=0 peak=152\n";
-    assert_eq!(rt; status, Status::Done);
-    assert_eq!(rt; out.bytes(), summary.as_slice());
-    Ok(())
+    is_summed_up(&rt, rt.alloc(), 1, 1, summary)
 }
 
 #[test]

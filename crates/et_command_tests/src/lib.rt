@@ -19,6 +19,8 @@ mod process;
 #[cfg(test)]
 mod refusals;
 #[cfg(test)]
+mod rows;
+#[cfg(test)]
 mod verdicts;
 #[cfg(test)]
 mod words;

@@ -1,6 +1,7 @@
 //! Class files that don't link, and class files that link and are run.
 
 use crate::first_path::TRACE;
+use crate::rows::{Refused, are_refused};
 use et_asm::assemble;
 use et_files::Status;
 use et_io::MemFiles;
@@ -111,27 +112,26 @@ fn faults_of_linking(rt: HostRuntime) -> Result<(), Fail> {
     Ok(())
 }
 
+/// A program that doesn't link, with a file that is not there or no class.
+const UNREAD: [Refused; 2] = [
+    Refused {
+        line: "trace Sub.class No.class",
+        status: Status::Absent,
+        refusal: b"elephant: absent No.class\n",
+    },
+    Refused {
+        line: "trace Box.class Box.class Cut.class",
+        status: Status::BadClass,
+        refusal: b"elephant: bad class Cut.class 11 4\n",
+    },
+];
+
 #[test]
 fn each_file_is_read_before_any_is_linked(rt: HostRuntime) -> Result<(), Fail> {
     let alloc = rt.alloc();
     let mut files = all_files(alloc)?;
     files.hold("Cut.class", b"\xca\xfe\xba\xbe")?;
-    let rows: [(&str, Status, &[u8]); 2] = [
-        (
-            "trace Sub.class No.class",
-            Status::Absent,
-            b"elephant: absent No.class\n",
-        ),
-        (
-            "trace Box.class Box.class Cut.class",
-            Status::BadClass,
-            b"elephant: bad class Cut.class 11 4\n",
-        ),
-    ];
-    for (line, status, refusal) in rows {
-        is_answered(alloc, &mut files, line, status, b"", refusal)?;
-    }
-    Ok(())
+    are_refused(alloc, &mut files, &UNREAD)
 }
 
 #[test]

@@ -1,6 +1,7 @@
 //! The command `verify` on whole programs: which are verified, which method is rejected, and in which order refusals come.
 
 use crate::first_path::BOX;
+use crate::rows::{Refused, Written, are_done, are_refused};
 use et_asm::assemble;
 use et_files::Status;
 use et_io::MemFiles;
@@ -54,22 +55,20 @@ fn files(alloc: Global) -> Result<MemFiles, Fail> {
     Ok(files)
 }
 
+const VERIFIED: [Written; 6] = [
+    ("verify Box.class", b"verified 1\n"),
+    ("verify -- Box.class", b"verified 1\n"),
+    ("verify Sev.class", b"verified 1\n"),
+    ("verify Unreached.class", b"verified 1\n"),
+    ("verify Unread.class", b"verified 1\n"),
+    ("verify Unread.class Box.class", b"verified 2\n"),
+];
+
 #[test]
 fn methods_with_typings_are_counted(rt: HostRuntime) -> Result<(), Fail> {
     let alloc = rt.alloc();
     let mut files = files(alloc)?;
-    let rows: [(&str, &[u8]); 6] = [
-        ("verify Box.class", b"verified 1\n"),
-        ("verify -- Box.class", b"verified 1\n"),
-        ("verify Sev.class", b"verified 1\n"),
-        ("verify Unreached.class", b"verified 1\n"),
-        ("verify Unread.class", b"verified 1\n"),
-        ("verify Unread.class Box.class", b"verified 2\n"),
-    ];
-    for (line, output) in rows {
-        is_answered(alloc, &mut files, line, Status::Done, output, b"")?;
-    }
-    Ok(())
+    are_done(alloc, &mut files, &VERIFIED)
 }
 
 #[test]
@@ -102,36 +101,40 @@ fn the_first_method_without_a_typing_is_named(rt: HostRuntime) -> Result<(), Fai
     Ok(())
 }
 
+/// Words, files, classes and programs that are refused, before any method is looked at.
+const REFUSED: [Refused; 5] = [
+    Refused {
+        line: "verify",
+        status: Status::Usage,
+        refusal: b"elephant: usage\n",
+    },
+    Refused {
+        line: "verify --flush 1 Box.class",
+        status: Status::Usage,
+        refusal: b"elephant: usage\n",
+    },
+    Refused {
+        line: "verify No.class",
+        status: Status::Absent,
+        refusal: b"elephant: absent No.class\n",
+    },
+    Refused {
+        line: "verify Ill.class Cut.class",
+        status: Status::BadClass,
+        refusal: b"elephant: bad class Cut.class 11 80\n",
+    },
+    Refused {
+        line: "verify Ill.class Ill.class",
+        status: Status::LinkFault,
+        refusal: b"elephant: link 1 Ill\n",
+    },
+];
+
 #[test]
 fn other_refusals_come_first(rt: HostRuntime) -> Result<(), Fail> {
     let alloc = rt.alloc();
     let mut files = files(alloc)?;
-    let rows: [(&str, Status, &[u8]); 5] = [
-        ("verify", Status::Usage, b"elephant: usage\n"),
-        (
-            "verify --flush 1 Box.class",
-            Status::Usage,
-            b"elephant: usage\n",
-        ),
-        (
-            "verify No.class",
-            Status::Absent,
-            b"elephant: absent No.class\n",
-        ),
-        (
-            "verify Ill.class Cut.class",
-            Status::BadClass,
-            b"elephant: bad class Cut.class 11 80\n",
-        ),
-        (
-            "verify Ill.class Ill.class",
-            Status::LinkFault,
-            b"elephant: link 1 Ill\n",
-        ),
-    ];
-    for (line, status, refusal) in rows {
-        is_answered(alloc, &mut files, line, status, b"", refusal)?;
-    }
+    are_refused(alloc, &mut files, &REFUSED)?;
     files.fail_at(6)?;
     let said = b"elephant: read fault Box.class\n";
     let line = "verify Box.class";
