@@ -1,6 +1,8 @@
 -- What an instruction has done so far to the frame that runs, call by call, and how it ends.
-use Rattle.std.proofs.Common.{◌≡◌, ℕ, suc, ◌+◌, ◌-◌, ◌<◌, true, List, [], ◌∷◌, ◌++◌, length, take, drop, get_or, Some, sym, ◌∙◌, ap, subst, arith, Contains, append-nil, append_assoc, take-suc, drop-cons, drop-drop, get_or-drop, inl, inr}
+use Rattle.std.proofs.Common.{◌≡◌, ℕ, suc, ◌+◌, ◌-◌, ◌<◌, ◌≤◌, Bool, true, List, [], ◌∷◌, ◌++◌, length, take, drop, get_or, Some, None, sym, ◌∙◌, ap, subst, arith, Contains, append-nil, append_assoc, take-suc, drop-cons, drop-drop, get_or-drop, inl, inr}
+use Rattle.std.proofs.lemmas.Bool.{le-leb}
 use Rattle.std.proofs.lemmas.Grind.{flat_map-append}
+use Rattle.std.specs.Prelude.{if◌then◌else◌}
 use Rattle.et_base.specs.declared.value.Value.{Value}
 use Rattle.et_base.specs.declared.value.Value.TheVariants.{Unset}
 use Rattle.et_heap.specs.Refs.{refs_of_value, refs_of}
@@ -8,9 +10,10 @@ use Rattle.et_state.specs.Threads.{FrameState, at_pc, pushed, popped, with_local
 use Rattle.et_state.specs.ThreadRoots.{frame_roots}
 use Rattle.et_state.specs.Running.{RunningState, MovesInFrame, steps_running}
 use Rattle.et_state.specs.Moves.{Moves}
-use Rattle.et_state.proofs.Places.{moves_none, moves_then, moves_more, moves_left, moves_right, frame_pop, frame_pops, frame_set_local}
+use Rattle.et_state.proofs.Places.{moves_none, moves_then, moves_more, moves_left, moves_right, frame_pop, frame_pops, frame_push, frame_set_local}
 use Rattle.et_event.specs.FrameSteps.{StepsRunning}
-use Rattle.et_event.proofs.Taking.{replaced, taken_in_frame}
+use Rattle.et_event.specs.Plain.{put}
+use Rattle.et_event.proofs.Taking.{length_dropped, replaced, taken_in_frame}
 
 -- CALL BY CALL
 
@@ -123,3 +126,33 @@ replaced_steps b n pc vs r₁ r₂ r₃ r₄ there frame below lost e₂ e₃ e�
     let taken = did_step (popped n) (λ g. refs_of (take n g.operands)) b f [] r₁ r₂ (did_begin b r₁ frame below lost) e₂ (frame_pops R R f n (taken_in_frame n f)) in
     let given = did_step (λ g. record g { operands = vs ++ g.operands }) (λ g. []) b (popped n f) _ r₂ r₃ taken e₃ (moves_given R (popped n f) vs there) in
     did_steps b (replaced n vs pc f) _ r₄ (did_set_pc b (record f { operands = vs ++ drop n f.operands }) _ r₃ r₄ pc given e₄)
+
+-- ONE PUT, AND NONE
+
+pub pushed_steps : (b : RunningState) (v : Value) (pc : ℕ) (r₁ r₂ r₃ : RunningState) → ((o : ℕ) → Contains (refs_of_value v) o → Contains (frame_roots b.frame) o)
+    → r₁.frame ≡ b.frame → r₁.below ≡ b.below → r₁.lost ≡ [] → r₂ ≡ steps_running r₁ (pushed v r₁.frame) [] → r₃ ≡ steps_running r₂ (at_pc pc r₂.frame) []
+    → StepsRunning (Some (replaced 0 (v ∷ []) pc b.frame)) true b r₃
+pushed_steps b v pc r₁ r₂ r₃ there frame below lost e₂ e₃ =
+    let f : FrameState = b.frame in
+    let R : ℕ → Type 0 = Contains (frame_roots f) in
+    let given = did_step (pushed v) (λ g. []) b f [] r₁ r₂ (did_begin b r₁ frame below lost) e₂ (frame_push R R f v there) in
+    did_steps b (replaced 0 (v ∷ []) pc f) _ r₃ (did_set_pc b (pushed v f) _ r₂ r₃ pc given e₃)
+
+pub discarded_steps : (b : RunningState) (n pc : ℕ) (r₁ r₂ r₃ : RunningState) → r₁.frame ≡ b.frame → r₁.below ≡ b.below → r₁.lost ≡ []
+    → r₂ ≡ steps_running r₁ (popped n r₁.frame) (refs_of (take n r₁.frame.operands)) → r₃ ≡ steps_running r₂ (at_pc pc r₂.frame) [] → StepsRunning (Some (replaced n [] pc b.frame)) true b r₃
+discarded_steps b n pc r₁ r₂ r₃ frame below lost e₂ e₃ =
+    let f : FrameState = b.frame in
+    let R : ℕ → Type 0 = Contains (frame_roots f) in
+    let taken = did_step (popped n) (λ g. refs_of (take n g.operands)) b f [] r₁ r₂ (did_begin b r₁ frame below lost) e₂ (frame_pops R R f n (taken_in_frame n f)) in
+    did_steps b (replaced n [] pc f) _ r₃ (did_set_pc b (popped n f) _ r₂ r₃ pc taken e₃)
+
+-- WHETHER THE OPERANDS FIT
+
+pub fits : (pc : ℕ) (ops : List Value) (f : FrameState) → length ops ≤ f.room → put pc ops f ≡ Some (record f { pc = pc; operands = ops })
+fits pc ops f le = ap (λ (b : Bool). if b then Some (record f { pc = pc; operands = ops }) else None) (le-leb (length ops) f.room le)
+
+pub fits_below : (pc n : ℕ) (f : FrameState) → n ≤ length f.operands → length f.operands ≤ f.room → put pc (drop n f.operands) f ≡ Some (replaced n [] pc f)
+fits_below pc n f few room = let left : length (drop n f.operands) + n ≡ length f.operands = length_dropped f.operands n few in fits pc (drop n f.operands) f (omega arith)
+
+pub fits_one : (pc n : ℕ) (v : Value) (f : FrameState) → 0 < n → n ≤ length f.operands → length f.operands ≤ f.room → put pc (v ∷ drop n f.operands) f ≡ Some (replaced n (v ∷ []) pc f)
+fits_one pc n v f some few room = let left : length (drop n f.operands) + n ≡ length f.operands = length_dropped f.operands n few in fits pc (v ∷ drop n f.operands) f (omega arith)

@@ -1,11 +1,14 @@
 -- What a branch and a store leave of the topmost frame, and what a rearrangement asks of it.
-use Rattle.std.specs.Prelude.{ℕ, ◌+◌, ◌-◌, slice_index_or, slice_set, ℤ, Bool, true, ◌&&◌, if◌then◌else◌, List, [], Option, Some, None}
+use Rattle.std.specs.Prelude.{ℕ, ◌+◌, ◌-◌, slice_index_or, slice_set, ℤ, Bool, true, false, ◌&&◌, if◌then◌else◌, List, [], Option, Some, None, is_some}
 use Rattle.et_base.specs.declared.value.Value.{Value}
-use Rattle.et_base.specs.declared.value.Value.TheVariants.{Unset, Long, LongHigh}
+use Rattle.et_base.specs.declared.value.Value.TheVariants.{Unset, Int, Long, LongHigh}
 use Rattle.et_heap.specs.Refs.{refs_of_value}
 use Rattle.et_state.specs.Threads.{FrameState}
+use Rattle.et_event.specs.PoolOperands.Operand.{Operand}
+use Rattle.et_event.specs.PoolOperands.Operand.TheVariants as operand
 use Rattle.et_event.specs.Plain.{is_single}
 use Rattle.et_event.specs.Sites.{target}
+use Rattle.et_event.specs.Tops.{entry_reference, int_of}
 
 -- the frame after a branch: the pc goes so far from where it is, where the test holds, and else on
 abbrev pub jumped : ℤ → ℕ → FrameState → Bool × List Value → FrameState
@@ -28,6 +31,17 @@ refs_at (Some j) locals = refs_of_value (slice_index_or locals j Unset)
 
 abbrev pub half_of : ℕ → List Value → Option ℕ
 half_of i locals = half_beside i (slice_index_or locals i Unset)
+
+-- an entry is an int or a reference, whichever is asked for; a long has two entries
+abbrev pub is_of : Operand → Value → Bool
+is_of operand.Int v = is_some (int_of v)
+is_of operand.Long v = false
+is_of operand.Reference v = is_some (entry_reference v)
+
+-- the ints of two entries, of which the upper one comes first: the lower int, and then the upper one
+abbrev pub ints_of : Value → Value → Option (ℤ × ℤ)
+ints_of (Int b) (Int a) = Some (a, b)
+ints_of v w = None
 
 -- two entries are a long, or two values
 abbrev pub are_pair : Value → Value → Bool

@@ -1,5 +1,5 @@
 //! Branches (JVMS 2.11.7).
-ghost use Rattle.std.specs.Prelude.{◌≡◌, ◌<◌, ◌^◌, ◌≤◌, Some, option_map, length, drop, true};
+ghost use Rattle.std.specs.Prelude.{◌≡◌, ◌<◌, ◌^◌, ◌≤◌, Some, if◌then◌else◌, option_map, length, drop, true};
 ghost use Rattle.et_state.specs.Running.{most_lost};
 ghost use Rattle.et_event.specs.FrameSteps.{StepsRunning};
 ghost use Rattle.et_event.specs.Sites.{target as target_of};
@@ -7,7 +7,7 @@ ghost use Rattle.et_event.specs.Plain.{compares, same_reference, condition_teste
 ghost use Rattle.et_event.specs.declared.rows.Condition.TheVariants as when;
 ghost use Rattle.et_ops.specs.Tops.{jumped};
 
-use crate::operands::{int_at, put, reference_at};
+use crate::operands::{discard, int_at, reference_at, two_ints};
 use et_base::ObjectId;
 use et_event::{Comparison, Condition};
 use et_state::Running;
@@ -59,9 +59,8 @@ pub(crate) fn jump(running: &mut Running, taken: u32, holds: bool, offset: i32, 
         true running.old running.new }
 {
     let pc = running.pc();
-    let _depth = running.depth();
     let place = if holds { target(pc, offset) } else { next };
-    put(running, taken, &[], place);
+    discard(running, taken, place);
 }
 
 /// `goto` and `goto_w`.
@@ -71,7 +70,9 @@ fn go(running: &mut Running, offset: i32, next: u32) -> bool
     ensures { StepsRunning (option_map (jumped offset next running.old.frame)
         (condition_tested when.Always running.old.frame.operands)) result running.old running.new }
 {
-    jump(running, 0, true, offset, next);
+    let place = target(running.pc(), offset);
+    running.begin_instruction();
+    running.set_pc(place);
     true
 }
 
@@ -99,10 +100,7 @@ fn branch_of_ints(running: &mut Running, comparison: Comparison, offset: i32, ne
         (condition_tested (when.OfInts comparison) running.old.frame.operands))
         result running.old running.new }
 {
-    let Some(b) = int_at(running, 0) else {
-        return false;
-    };
-    let Some(a) = int_at(running, 1) else {
+    let Some((a, b)) = two_ints(running) else {
         return false;
     };
     let holds = compare(comparison, a, b);
@@ -110,13 +108,13 @@ fn branch_of_ints(running: &mut Running, comparison: Comparison, offset: i32, ne
     true
 }
 
-/// `if_acmpeq`.
-#[inline(always)]
-fn branch_of_same(running: &mut Running, offset: i32, next: u32) -> bool
+/// `if_acmpeq`, or `if_acmpne` where the references are not to be the same.
+#[inline(never)]
+fn branch_of_references(running: &mut Running, same: bool, offset: i32, next: u32) -> bool
     requires pc { running.old.frame.pc < 2 ^ 31 }
-    ensures { StepsRunning (option_map (jumped offset next running.old.frame)
-        (condition_tested when.SameReference running.old.frame.operands))
-        result running.old running.new }
+    ensures { StepsRunning (option_map (jumped offset next running.old.frame) (condition_tested
+        (if same then when.SameReference else when.OtherReference)
+        running.old.frame.operands)) result running.old running.new }
 {
     let Some(b) = reference_at(running, 0) else {
         return false;
@@ -124,57 +122,24 @@ fn branch_of_same(running: &mut Running, offset: i32, next: u32) -> bool
     let Some(a) = reference_at(running, 1) else {
         return false;
     };
-    let same = are_same(a, b);
-    jump(running, 2, same, offset, next);
+    let holds = are_same(a, b) == same;
+    jump(running, 2, holds, offset, next);
     true
 }
 
-/// `if_acmpne`.
-#[inline(always)]
-fn branch_of_other(running: &mut Running, offset: i32, next: u32) -> bool
+/// `ifnull`, or `ifnonnull` where the reference is not to be null.
+#[inline(never)]
+fn branch_of_null(running: &mut Running, null: bool, offset: i32, next: u32) -> bool
     requires pc { running.old.frame.pc < 2 ^ 31 }
-    ensures { StepsRunning (option_map (jumped offset next running.old.frame)
-        (condition_tested when.OtherReference running.old.frame.operands))
+    ensures { StepsRunning (option_map (jumped offset next running.old.frame) (condition_tested
+        (if null then when.Null else when.NotNull) running.old.frame.operands))
         result running.old running.new }
 {
-    let Some(b) = reference_at(running, 0) else {
-        return false;
-    };
-    let Some(a) = reference_at(running, 1) else {
-        return false;
-    };
-    let same = are_same(a, b);
-    jump(running, 2, !same, offset, next);
-    true
-}
-
-/// `ifnull`.
-#[inline(always)]
-fn branch_of_null(running: &mut Running, offset: i32, next: u32) -> bool
-    requires pc { running.old.frame.pc < 2 ^ 31 }
-    ensures { StepsRunning (option_map (jumped offset next running.old.frame)
-        (condition_tested when.Null running.old.frame.operands)) result running.old running.new }
-{
     let Some(a) = reference_at(running, 0) else {
         return false;
     };
-    let null = a.is_none();
-    jump(running, 1, null, offset, next);
-    true
-}
-
-/// `ifnonnull`.
-#[inline(always)]
-fn branch_of_object(running: &mut Running, offset: i32, next: u32) -> bool
-    requires pc { running.old.frame.pc < 2 ^ 31 }
-    ensures { StepsRunning (option_map (jumped offset next running.old.frame)
-        (condition_tested when.NotNull running.old.frame.operands)) result running.old running.new }
-{
-    let Some(a) = reference_at(running, 0) else {
-        return false;
-    };
-    let null = a.is_none();
-    jump(running, 1, !null, offset, next);
+    let holds = a.is_none() == null;
+    jump(running, 1, holds, offset, next);
     true
 }
 
@@ -189,9 +154,9 @@ pub(crate) fn branch(running: &mut Running, condition: Condition, offset: i32, n
         Condition::Always => go(running, offset, next),
         Condition::WithZero(comparison) => { branch_with_zero(running, comparison, offset, next) }
         Condition::OfInts(comparison) => branch_of_ints(running, comparison, offset, next),
-        Condition::SameReference => branch_of_same(running, offset, next),
-        Condition::OtherReference => branch_of_other(running, offset, next),
-        Condition::Null => branch_of_null(running, offset, next),
-        Condition::NotNull => branch_of_object(running, offset, next),
+        Condition::SameReference => branch_of_references(running, true, offset, next),
+        Condition::OtherReference => branch_of_references(running, false, offset, next),
+        Condition::Null => branch_of_null(running, true, offset, next),
+        Condition::NotNull => branch_of_null(running, false, offset, next),
     }
 }

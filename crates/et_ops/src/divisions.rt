@@ -8,7 +8,7 @@ ghost use Rattle.et_event.specs.Sites.{Site};
 ghost use Rattle.et_ops.specs.Plain.{KeepsLocals, RunsPlain};
 
 use crate::ends::{PlainEnd, end_of};
-use crate::operands::{int_at, long_at, replace};
+use crate::operands::{long_at, put_int, replace, two_ints};
 use et_base::{Value, div32, div64, rem32, rem64};
 use et_event::{Division, Number};
 use et_state::Running;
@@ -40,16 +40,14 @@ fn divide_ints(running: &mut Running, division: Division, next: u32) -> PlainEnd
         RunsPlain at (rows.Divide numbers.Int division) result running.old running.new }
     ensures stays { KeepsLocals running.old.frame running.new.frame }
 {
-    let Some(b) = int_at(running, 0) else {
+    let Some((a, b)) = two_ints(running) else {
         return PlainEnd::IllTyped;
     };
-    let Some(a) = int_at(running, 1) else {
-        return PlainEnd::IllTyped;
+    let Some(n) = divide32(division, a, b) else {
+        return PlainEnd::More;
     };
-    match divide32(division, a, b) {
-        Some(n) => end_of(replace(running, 2, &[Value::Int(n)], next)),
-        None => PlainEnd::More,
-    }
+    put_int(running, 2, n, next);
+    PlainEnd::Done
 }
 
 /// `ldiv` and `lrem`.

@@ -1,10 +1,13 @@
 //! The instructions that read and change nothing but the topmost frame, by their rows.
+//!
+//! What programs do most is inlined into the loop that does one after the other, and the rest is not: a function that would
+//! grow very large loses its mark to be inlined, with no message, and then each of these instructions is a call.
 ghost use Rattle.std.specs.Prelude.{◌≡◌, ℕ, ◌+◌, ◌<◌, ◌^◌, List, Option};
 ghost use Rattle.et_pool.specs.Entries.{Item};
 ghost use Rattle.et_code.specs.Switches.{IsSwitch};
 ghost use Rattle.et_event.specs.declared.rows.FrameRow.TheVariants as rows;
 ghost use Rattle.et_event.specs.FrameSteps.{StepsRunning};
-ghost use Rattle.et_event.specs.Sites.{natural_of};
+ghost use Rattle.et_event.specs.Sites.{Site, local_index, natural_of};
 ghost use Rattle.et_event.specs.Plain.{frame_after};
 
 use crate::branches::branch;
@@ -25,6 +28,18 @@ pub(crate) fn natural(n: i32) -> u32
     ensures small { result + 1 < 2 ^ 32 }
 {
     if n < 0 { 0 } else { n as u32 }
+}
+
+/// The local variable that an instruction names.
+#[inline(always)]
+fn index_of(local: Local, instr: &Instr) -> u32
+    ensures value { (at : Site) → at.instr ≡ instr.now → result ≡ local_index local at }
+    ensures small { result + 1 < 2 ^ 32 }
+{
+    match local {
+        Local::Named => natural(instr.first),
+        Local::At(i) => i as u32,
+    }
 }
 
 /// Does an instruction that reads and changes nothing but the frame that runs: of this row, decoded from this code, in front
@@ -48,10 +63,8 @@ pub(crate) fn frame_event(
         FrameRow::Int(n) => push_int(running, n, next),
         FrameRow::Long(n) => push_long(running, n, next),
         FrameRow::Immediate => push_int(running, instr.first, next),
-        FrameRow::Load(kind, Local::Named) => { load(running, kind, natural(instr.first), next) }
-        FrameRow::Load(kind, Local::At(i)) => load(running, kind, i as u32, next),
-        FrameRow::Store(kind, Local::Named) => { store(running, kind, natural(instr.first), next) }
-        FrameRow::Store(kind, Local::At(i)) => store(running, kind, i as u32, next),
+        FrameRow::Load(kind, local) => load(running, kind, index_of(local, instr), next),
+        FrameRow::Store(kind, local) => store(running, kind, index_of(local, instr), next),
         FrameRow::Increment => { increment(running, natural(instr.first), instr.second, next) }
         FrameRow::Rearrange(rearrangement) => rearrange(running, rearrangement, next),
         FrameRow::Arithmetic(number, operation) => { combine(running, number, operation, next) }

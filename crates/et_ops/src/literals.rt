@@ -4,7 +4,7 @@ ghost use Rattle.et_base.specs.declared.value.Value.TheVariants.{Int, Long, Long
 ghost use Rattle.et_event.specs.FrameSteps.{StepsRunning};
 ghost use Rattle.et_event.specs.Plain.{put};
 
-use crate::operands::replace;
+use crate::operands::{push, replace};
 use et_base::Value;
 use et_state::Running;
 
@@ -14,7 +14,7 @@ pub(crate) fn push_null(running: &mut Running, next: u32) -> bool
     ensures { StepsRunning (put next (Null ∷ running.old.frame.operands) running.old.frame)
         result running.old running.new }
 {
-    replace(running, 0, &[Value::Null], next)
+    push(running, Value::Null, next)
 }
 
 /// An int is pushed.
@@ -23,11 +23,11 @@ pub(crate) fn push_int(running: &mut Running, n: i32, next: u32) -> bool
     ensures { StepsRunning (put next (Int n ∷ running.old.frame.operands) running.old.frame)
         result running.old running.new }
 {
-    replace(running, 0, &[Value::Int(n)], next)
+    push(running, Value::Int(n), next)
 }
 
 /// A long is pushed.
-#[inline(always)]
+#[inline(never)]
 pub(crate) fn push_long(running: &mut Running, n: i64, next: u32) -> bool
     ensures { StepsRunning (put next (LongHigh ∷ Long n ∷ running.old.frame.operands)
         running.old.frame) result running.old running.new }

@@ -1,12 +1,12 @@
 //! Local variables (JVMS 2.6.1, 2.11.2).
-ghost use Rattle.std.specs.Prelude.{◌≡◌, ◌+◌, ◌<◌, ◌^◌, ◌++◌, option_map};
+ghost use Rattle.std.specs.Prelude.{◌≡◌, ◌≢◌, ◌+◌, ◌<◌, ◌^◌, ◌++◌, option_map};
 ghost use Rattle.et_state.specs.Threads.{local_of};
 ghost use Rattle.et_event.specs.FrameSteps.{StepsRunning};
 ghost use Rattle.et_event.specs.Plain.{loaded, put_some};
 ghost use Rattle.et_event.specs.PoolOperands.Operand.TheVariants as operand;
 ghost use Rattle.et_event.specs.Tops.{IsIn};
 
-use crate::operands::replace;
+use crate::operands::{is_of, push, replace};
 use et_base::Value;
 use et_event::Operand;
 use et_state::Running;
@@ -25,23 +25,8 @@ pub(crate) fn local_at(running: &Running, i: u32) -> Value
     }
 }
 
-/// `iload`.
-#[inline(always)]
-fn load_int(running: &mut Running, i: u32, next: u32) -> bool
-    requires small { i + 1 < 2 ^ 32 }
-    ensures { StepsRunning (put_some next
-        (option_map (λ vs. vs ++ running.old.frame.operands)
-        (loaded operand.Int i running.old.frame)) running.old.frame)
-        result running.old running.new }
-{
-    match local_at(running, i) {
-        Value::Int(n) => replace(running, 0, &[Value::Int(n)], next),
-        _ => false,
-    }
-}
-
 /// `lload`.
-#[inline(always)]
+#[inline(never)]
 fn load_long(running: &mut Running, i: u32, next: u32) -> bool
     requires small { i + 1 < 2 ^ 32 }
     ensures { StepsRunning (put_some next
@@ -57,20 +42,20 @@ fn load_long(running: &mut Running, i: u32, next: u32) -> bool
     }
 }
 
-/// `aload`.
+/// `iload` and `aload`.
 #[inline(always)]
-fn load_reference(running: &mut Running, i: u32, next: u32) -> bool
-    requires small { i + 1 < 2 ^ 32 }
+fn load_one(running: &mut Running, kind: Operand, i: u32, next: u32) -> bool
+    requires { kind ≢ operand.Long }
     ensures { StepsRunning (put_some next
         (option_map (λ vs. vs ++ running.old.frame.operands)
-        (loaded operand.Reference i running.old.frame)) running.old.frame)
+        (loaded kind i running.old.frame)) running.old.frame)
         result running.old running.new }
 {
     let value = local_at(running, i);
-    match value {
-        Value::Null | Value::Ref(_) => replace(running, 0, &[value], next),
-        _ => false,
+    if !is_of(kind, &value) {
+        return false;
     }
+    push(running, value, next)
 }
 
 /// A local variable that holds the kind is pushed.
@@ -82,8 +67,7 @@ pub(crate) fn load(running: &mut Running, kind: Operand, i: u32, next: u32) -> b
         running.old.frame) result running.old running.new }
 {
     match kind {
-        Operand::Int => load_int(running, i, next),
+        Operand::Int | Operand::Reference => load_one(running, kind, i, next),
         Operand::Long => load_long(running, i, next),
-        Operand::Reference => load_reference(running, i, next),
     }
 }

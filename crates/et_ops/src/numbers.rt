@@ -6,7 +6,7 @@ ghost use Rattle.et_event.specs.Plain.{combine as combination, combined, negated
 ghost use Rattle.et_event.specs.declared.rows.Number.TheVariants as numbers;
 ghost use Rattle.et_event.specs.declared.rows.Conversion.TheVariants as conversions;
 
-use crate::operands::{int_at, long_at, replace};
+use crate::operands::{int_at, long_at, put_int, replace, two_ints};
 use et_base::{
     Value, add32, add64, and32, and64, cmp64, mul32, mul64, neg32, neg64, or32, or64, shl32, shl64,
     shr32, shr64, sub32, sub64, to_byte, to_char, to_int, to_short, ushr32, ushr64, xor32, xor64,
@@ -71,17 +71,15 @@ fn combine_ints(running: &mut Running, operation: Arithmetic, next: u32) -> bool
         (combined numbers.Int operation running.old.frame.operands) running.old.frame)
         result running.old running.new }
 {
-    let Some(b) = int_at(running, 0) else {
+    let Some((a, b)) = two_ints(running) else {
         return false;
     };
-    let Some(a) = int_at(running, 1) else {
-        return false;
-    };
-    replace(running, 2, &[Value::Int(combine32(operation, a, b))], next)
+    put_int(running, 2, combine32(operation, a, b), next);
+    true
 }
 
 /// `ladd`, `lsub`, `lmul`, `land`, `lor` and `lxor`.
-#[inline(always)]
+#[inline(never)]
 fn combine_longs(running: &mut Running, operation: Arithmetic, next: u32) -> bool
     ensures { StepsRunning (put_some next
         (combined numbers.Long operation running.old.frame.operands) running.old.frame)
@@ -128,13 +126,11 @@ fn shift_int(running: &mut Running, shift: Shift, next: u32) -> bool
         (values_moved numbers.Int shift running.old.frame.operands) running.old.frame)
         result running.old running.new }
 {
-    let Some(count) = int_at(running, 0) else {
+    let Some((a, count)) = two_ints(running) else {
         return false;
     };
-    let Some(a) = int_at(running, 1) else {
-        return false;
-    };
-    replace(running, 2, &[Value::Int(shift32(shift, a, count))], next)
+    put_int(running, 2, shift32(shift, a, count), next);
+    true
 }
 
 /// `lshl`, `lshr` and `lushr`.
@@ -155,7 +151,7 @@ fn shift_long(running: &mut Running, shift: Shift, next: u32) -> bool
 }
 
 /// `lcmp`.
-#[inline(always)]
+#[inline(never)]
 pub(crate) fn compare_longs(running: &mut Running, next: u32) -> bool
     ensures { StepsRunning (put_some next (compared running.old.frame.operands) running.old.frame)
         result running.old running.new }
@@ -252,7 +248,7 @@ pub(crate) fn combine(
 }
 
 /// A number is negated.
-#[inline(always)]
+#[inline(never)]
 pub(crate) fn negate_number(running: &mut Running, number: Number, next: u32) -> bool
     ensures { StepsRunning (put_some next (negated number running.old.frame.operands)
         running.old.frame) result running.old running.new }
@@ -264,7 +260,7 @@ pub(crate) fn negate_number(running: &mut Running, number: Number, next: u32) ->
 }
 
 /// A number is shifted.
-#[inline(always)]
+#[inline(never)]
 pub(crate) fn shift_number(running: &mut Running, number: Number, shift: Shift, next: u32) -> bool
     ensures { StepsRunning (put_some next (values_moved number shift running.old.frame.operands)
         running.old.frame) result running.old running.new }
@@ -276,7 +272,7 @@ pub(crate) fn shift_number(running: &mut Running, number: Number, shift: Shift, 
 }
 
 /// A number is converted.
-#[inline(always)]
+#[inline(never)]
 pub(crate) fn convert(running: &mut Running, conversion: Conversion, next: u32) -> bool
     ensures { StepsRunning (put_some next (converted conversion running.old.frame.operands)
         running.old.frame) result running.old running.new }

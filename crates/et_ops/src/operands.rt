@@ -1,14 +1,16 @@
 //! The operands of the frame that runs: what stands on top, taken and put.
-ghost use Rattle.std.specs.Prelude.{◌≡◌, ◌+◌, ◌<◌, ◌≤◌, ◌^◌, ◌++◌, [], Some, drop, length, take as first, true};
+ghost use Rattle.std.specs.Prelude.{◌≡◌, ◌+◌, ◌<◌, ◌≤◌, ◌^◌, ◌++◌, [], ◌∷◌, Some, drop, length, take as first, true};
+ghost use Rattle.et_base.specs.declared.value.Value.TheVariants.{Int};
 ghost use Rattle.et_heap.specs.Refs.{refs_of};
 ghost use Rattle.et_state.specs.Running.{most_lost, steps_running};
 ghost use Rattle.et_state.specs.Threads.{operand_of, popped};
 ghost use Rattle.et_event.specs.FrameSteps.{StepsRunning};
 ghost use Rattle.et_event.specs.Plain.{is_one_value, is_single as single, is_value_pair, put as put_operands};
 ghost use Rattle.et_event.specs.Tops.{AreIn, IsIn, entry_reference, int_of, long_of};
-ghost use Rattle.et_ops.specs.Tops.{are_pair};
+ghost use Rattle.et_ops.specs.Tops.{are_pair, ints_of, is_of as is_entry_of};
 
 use et_base::{ObjectId, Value};
+use et_event::Operand;
 use et_state::Running;
 
 /// The operand so far below the topmost one; `Unset` where there is none.
@@ -17,6 +19,7 @@ use et_state::Running;
 pub(crate) fn operand_at(running: &Running, k: u32) -> Value
     ensures value { result ≡ operand_of running.now.frame k }
     ensures there { IsIn running.now.frame result }
+    ensures few { length running.now.frame.operands ≤ running.now.frame.room }
 {
     if k < running.depth() {
         running.operand(k)
@@ -32,6 +35,19 @@ pub fn int_at(running: &Running, k: u32) -> Option<i32>
 {
     match operand_at(running, k) {
         Value::Int(n) => Some(n),
+        _ => None,
+    }
+}
+
+/// The two ints on top, the lower one first.
+#[inline(always)]
+pub(crate) fn two_ints(running: &Running) -> Option<(i32, i32)>
+    ensures value { result
+        ≡ ints_of (operand_of running.now.frame 0) (operand_of running.now.frame 1) }
+    ensures few { length running.now.frame.operands ≤ running.now.frame.room }
+{
+    match (operand_at(running, 0), operand_at(running, 1)) {
+        (Value::Int(b), Value::Int(a)) => Some((a, b)),
         _ => None,
     }
 }
@@ -61,6 +77,18 @@ pub fn reference_at(running: &Running, k: u32) -> Option<Option<ObjectId>>
     }
 }
 
+/// Whether an entry is an int or a reference, whichever is asked for.
+#[inline(always)]
+pub(crate) fn is_of(kind: Operand, value: &Value) -> bool
+    ensures { result ≡ is_entry_of kind value.now }
+{
+    match kind {
+        Operand::Int => matches!(*value, Value::Int(_)),
+        Operand::Long => false,
+        Operand::Reference => matches!(*value, Value::Null | Value::Ref(_)),
+    }
+}
+
 /// Whether an entry is a value by itself.
 #[inline(always)]
 fn is_single(value: Value) -> bool
@@ -86,6 +114,7 @@ fn are_together(upper: Value, lower: Value) -> bool
 pub(crate) fn is_one(running: &Running, k: u32) -> bool
     ensures is { result ≡ is_one_value (drop k running.now.frame.operands) }
     ensures deep { result ≡ true → k < length running.now.frame.operands }
+    ensures few { length running.now.frame.operands ≤ running.now.frame.room }
 {
     is_single(operand_at(running, k))
 }
@@ -146,9 +175,58 @@ pub(crate) fn put(running: &mut Running, taken: u32, values: &[Value], pc: u32)
     running.set_pc(pc);
 }
 
+/// The instruction by which a value that stands in the frame, or is no reference, is pushed, and the pc goes on; `false`, and
+/// nothing is done, where there is no room.
+#[inline(always)]
+pub(crate) fn push(running: &mut Running, value: Value, pc: u32) -> bool
+    requires { IsIn running.old.frame value }
+    ensures { StepsRunning (put_operands pc (value ∷ running.old.frame.operands) running.old.frame)
+        result running.old running.new }
+{
+    if running.depth() >= running.room() as u32 {
+        return false;
+    }
+    running.begin_instruction();
+    running.push(value);
+    running.set_pc(pc);
+    true
+}
+
+/// The instruction by which so many operands are taken, and the pc goes on.
+#[inline(always)]
+pub(crate) fn discard(running: &mut Running, taken: u32, pc: u32)
+    requires operands { taken ≤ length running.old.frame.operands }
+    requires few { taken ≤ most_lost }
+    ensures { StepsRunning (Some (record running.old.frame {
+      pc = pc;
+      operands = drop taken running.old.frame.operands;
+    })) true running.old running.new }
+{
+    running.begin_instruction();
+    take(running, taken);
+    running.set_pc(pc);
+}
+
+/// The instruction by which so many operands are taken, an int is put in their place, and the pc goes on.
+#[inline(always)]
+pub(crate) fn put_int(running: &mut Running, taken: u32, n: i32, pc: u32)
+    requires some { 0 < taken }
+    requires operands { taken ≤ length running.old.frame.operands }
+    requires few { taken ≤ most_lost }
+    requires room { length running.old.frame.operands ≤ running.old.frame.room }
+    ensures { StepsRunning
+        (put_operands pc (Int n ∷ drop taken running.old.frame.operands) running.old.frame)
+        true running.old running.new }
+{
+    running.begin_instruction();
+    take(running, taken);
+    running.push(Value::Int(n));
+    running.set_pc(pc);
+}
+
 /// The instruction by which so many operands are taken, these are put in their place, the first of them topmost, and the pc
 /// goes on; `false`, and nothing is done, where they don't fit.
-#[inline(always)]
+#[inline(never)]
 pub(crate) fn replace(running: &mut Running, taken: u32, values: &[Value], pc: u32) -> bool
     requires operands { taken ≤ length running.old.frame.operands }
     requires few { taken ≤ most_lost }

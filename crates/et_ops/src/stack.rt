@@ -3,12 +3,12 @@ ghost use Rattle.et_event.specs.FrameSteps.{StepsRunning};
 ghost use Rattle.et_event.specs.Plain.{rearranged};
 ghost use Rattle.et_event.specs.declared.rows.Rearrangement.TheVariants as stack;
 
-use crate::operands::{is_one, is_pair, operand_at, replace};
+use crate::operands::{discard, is_one, is_pair, operand_at, push, replace};
 use et_event::Rearrangement;
 use et_state::Running;
 
 /// `nop`.
-#[inline(always)]
+#[inline(never)]
 fn nop(running: &mut Running, next: u32) -> bool
     ensures { StepsRunning (rearranged next stack.Nop running.old.frame)
         result running.old running.new }
@@ -25,11 +25,12 @@ fn pop(running: &mut Running, next: u32) -> bool
     if !is_one(running, 0) {
         return false;
     }
-    replace(running, 1, &[], next)
+    discard(running, 1, next);
+    true
 }
 
 /// `pop2`.
-#[inline(always)]
+#[inline(never)]
 fn pop2(running: &mut Running, next: u32) -> bool
     ensures { StepsRunning (rearranged next stack.Pop2 running.old.frame)
         result running.old running.new }
@@ -50,12 +51,11 @@ fn dup(running: &mut Running, next: u32) -> bool
         return false;
     }
     let first = operand_at(running, 0);
-    let first_again = operand_at(running, 0);
-    replace(running, 1, &[first, first_again], next)
+    push(running, first, next)
 }
 
 /// `dup_x1`.
-#[inline(always)]
+#[inline(never)]
 fn dup_x1(running: &mut Running, next: u32) -> bool
     ensures { StepsRunning (rearranged next stack.DupX1 running.old.frame)
         result running.old running.new }
@@ -73,7 +73,7 @@ fn dup_x1(running: &mut Running, next: u32) -> bool
 }
 
 /// `dup_x2`.
-#[inline(always)]
+#[inline(never)]
 fn dup_x2(running: &mut Running, next: u32) -> bool
     ensures { StepsRunning (rearranged next stack.DupX2 running.old.frame)
         result running.old running.new }
@@ -92,7 +92,7 @@ fn dup_x2(running: &mut Running, next: u32) -> bool
 }
 
 /// `dup2`.
-#[inline(always)]
+#[inline(never)]
 fn dup2(running: &mut Running, next: u32) -> bool
     ensures { StepsRunning (rearranged next stack.Dup2 running.old.frame)
         result running.old running.new }
@@ -113,7 +113,7 @@ fn dup2(running: &mut Running, next: u32) -> bool
 }
 
 /// `dup2_x1`.
-#[inline(always)]
+#[inline(never)]
 fn dup2_x1(running: &mut Running, next: u32) -> bool
     ensures { StepsRunning (rearranged next stack.Dup2X1 running.old.frame)
         result running.old running.new }
@@ -138,7 +138,7 @@ fn dup2_x1(running: &mut Running, next: u32) -> bool
 }
 
 /// `dup2_x2`.
-#[inline(always)]
+#[inline(never)]
 fn dup2_x2(running: &mut Running, next: u32) -> bool
     ensures { StepsRunning (rearranged next stack.Dup2X2 running.old.frame)
         result running.old running.new }
@@ -164,7 +164,7 @@ fn dup2_x2(running: &mut Running, next: u32) -> bool
 }
 
 /// `swap`.
-#[inline(always)]
+#[inline(never)]
 fn swap(running: &mut Running, next: u32) -> bool
     ensures { StepsRunning (rearranged next stack.Swap running.old.frame)
         result running.old running.new }

@@ -1,15 +1,16 @@
 //! Local variables, written (JVMS 2.6.1, 2.11.2).
-ghost use Rattle.std.specs.Prelude.{◌≡◌, ◌+◌, ◌<◌, ◌≤◌, ◌^◌, Some, drop, length, slice_set, true};
-ghost use Rattle.et_base.specs.declared.value.Value.TheVariants.{Int};
+ghost use Rattle.std.specs.Prelude.{◌≡◌, ◌≢◌, ◌+◌, ◌<◌, ◌≤◌, ◌^◌, Some, drop, length, slice_set, true};
+ghost use Rattle.et_base.specs.declared.value.Value.TheVariants.{Int, Unset};
+ghost use Rattle.et_heap.specs.Refs.{refs_of_value};
 ghost use Rattle.et_state.specs.Running.{most_lost, steps_running};
-ghost use Rattle.et_state.specs.Threads.{operand_of};
+ghost use Rattle.et_state.specs.Threads.{local_of, operand_of, with_local};
 ghost use Rattle.et_event.specs.FrameSteps.{StepsRunning};
 ghost use Rattle.et_event.specs.Plain.{increased, long_stored, one_stored, stored};
 ghost use Rattle.et_event.specs.PoolOperands.Operand.TheVariants as operand;
 ghost use Rattle.et_ops.specs.Tops.{half_beside as half, half_of, unset_at, refs_at};
 
 use crate::locals::local_at;
-use crate::operands::{int_at, long_at, reference_at, take};
+use crate::operands::{is_of, long_at, operand_at, take};
 use et_base::{Value, add32};
 use et_event::Operand;
 use et_state::Running;
@@ -25,6 +26,18 @@ fn half_beside(value: Value, i: u16) -> Option<u16>
         Value::LongHigh => Some(i.saturating_sub(1)),
         _ => None,
     }
+}
+
+/// Makes a local variable unset.
+#[inline(never)]
+fn unset(running: &mut Running, i: u16)
+    requires local { i < length running.old.frame.locals }
+    requires lost { length running.old.lost < most_lost }
+    ensures new { running.new ≡ steps_running running.old (with_local i Unset running.old.frame)
+        (refs_of_value (local_of running.old.frame i)) }
+    ensures few { length running.new.lost ≤ length running.old.lost + 1 }
+{
+    running.set_local(i, Value::Unset);
 }
 
 /// Makes the other half of a long unset whose one half is this local variable.
@@ -45,7 +58,7 @@ fn free(running: &mut Running, i: u16)
         return;
     };
     if (j as usize) < locals {
-        running.set_local(j, Value::Unset);
+        unset(running, j);
     }
 }
 
@@ -68,26 +81,17 @@ fn move_one(running: &mut Running, i: u16, next: u32)
     running.set_pc(next);
 }
 
-/// `istore`: the topmost operand, an int, is moved to a local variable.
+/// `istore` and `astore`: the topmost operand is moved to a local variable.
 #[inline(always)]
-fn store_int(running: &mut Running, i: u32, next: u32) -> bool
-    ensures { StepsRunning (stored next operand.Int i running.old.frame)
-        result running.old running.new }
+fn store_one(running: &mut Running, kind: Operand, i: u32, next: u32) -> bool
+    requires { kind ≢ operand.Long }
+    ensures { StepsRunning (stored next kind i running.old.frame) result running.old running.new }
 {
-    if int_at(running, 0).is_none() || running.locals() <= i as usize {
+    let value = operand_at(running, 0);
+    if !is_of(kind, &value) {
         return false;
     }
-    move_one(running, i as u16, next);
-    true
-}
-
-/// `astore`: the topmost operand, a reference, is moved to a local variable.
-#[inline(always)]
-fn store_reference(running: &mut Running, i: u32, next: u32) -> bool
-    ensures { StepsRunning (stored next operand.Reference i running.old.frame)
-        result running.old running.new }
-{
-    if reference_at(running, 0).is_none() || running.locals() <= i as usize {
+    if running.locals() <= i as usize {
         return false;
     }
     move_one(running, i as u16, next);
@@ -116,7 +120,7 @@ fn move_long(running: &mut Running, i: u16, n: i64, next: u32)
 }
 
 /// `lstore`: the topmost operand, a long, is moved to two local variables.
-#[inline(always)]
+#[inline(never)]
 fn store_long(running: &mut Running, i: u32, next: u32) -> bool
     requires small { i + 1 < 2 ^ 32 }
     ensures { StepsRunning (stored next operand.Long i running.old.frame)
@@ -139,9 +143,8 @@ pub(crate) fn store(running: &mut Running, kind: Operand, i: u32, next: u32) -> 
     ensures { StepsRunning (stored next kind i running.old.frame) result running.old running.new }
 {
     match kind {
-        Operand::Int => store_int(running, i, next),
+        Operand::Int | Operand::Reference => store_one(running, kind, i, next),
         Operand::Long => store_long(running, i, next),
-        Operand::Reference => store_reference(running, i, next),
     }
 }
 

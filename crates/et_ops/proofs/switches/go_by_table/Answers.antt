@@ -7,14 +7,14 @@ use Rattle.et_event.specs.FrameSteps.{StepsRunning}
 use Rattle.et_event.specs.Sites.{target}
 use Rattle.et_ops.specs.Tops.{jumped}
 use Rattle.et_ops.proofs.Switching.{int_on_top}
-use Rattle.et_ops.proofs.switches.switch.Goals as goal
+use Rattle.et_ops.proofs.switches.go_by_table.Goals as goal
 
 pub returns : goal.returns
 returns c =
     let r = c.args.running.now in
     let f = r.frame in
     let code = c.args.code.now in
-    let instr = c.args.instr.now in
+    let instr = c.args.instr in
     let key = c.in-Some.key in
     let go : ℤ → List Value → Option FrameState = λ k below. Some (record f { pc = target f.pc (target_of code instr k); operands = below }) in
     let place : to_z w32 (of_z w32 c.switch_target-offset.result) ≡ target_of code instr key = search rules in
