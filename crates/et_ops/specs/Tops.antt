@@ -43,6 +43,11 @@ abbrev pub ints_of : Value → Value → Option (ℤ × ℤ)
 ints_of (Int b) (Int a) = Some (a, b)
 ints_of v w = None
 
+-- .. and the longs of four entries
+abbrev pub longs_of : Value → Value → Value → Value → Option (ℤ × ℤ)
+longs_of LongHigh (Long b) LongHigh (Long a) = Some (a, b)
+longs_of v w x y = None
+
 -- two entries are a long, or two values
 abbrev pub are_pair : Value → Value → Bool
 are_pair LongHigh (Long n) = true

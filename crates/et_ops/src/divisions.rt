@@ -8,7 +8,7 @@ ghost use Rattle.et_event.specs.Sites.{Site};
 ghost use Rattle.et_ops.specs.Plain.{KeepsLocals, RunsPlain};
 
 use crate::ends::{PlainEnd, end_of};
-use crate::operands::{long_at, put_int, replace, two_ints};
+use crate::operands::{put_int, replace, two_ints, two_longs};
 use et_base::{Value, div32, div64, rem32, rem64};
 use et_event::{Division, Number};
 use et_state::Running;
@@ -57,10 +57,7 @@ fn divide_longs(running: &mut Running, division: Division, next: u32) -> PlainEn
         RunsPlain at (rows.Divide numbers.Long division) result running.old running.new }
     ensures stays { KeepsLocals running.old.frame running.new.frame }
 {
-    let Some(b) = long_at(running, 0) else {
-        return PlainEnd::IllTyped;
-    };
-    let Some(a) = long_at(running, 2) else {
+    let Some((a, b)) = two_longs(running) else {
         return PlainEnd::IllTyped;
     };
     match divide64(division, a, b) {

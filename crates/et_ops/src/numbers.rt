@@ -1,12 +1,12 @@
 //! Operations on numbers.
-ghost use Rattle.std.specs.Prelude.{◌≡◌};
+ghost use Rattle.std.specs.Prelude.{◌≡◌, ◌≢◌};
 ghost use Rattle.std.specs.Int.{w32, w64};
 ghost use Rattle.et_event.specs.FrameSteps.{StepsRunning};
 ghost use Rattle.et_event.specs.Plain.{combine as combination, combined, negated, shifted, values_moved, converted, compared, put_some};
 ghost use Rattle.et_event.specs.declared.rows.Number.TheVariants as numbers;
 ghost use Rattle.et_event.specs.declared.rows.Conversion.TheVariants as conversions;
 
-use crate::operands::{int_at, long_at, put_int, replace, two_ints};
+use crate::operands::{int_at, long_at, put_int, replace, two_ints, two_longs};
 use et_base::{
     Value, add32, add64, and32, and64, cmp64, mul32, mul64, neg32, neg64, or32, or64, shl32, shl64,
     shr32, shr64, sub32, sub64, to_byte, to_char, to_int, to_short, ushr32, ushr64, xor32, xor64,
@@ -85,10 +85,7 @@ fn combine_longs(running: &mut Running, operation: Arithmetic, next: u32) -> boo
         (combined numbers.Long operation running.old.frame.operands) running.old.frame)
         result running.old running.new }
 {
-    let Some(b) = long_at(running, 0) else {
-        return false;
-    };
-    let Some(a) = long_at(running, 2) else {
+    let Some((a, b)) = two_longs(running) else {
         return false;
     };
     let sum = combine64(operation, a, b);
@@ -156,65 +153,31 @@ pub(crate) fn compare_longs(running: &mut Running, next: u32) -> bool
     ensures { StepsRunning (put_some next (compared running.old.frame.operands) running.old.frame)
         result running.old running.new }
 {
-    let Some(b) = long_at(running, 0) else {
-        return false;
-    };
-    let Some(a) = long_at(running, 2) else {
+    let Some((a, b)) = two_longs(running) else {
         return false;
     };
     replace(running, 4, &[Value::Int(cmp64(a, b))], next)
 }
 
-/// `i2b`.
+/// `i2b`, `i2c`, `i2s` and `i2l`.
 #[inline(always)]
-fn int_to_byte(running: &mut Running, next: u32) -> bool
-    ensures { StepsRunning (put_some next
-        (converted conversions.IntToByte running.old.frame.operands) running.old.frame)
-        result running.old running.new }
+fn convert_int(running: &mut Running, conversion: Conversion, next: u32) -> bool
+    requires { conversion ≢ conversions.LongToInt }
+    ensures { StepsRunning (put_some next (converted conversion running.old.frame.operands)
+        running.old.frame) result running.old running.new }
 {
     let Some(a) = int_at(running, 0) else {
         return false;
     };
-    replace(running, 1, &[Value::Int(to_byte(a))], next)
-}
-
-/// `i2c`.
-#[inline(always)]
-fn int_to_char(running: &mut Running, next: u32) -> bool
-    ensures { StepsRunning (put_some next
-        (converted conversions.IntToChar running.old.frame.operands) running.old.frame)
-        result running.old running.new }
-{
-    let Some(a) = int_at(running, 0) else {
-        return false;
-    };
-    replace(running, 1, &[Value::Int(to_char(a))], next)
-}
-
-/// `i2s`.
-#[inline(always)]
-fn int_to_short(running: &mut Running, next: u32) -> bool
-    ensures { StepsRunning (put_some next
-        (converted conversions.IntToShort running.old.frame.operands) running.old.frame)
-        result running.old running.new }
-{
-    let Some(a) = int_at(running, 0) else {
-        return false;
-    };
-    replace(running, 1, &[Value::Int(to_short(a))], next)
-}
-
-/// `i2l`.
-#[inline(always)]
-fn int_to_long(running: &mut Running, next: u32) -> bool
-    ensures { StepsRunning (put_some next
-        (converted conversions.IntToLong running.old.frame.operands) running.old.frame)
-        result running.old running.new }
-{
-    let Some(a) = int_at(running, 0) else {
-        return false;
-    };
-    replace(running, 1, &[Value::LongHigh, Value::Long(a as i64)], next)
+    match conversion {
+        Conversion::IntToByte => replace(running, 1, &[Value::Int(to_byte(a))], next),
+        Conversion::IntToChar => replace(running, 1, &[Value::Int(to_char(a))], next),
+        Conversion::IntToShort => replace(running, 1, &[Value::Int(to_short(a))], next),
+        Conversion::IntToLong => {
+            replace(running, 1, &[Value::LongHigh, Value::Long(a as i64)], next)
+        }
+        Conversion::LongToInt => unreachable!(),
+    }
 }
 
 /// `l2i`.
@@ -278,10 +241,10 @@ pub(crate) fn convert(running: &mut Running, conversion: Conversion, next: u32) 
         running.old.frame) result running.old running.new }
 {
     match conversion {
-        Conversion::IntToLong => int_to_long(running, next),
         Conversion::LongToInt => long_to_int(running, next),
-        Conversion::IntToByte => int_to_byte(running, next),
-        Conversion::IntToChar => int_to_char(running, next),
-        Conversion::IntToShort => int_to_short(running, next),
+        Conversion::IntToByte
+        | Conversion::IntToChar
+        | Conversion::IntToShort
+        | Conversion::IntToLong => convert_int(running, conversion, next),
     }
 }

@@ -7,7 +7,7 @@ ghost use Rattle.et_state.specs.Threads.{operand_of, popped};
 ghost use Rattle.et_event.specs.FrameSteps.{StepsRunning};
 ghost use Rattle.et_event.specs.Plain.{is_one_value, is_single as single, is_value_pair, put as put_operands};
 ghost use Rattle.et_event.specs.Tops.{AreIn, IsIn, entry_reference, int_of, long_of};
-ghost use Rattle.et_ops.specs.Tops.{are_pair, ints_of, is_of as is_entry_of};
+ghost use Rattle.et_ops.specs.Tops.{are_pair, ints_of, is_of as is_entry_of, longs_of};
 
 use et_base::{ObjectId, Value};
 use et_event::Operand;
@@ -61,6 +61,19 @@ pub(crate) fn long_at(running: &Running, k: u32) -> Option<i64>
 {
     match (operand_at(running, k), operand_at(running, k + 1)) {
         (Value::LongHigh, Value::Long(n)) => Some(n),
+        _ => None,
+    }
+}
+
+/// The two longs on top, the lower one first.
+#[inline(always)]
+pub(crate) fn two_longs(running: &Running) -> Option<(i64, i64)>
+    ensures { result
+        ≡ longs_of (operand_of running.now.frame 0) (operand_of running.now.frame 1)
+        (operand_of running.now.frame 2) (operand_of running.now.frame 3) }
+{
+    match (long_at(running, 2), long_at(running, 0)) {
+        (Some(a), Some(b)) => Some((a, b)),
         _ => None,
     }
 }
