@@ -14,6 +14,7 @@ pub mod Taking
 pub mod Groups
 pub mod Answering
 pub mod Making
+pub mod Updating
 pub mod Throwing
 pub mod RowsAmong
 pub mod Constants

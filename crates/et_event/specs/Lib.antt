@@ -35,6 +35,7 @@ pub use Rattle.et_class.specs.Operands
 pub use Rattle.et_class.specs.PoolOperands
 pub mod Tops
 pub mod Making
+pub mod Telling
 pub mod Places
 pub mod Pools
 pub mod Locks

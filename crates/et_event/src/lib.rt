@@ -3,9 +3,10 @@
 //!
 //! The code has the row of each opcode (`table`, `rows`), and what the rows share: the instruction at which a thread stands
 //! (`places`), what an instruction names in the pool (`members`), operands that are read, taken and put (`tops`, `operands`),
-//! objects that are made (`objects`), monitors (`locks`, `monitors`), and exceptions that the machine throws (`throws`). Two
-//! modules are laws, functions with empty bodies: `place_laws` says what the event is of a turn in which an instruction is
-//! done, and `monitor_laws` what the calls on monitors come to in the middle of an event.
+//! how large objects are (`objects`), objects that are made and slots that are written, with their records (`telling`),
+//! monitors (`locks`, `monitors`), and exceptions that the machine throws (`throws`). Two modules are laws, functions with
+//! empty bodies: `place_laws` says what the event is of a turn in which an instruction is done, and `monitor_laws` what the
+//! calls on monitors come to in the middle of an event.
 #![tactic(auto)]
 
 mod answers;
@@ -22,6 +23,7 @@ pub mod place_laws;
 mod places;
 mod rows;
 mod table;
+mod telling;
 mod throws;
 mod tops;
 
@@ -36,7 +38,7 @@ pub use monitors::{
     enter_monitor, enter_some, leave_monitor, leave_some, may_enter, may_enter_some, owns,
     owns_some,
 };
-pub use objects::{class_called, make_instance, slots_of};
+pub use objects::{class_called, slots_of};
 pub use operands::{give, put, replace, take};
 pub use places::{Place, place_of};
 pub use rows::{
@@ -44,5 +46,6 @@ pub use rows::{
     HeapRow, Local, MonitorRow, Number, Rearrangement, Row, Shift,
 };
 pub use table::row_of;
+pub use telling::{add_array, add_instance, make_array, make_instance, tell_instance, tell_update};
 pub use throws::throw_error;
 pub use tops::{int_at, long_at, operand_at, reference_at};

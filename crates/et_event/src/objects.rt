@@ -1,17 +1,12 @@
-//! Objects that an event makes.
-ghost use Rattle.std.specs.Prelude.{◌≡◌, ◌<◌, ◌^◌, IfOk, OnErr, length};
-ghost use Rattle.et_state.specs.State.{kept_of};
-ghost use Rattle.et_state.specs.Sound.{IsSound};
+//! How large the objects are that an event makes.
+ghost use Rattle.std.specs.Prelude.{◌≡◌, ◌<◌, ◌≤◌, length};
 ghost use Rattle.et_program.specs.BootNames.{built_in_class_name};
 ghost use Rattle.et_program.specs.Entries.{class_at};
-ghost use Rattle.et_event.specs.Moments.{begins, instance_made, moment};
+ghost use Rattle.et_event.specs.Moments.{array_size as bytes_of, base_width as width_of_base, element_width as width_of_element};
 ghost use Rattle.et_event.specs.Errors.{class_called as called};
-ghost use Rattle.et_event.specs.Making.{MakesObject};
 
-use et_base::{ClassId, NoMemory, ObjectId, ThreadId};
-use et_heap::MakeFault;
-use et_program::{BuiltInClass, Program};
-use et_state::{Lines, Machine, Record};
+use et_base::ClassId;
+use et_program::{BuiltInClass, Element, Program};
 
 /// The number of a built-in class. The built-in classes are the first of each program, in the order of their table.
 pub fn class_called(program: &Program, class: BuiltInClass) -> ClassId
@@ -34,37 +29,46 @@ pub fn slots_of(program: &Program, class: ClassId) -> u32
     }
 }
 
-/// Makes an instance of a class in the event that comes next, and tells of it; `None`, and nothing is done, exactly where
-/// it doesn't fit. After `NoMemory` the machine may have one object more, to which nothing refers.
-#[tactic(auto, using(crate::proofs::Making::fits_made))]
-pub fn make_instance(
-    program: &Program,
-    machine: &mut Machine,
-    thread: ThreadId,
-    class: ClassId,
-    out: &mut Lines,
-) -> Result<Option<ObjectId>, NoMemory>
-    requires sound { IsSound (kept_of machine.old) }
-    requires clock { machine.old.guest.clock < 2 ^ 40 }
-    ensures err { OnErr result (machine.new.guest ≡ machine.old.guest) }
-    ensures made { IfOk result
-        (λ made. MakesObject (instance_made (moment program.now machine.old thread) class (begins
-        (moment program.now machine.old thread))) made machine.old machine.new out.old out.new) }
+/// How many bytes an element of a base type takes.
+fn base_width(kind: u8) -> u64
+    ensures { result ≡ width_of_base kind }
 {
-    let slots = slots_of(program, class);
-    let event = machine.clock() + 1;
-    let object = match machine.heap.make_object(class, slots) {
-        Ok(object) => object,
-        Err(MakeFault::Full) => return Ok(None),
-        Err(MakeFault::NoMemory) => return Err(NoMemory),
-    };
-    out.push(Record::Alloc {
-        event,
-        thread: thread.number(),
-        object: object.number(),
-        class,
-        size: 16 + 8 * slots as u64,
-        length: 0,
-    })?;
-    Ok(Some(object))
+    match kind {
+        4 | 8 => 1,
+        5 | 9 => 2,
+        6 | 10 => 4,
+        _ => 8,
+    }
+}
+
+/// How many bytes an element takes.
+fn element_width(element: Element) -> u64
+    ensures value { result ≡ width_of_element element }
+    ensures small { result ≤ 8 }
+{
+    match element {
+        Element::NoArray => 0,
+        Element::Base(kind) => base_width(kind),
+        Element::Class(_) => 8,
+    }
+}
+
+/// How many bytes an element of an array of a class takes; 0 for a number that no class has.
+pub(crate) fn width_in(program: &Program, class: ClassId) -> u64
+    ensures value { result ≡ width_of_element (class_at program.now class).info.element }
+    ensures small { result ≤ 8 }
+{
+    if class.number() < program.class_count() {
+        element_width(program.class(class).element)
+    } else {
+        0
+    }
+}
+
+/// How many bytes an array takes.
+pub(crate) fn array_size(elements: u32, width: u64) -> u64
+    requires { width ≤ 8 }
+    ensures { result ≡ bytes_of elements width }
+{
+    (24 + elements as u64 * width + 7) / 8 * 8
 }

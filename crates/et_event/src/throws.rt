@@ -7,7 +7,8 @@ ghost use Rattle.et_event.specs.Answered.{EventAnswers};
 ghost use Rattle.et_event.specs.Moments.{begins, throws, moment};
 
 use crate::errors::GuestError;
-use crate::objects::{class_called, make_instance};
+use crate::objects::class_called;
+use crate::telling::make_instance;
 use et_base::{NoMemory, ThreadId};
 use et_program::Program;
 use et_state::{EventEnd, Lines, Machine};
