@@ -1,19 +1,24 @@
 -- The strings of constants.
-use Rattle.std.proofs.Common.{rules, ◌≡◌, ℕ, ◌==◌, ◌<◌, Bool, true, false, cond, List, [], ◌∷◌, ◌++◌, length, Option, Some, None, refl, sym, ◌∙◌, ap, subst, arith, Contains}
+use Rattle.std.proofs.Common.{rules, ◌≡◌, ℕ, ◌==◌, ◌<◌, Bool, true, false, cond, List, [], ◌∷◌, ◌++◌, length, Option, Some, None, refl, sym, ◌∙◌, ap, subst, arith, Contains, append-nil}
 use Rattle.std.specs.Prelude.{if◌then◌else◌, is_some, codes, find, unwrap_or, slice_get}
 use Rattle.std.specs.Option.{option_map}
 use Rattle.std.specs.Str.{bytes_eq}
 use Rattle.std.proofs.lemmas.Bool.{eqb-true}
 use Rattle.std.proofs.lemmas.Option.{unwrap_or-slice_get}
 use Rattle.std.proofs.lemmas.Slice.Eq.{bytes_eq-Decides}
+use Rattle.et_base.specs.declared.value.Value.{Value}
+use Rattle.et_base.specs.declared.value.Value.TheVariants.{Unset, Ref}
 use Rattle.et_base.proofs.Lists.{Contains-here, Contains-there}
+use Rattle.et_heap.specs.Refs.{refs_of_value}
 use Rattle.et_state.specs.Interned.{object_of, interned_text, interned_objects}
-use Rattle.et_state.specs.State.{MachineState}
-use Rattle.et_state.specs.Words.{with_string}
+use Rattle.et_state.specs.State.{Kept, MachineState}
+use Rattle.et_state.specs.Words.{static_at, steps_guest, with_static, with_string}
 use Rattle.et_state.specs.declared.records.Record.{Record}
+use Rattle.et_state.specs.declared.records.Record.TheVariants.{Update}
 use Rattle.et_initialize.specs.Under.{so_far, with_kept, InitializesTo}
 use Rattle.et_event.specs.Errors.{class_called}
-use Rattle.et_event.specs.Moments.{Moment, Doing, doing_with_guest, instance_made, next_object}
+use Rattle.et_event.specs.Moments.{Moment, Doing, doing_with_guest, instance_made, next_object, number_of_value, static_written}
+use Rattle.et_event.specs.Telling.{TellsUpdate}
 use Rattle.et_pool.specs.Entries.{Item, Constants}
 use Rattle.et_pool.specs.Looks.{string_at}
 use Rattle.et_program.specs.Entries.{Linked, field_at}
@@ -122,3 +127,25 @@ pub no_pool_field : (e : Moment) (f : ℕ) (m : MachineState) (out : List Record
 no_pool_field e f m out info is none =
     let same = no_pool e f (so_far m out) info is none in
     (sym (ap (λ (x : Doing). with_kept m x.state) same), sym (ap (λ (x : Doing). x.records) same))
+
+-- A STRING IS WRITTEN to a static slot to which nothing was written: making it writes none
+pub still_unset : (e : Moment) (bytes : List ℕ) (i : ℕ) (d : Doing) → static_at d.state.guest i ≡ Unset → static_at (interned e bytes d).state.guest i ≡ Unset
+still_unset e bytes i d unset = by_interned (λ (x : Doing). static_at x.state.guest i ≡ Unset) e bytes d (λ none. unset) (λ o some. unset)
+
+pub string_written : (e : Moment) (i o k event : ℕ) (old : Value) (d : Doing) (m m₁ m₂ : MachineState) (out₁ out₂ : List Record) → InitializesTo d m m₁ out₁ → static_at d.state.guest i ≡ Unset → o ≡ k → old ≡ static_at m₁.guest i
+    → m₂ ≡ steps_guest m₁ (with_static m₁.guest i (Ref o)) (refs_of_value (static_at m₁.guest i)) → event ≡ m₂.guest.clock → TellsUpdate event e.thread 0 i old (Ref o) out₁ out₂ → InitializesTo (static_written e i (Ref k) d) m m₂ out₂
+string_written e i o k event old d m m₁ m₂ out₁ out₂ at unset same stood is time told =
+    let slot = λ (n : ℕ) (z : MachineState). steps_guest z (with_static z.guest i (Ref n)) (refs_of_value (static_at z.guest i)) in
+    let s : Kept = record { heap = d.state.heap; guest = with_static d.state.guest i (Ref k) } in
+    let machine : m₂ ≡ with_kept m s =
+    is ∙ (ap (λ (z : MachineState). slot o z) at.0 ∙ (ap (λ (n : ℕ). slot n (with_kept m d.state)) same
+    ∙ (ap (λ (v : Value). steps_guest (with_kept m d.state) s.guest (refs_of_value v)) unset
+    ∙ ap (λ (l : List ℕ). let z : MachineState = record { heap = s.heap; guest = s.guest; lost = l } in z) (append-nil m.lost)))) in
+    let was : old ≡ static_at d.state.guest i = stood ∙ ap (λ (z : MachineState). static_at z.guest i) at.0 in
+    let clock : s.guest.clock ≡ event = sym (time ∙ ap (λ (z : MachineState). z.guest.clock) machine) in (
+      machine,
+      told e.program e.before s clock
+          ∙ (ap (λ (l : List Record). l ++ Update s.guest.clock e.thread 0 i (number_of_value old) o ∷ []) at.1
+          ∙ (ap (λ (v : Value). d.records ++ Update s.guest.clock e.thread 0 i (number_of_value v) o ∷ []) was
+          ∙ ap (λ (n : ℕ). d.records ++ Update s.guest.clock e.thread 0 i (number_of_value (static_at d.state.guest i)) n ∷ []) same)),
+    )

@@ -2,9 +2,7 @@
 ghost use Rattle.std.specs.Prelude.{◌≡◌, ℕ, ◌+◌, ◌*◌, ◌<◌, ◌^◌, ◌++◌, ◌∷◌, [], true, None, List, Contains, IfOk, OnOk, length};
 ghost use Rattle.et_base.specs.declared.value.Value.TheVariants.{Unset, Int, Long, Ref};
 ghost use Rattle.et_state.specs.Threads.{lost_room};
-ghost use Rattle.et_heap.specs.Objects.{has_room, new_object};
-ghost use Rattle.et_state.specs.declared.records.Record.TheVariants.{Alloc};
-ghost use Rattle.et_state.specs.Words.{static_at, with_static, steps_guest, with_new_object};
+ghost use Rattle.et_state.specs.Words.{static_at, with_static};
 ghost use Rattle.et_state.specs.Interned.{object_of, interned_objects};
 ghost use Rattle.et_program.specs.Entries.{field_at};
 ghost use Rattle.et_event.specs.Kinds.{narrowed_int};
@@ -15,11 +13,10 @@ ghost use Rattle.et_event.specs.Initialization.{constant_set, field_set};
 ghost use Rattle.et_initialize.specs.Under.{so_far, with_kept, InitializesTo};
 
 use et_base::{ClassId, FieldId, NoMemory, ObjectId, ThreadId, Value, to_byte, to_char, to_short};
-use et_event::{class_called, slots_of};
-use et_heap::MakeFault;
+use et_event::{add_instance, class_called, tell_update};
 use et_pool::Pool;
 use et_program::{BuiltInClass, FieldInfo, Program};
-use et_state::{Lines, Machine, Record};
+use et_state::{Lines, Machine};
 
 /// What a field of this descriptor keeps of an int (JVMS 2.3.1).
 fn narrowed(descriptor: &[u8], n: i32) -> i32
@@ -54,20 +51,7 @@ fn make_string(
         (so_far machine.old out.old)) machine.old machine.new out.new) }
 {
     let class = class_called(program, BuiltInClass::String);
-    let slots = slots_of(program, class);
-    let object = match machine.heap.make_object(class, slots) {
-        Ok(object) => object,
-        Err(MakeFault::NoMemory) => return Err(NoMemory),
-        Err(MakeFault::Full) => unreachable!(),
-    };
-    out.push(Record::Alloc {
-        event: machine.clock(),
-        thread: thread.number(),
-        object: object.number(),
-        class,
-        size: 16 + 8 * slots as u64,
-        length: 0,
-    })?;
+    let object = add_instance(program, machine, thread, class, out)?;
     machine.intern(bytes, object)?;
     Ok(object)
 }
@@ -130,16 +114,9 @@ fn set_string(
         (Some (AString bytes.now)) (so_far machine.old out.old)) machine.old machine.new out.new) }
 {
     let object = string_of(program, machine, thread, bytes, out)?;
-    machine.set_static(field.slot, Value::Ref(object));
-    out.push(Record::Update {
-        event: machine.clock(),
-        thread: thread.number(),
-        object: 0,
-        slot: field.slot,
-        old: 0,
-        new: object.number(),
-    })?;
-    Ok(())
+    let old = machine.set_static(field.slot, Value::Ref(object));
+    let new = Value::Ref(object);
+    tell_update(out, machine.clock(), thread, None, field.slot, old, new)
 }
 
 /// Sets a static field to the constant at its index of the pool.
@@ -203,35 +180,4 @@ pub(crate) fn set_field(
         Some(pool) => set_constant(program, machine, thread, pool, info, out),
         None => Ok(()),
     }
-}
-
-/// Makes an object of a class that is no array class, in the event under way. It fits.
-pub(crate) fn make_object(
-    machine: &mut Machine,
-    thread: ThreadId,
-    class: ClassId,
-    slots: u32,
-    out: &mut Lines,
-) -> Result<ObjectId, NoMemory>
-    requires { has_room machine.old.heap 1 slots ≡ true }
-    ensures object { IfOk result (λ o. o ≡ length machine.old.heap) }
-    ensures made { OnOk result
-        (machine.new ≡ with_new_object machine.old (new_object class 0 slots)) }
-    ensures told { OnOk result (out.new ≡ out.old ++ Alloc machine.old.guest.clock thread
-        (length machine.old.heap) class (16 + 8 * slots) 0 ∷ []) }
-{
-    let object = match machine.heap.make_object(class, slots) {
-        Ok(object) => object,
-        Err(MakeFault::NoMemory) => return Err(NoMemory),
-        Err(MakeFault::Full) => unreachable!(),
-    };
-    out.push(Record::Alloc {
-        event: machine.clock(),
-        thread: thread.number(),
-        object: object.number(),
-        class,
-        size: 16 + 8 * slots as u64,
-        length: 0,
-    })?;
-    Ok(object)
 }

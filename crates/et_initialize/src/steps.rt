@@ -18,12 +18,11 @@ ghost use Rattle.et_event.specs.InitializationOrder.{IsInOrder};
 ghost use Rattle.et_initialize.specs.Under.{so_far, InitializesTo, IsInitializing};
 
 use crate::begins::{MOST_FRAMES, initializer};
-use crate::constants::make_object;
 use crate::limits::{prepared_class_fits, prepared_fit};
 use crate::needs::{Need, need_of};
 use crate::quiet::{set_constants, set_quietly};
 use et_base::{ClassId, MethodId, NoMemory, ThreadId};
-use et_event::{GuestError, class_called, slots_of, wait_event};
+use et_event::{GuestError, add_instance, class_called, slots_of, wait_event};
 use et_program::{MethodInfo, Program};
 use et_state::{ClassState, EventEnd, Lines, Machine, Record};
 use std::alloc::Global;
@@ -236,9 +235,8 @@ fn throw_prepared(
         (moment program.now machine.old thread)))) end machine.old machine.new out.old out.new) }
 {
     let class = class_called(program, error.class());
-    let slots = slots_of(program, class);
     begin_prepared(program, machine, thread, classes, out)?;
-    let object = make_object(machine, thread, class, slots, out)?;
+    let object = add_instance(program, machine, thread, class, out)?;
     machine.throw(thread, object);
     Ok(EventEnd::Done)
 }

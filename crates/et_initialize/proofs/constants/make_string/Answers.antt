@@ -1,20 +1,33 @@
-use Rattle.std.proofs.Common.{◌≡◌, ℕ, List, None, length, rules, ap, ◌∙◌}
+use Rattle.std.proofs.Common.{◌≡◌, ℕ, None, length, sym, ap, ◌∙◌}
+use Rattle.std.specs.Prelude.{codes}
+use Rattle.et_heap.specs.Objects.{has_room}
 use Rattle.et_state.specs.Interned.{interned_text}
-use Rattle.et_event.specs.Moments.{moment}
+use Rattle.et_state.specs.State.{MachineState}
+use Rattle.et_program.specs.Entries.{class_at}
+use Rattle.et_event.specs.Errors.{class_called}
+use Rattle.et_event.specs.Moments.{Doing, Moment, moment, fits_heap}
+use Rattle.et_event.proofs.Making.{fits_made}
 use Rattle.et_initialize.specs.Under.{so_far}
-use Rattle.et_initialize.proofs.Strings.{no_text, made_string}
+use Rattle.et_initialize.proofs.Strings.{makes, no_text, made_string}
 use Rattle.et_initialize.proofs.constants.make_string.Goals as goal
+
+pub add_instance-requires : goal.add_instance-requires
+add_instance-requires c =
+    let p = c.args.program.now in
+    let m = c.args.machine.now in
+    let e : Moment = moment p m c.args.thread in
+    let class : ℕ = class_called p (codes "java/lang/String") in
+    ap (λ (k : ℕ). has_room m.heap 1 (class_at p k).info.slots) c.class_called-class.ensures.value
+    ∙ (sym (fits_made m.heap class 0 (class_at p class).info.slots) ∙ (ap (λ (d : Doing). fits_heap d.state.heap) (sym (makes e c.args.bytes.now (so_far m c.args.out.now) c.requires.first)) ∙ c.requires.fits))
 
 pub intern-requires-clause-object : goal.intern-requires-clause-object
 intern-requires-clause-object c =
     let m = c.args.machine.now in
     let none : interned_text m.guest.interned (length m.heap) ≡ None = no_text (length m.heap) m.guest.interned c.requires.made in
-    let number : c.in-Ok.object ≡ length m.heap = search rules in
-    let same : c.machine.inside.interned ≡ m.guest.interned = search rules in
-    ap (λ (es : List (List ℕ × ℕ)). interned_text es c.in-Ok.object) same ∙ (ap (λ (o : ℕ). interned_text m.guest.interned o) number ∙ none)
+    ap (λ (n : MachineState). interned_text n.guest.interned c.in_ok-object.object) c.in_ok-object.ensures.made.0
+    ∙ (ap (λ (o : ℕ). interned_text m.guest.interned o) c.in_ok-object.ensures.object ∙ none)
 
 pub returns-clause-object : goal.returns-clause-object
 returns-clause-object c =
     let m = c.args.machine.now in
-    let number : c.in-Ok.object ≡ length m.heap = search rules in
-    made_string (moment c.args.program.now m c.args.thread) c.args.bytes.now (so_far m c.args.out.now) c.in-Ok.object c.requires.first number
+    made_string (moment c.args.program.now m c.args.thread) c.args.bytes.now (so_far m c.args.out.now) c.in_ok-object.object c.requires.first c.in_ok-object.ensures.object

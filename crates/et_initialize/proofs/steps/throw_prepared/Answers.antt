@@ -1,4 +1,4 @@
-use Rattle.std.proofs.Common.{◌≡◌, ◌<◌, ◌∙◌, ℕ, List, length, true, ap, subst, sym}
+use Rattle.std.proofs.Common.{◌≡◌, ◌<◌, ◌∙◌, ℕ, List, length, true, refl, ap, subst, sym}
 use Rattle.et_heap.specs.Objects.{has_room}
 use Rattle.et_state.specs.Threads.{ThreadState}
 use Rattle.et_state.specs.State.{MachineState}
@@ -13,26 +13,27 @@ pub begin_prepared-requires-clause-fits : goal.begin_prepared-requires-clause-fi
 begin_prepared-requires-clause-fits c =
     fits_less (after c.args.program.now c.args.machine.now c.args.thread c.args.classes.now).state.heap (class_at c.args.program.now (error_class c.args.program.now c.args.error)).info.slots c.requires.room
 
-pub make_object-requires : goal.make_object-requires
-make_object-requires c =
+pub add_instance-requires : goal.add_instance-requires
+add_instance-requires c =
     let p = c.args.program.now in
     let name : c.class_called-class.result ≡ error_class p c.args.error = c.class_called-class.ensures.value ∙ ap (λ (k : BuiltInClass). class_called p (built_in_class_name k)) c.class.ensures in
-    let slots : c.slots_of-slots.result ≡ (class_at p (error_class p c.args.error)).info.slots = c.slots_of-slots.ensures ∙ ap (λ (k : ℕ). (class_at p k).info.slots) name in
-    base_room p c.args.thread c.args.classes.now c.args.machine.now c.begin_prepared.new.machine c.slots_of-slots.result c.in_ok-begin_prepared.ensures.0
-    (subst (λ (n : ℕ). has_room (after p c.args.machine.now c.args.thread c.args.classes.now).state.heap 1 n ≡ true) (sym slots) c.requires.room)
+    base_room p c.args.thread c.args.classes.now c.args.machine.now c.begin_prepared.new.machine (class_at p c.class_called-class.result).info.slots c.in_ok-begin_prepared.ensures.0
+    (subst (λ (k : ℕ). has_room (after p c.args.machine.now c.args.thread c.args.classes.now).state.heap 1 (class_at p k).info.slots ≡ true) (sym name) c.requires.room)
 
 pub throw-requires-clause-thread : goal.throw-requires-clause-thread
 throw-requires-clause-thread c =
-    let same = ap (λ (m : MachineState). m.guest.threads) c.in_ok-object.ensures.made ∙ base_threads c.args.program.now c.args.thread c.args.classes.now c.args.machine.now c.begin_prepared.new.machine c.in_ok-begin_prepared.ensures.0 in
+    let same = ap (λ (m : MachineState). m.guest.threads) c.in_ok-object.ensures.made.0 ∙ base_threads c.args.program.now c.args.thread c.args.classes.now c.args.machine.now c.begin_prepared.new.machine c.in_ok-begin_prepared.ensures.0 in
     subst (λ (ts : List ThreadState). c.args.thread < length ts) (sym same) c.requires.frame.thread
 
 pub returns : goal.returns
 returns c =
     let p = c.args.program.now in
-    let name : c.class_called-class.result ≡ error_class p c.args.error = c.class_called-class.ensures.value ∙ ap (λ (k : BuiltInClass). class_called p (built_in_class_name k)) c.class.ensures in
-    let slots : c.slots_of-slots.result ≡ (class_at p (error_class p c.args.error)).info.slots = c.slots_of-slots.ensures ∙ ap (λ (k : ℕ). (class_at p k).info.slots) name in
-    error_thrown p c.args.thread c.args.error c.args.classes.now c.args.machine.now c.begin_prepared.new.machine c.make_object.new.machine c.throw.new.self c.args.out.now c.begin_prepared.new.out c.make_object.new.out c.class_called-class.result c.slots_of-slots.result c.in_ok-object.object
-    c.requires.program c.requires.classes c.requires.sound c.requires.frame name c.slots_of-slots.ensures
-    (subst (λ (n : ℕ). has_room (after p c.args.machine.now c.args.thread c.args.classes.now).state.heap 1 n ≡ true) (sym slots) c.requires.room)
-    c.in_ok-begin_prepared.ensures.0 c.in_ok-begin_prepared.ensures.1 c.in_ok-object.ensures.made c.in_ok-object.ensures.object
-    (made_alloc c.begin_prepared.new.machine c.make_object.new.machine c.begin_prepared.new.out c.make_object.new.out c.args.thread c.class_called-class.result c.slots_of-slots.result c.in_ok-object.object c.in_ok-object.ensures.made c.in_ok-object.ensures.object c.in_ok-object.ensures.told) c.throw.ensures.new
+    let class = c.class_called-class.result in
+    let slots = (class_at p class).info.slots in
+    let m₂ = c.begin_prepared.new.machine in
+    let name : class ≡ error_class p c.args.error = c.class_called-class.ensures.value ∙ ap (λ (k : BuiltInClass). class_called p (built_in_class_name k)) c.class.ensures in
+    error_thrown p c.args.thread c.args.error c.args.classes.now c.args.machine.now m₂ c.add_instance.new.machine c.throw.new.self c.args.out.now c.begin_prepared.new.out c.add_instance.new.out class slots c.in_ok-object.object
+    c.requires.program c.requires.classes c.requires.sound c.requires.frame name refl
+    (subst (λ (k : ℕ). has_room (after p c.args.machine.now c.args.thread c.args.classes.now).state.heap 1 (class_at p k).info.slots ≡ true) (sym name) c.requires.room)
+    c.in_ok-begin_prepared.ensures.0 c.in_ok-begin_prepared.ensures.1 c.in_ok-object.ensures.made.0 c.in_ok-object.ensures.object
+    (made_alloc m₂ c.add_instance.new.machine c.begin_prepared.new.out c.add_instance.new.out c.args.thread class slots c.in_ok-object.object c.in_ok-object.ensures.made.0 c.in_ok-object.ensures.object c.in_ok-object.ensures.made.1) c.throw.ensures.new
