@@ -4,7 +4,8 @@ ghost use Rattle.et_state.specs.Words.{HasFrame, top};
 ghost use Rattle.et_state.specs.declared.records.Record.TheVariants.{Alloc, Update, Unwind};
 ghost use Rattle.et_throw.specs.Unwinding.{unwind_records};
 
-use et_base::{ClassId, MethodId, NoMemory, ObjectId, ThreadId};
+use et_base::{ClassId, MethodId, NoMemory, ObjectId, ThreadId, Value};
+use et_event::{tell_instance, tell_update};
 use et_state::{Lines, Machine, Record};
 
 /// The record of a frame that the next event leaves by an exception.
@@ -56,20 +57,14 @@ pub(crate) fn tell_error(
         (16 + 8 * slots) 0 ∷ Update (machine.now.guest.clock + 1) thread error 1 0 cause ∷ [])) }
 {
     let event = machine.clock() + 1;
-    out.push(Record::Alloc {
+    tell_instance(out, event, thread, error, class, slots)?;
+    tell_update(
+        out,
         event,
-        thread: thread.number(),
-        object: error.number(),
-        class,
-        size: 16 + 8 * slots as u64,
-        length: 0,
-    })?;
-    out.push(Record::Update {
-        event,
-        thread: thread.number(),
-        object: error.number(),
-        slot: 1,
-        old: 0,
-        new: cause.number(),
-    })
+        thread,
+        Some(error),
+        1,
+        Value::Null,
+        Value::Ref(cause),
+    )
 }
