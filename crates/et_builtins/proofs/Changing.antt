@@ -27,6 +27,7 @@ use Rattle.et_event.specs.BuiltIns.{answering, with_referent_of, with_thread_for
 use Rattle.et_event.specs.Calls.{arguments_of}
 use Rattle.et_event.specs.Moments.{Moment, moment, Doing, begins, goes, slot_written, updated}
 use Rattle.et_event.specs.Sites.{Site}
+use Rattle.et_event.specs.Telling.{TellsUpdate}
 use Rattle.et_event.specs.Tops.{IsIn}
 use Rattle.et_event.proofs.Taking.{replaced, moves_replaced}
 use Rattle.et_builtins.proofs.Standing.{length_arguments}
@@ -126,7 +127,7 @@ written_is e o i v s rs = updated_is e o i (slot_of (object_at s.heap o) i) v (w
 
 -- what `write` tells
 abbrev pub Tells : ℕ → ℕ → ℕ → Value → MachineState → List Record → List Record → Type 0
-Tells t o i v m out out₁ = (q : Linked) (b s : Kept) → s.guest.clock ≡ m.guest.clock → out₁ ≡ (updated (record { program = q; before = b; thread = t }) o i (slot_of (object_at m.heap o) i) v (record { state = s; records = out })).records
+Tells t o i v m out out₁ = TellsUpdate m.guest.clock t o i (slot_of (object_at m.heap o) i) v out out₁
 
 abbrev pub wrote : MachineState → ℕ → ℕ → Value → MachineState
 wrote m o i v = steps_object m o (with_slot i v (object_at m.heap o)) (refs_of_value (slot_of (object_at m.heap o) i))

@@ -5,7 +5,7 @@ ghost use Rattle.et_heap.specs.Queues.{IsWhole, first_value, polled};
 ghost use Rattle.et_heap.specs.Refs.{refs_of, refs_of_value};
 ghost use Rattle.et_state.specs.ThreadRoots.{frame_roots};
 ghost use Rattle.et_state.specs.Threads.{lost_room, most_threads, thread_with};
-ghost use Rattle.et_state.specs.State.{Kept, kept_of};
+ghost use Rattle.et_state.specs.State.{kept_of};
 ghost use Rattle.et_state.specs.Words.{HasFrame, top, begun, losing, steps_object, steps_top, with_object};
 ghost use Rattle.et_state.specs.Sound.{IsSound};
 ghost use Rattle.et_state.specs.Moves.{AreInHeap};
@@ -14,13 +14,14 @@ ghost use Rattle.et_state.specs.declared.records.Record.{Record};
 ghost use Rattle.et_event.specs.Answered.{EventAnswers};
 ghost use Rattle.et_event.specs.BuiltIns.{answering, with_first_taken, with_reference_made, with_referent_of, with_thread_for};
 ghost use Rattle.et_event.specs.Calls.{arguments_of};
-ghost use Rattle.et_event.specs.Moments.{moment, begins, goes, number_of_value as number_in, slot_written, updated};
+ghost use Rattle.et_event.specs.Moments.{moment, begins, goes, slot_written};
 ghost use Rattle.et_event.specs.Sites.{Site};
+ghost use Rattle.et_event.specs.Telling.{TellsUpdate};
 ghost use Rattle.et_event.specs.Tops.{IsIn};
 
 use et_base::{NoMemory, ObjectId, Steps, ThreadId, Value};
-use et_event::take;
-use et_state::{EventEnd, Lines, Machine, Record};
+use et_event::{take, tell_update};
+use et_state::{EventEnd, Lines, Machine};
 use std::sync::ledger::Ledger;
 
 /// A method that a thread calls: so many entries are its arguments, and the caller goes on at the pc `next`.
@@ -86,43 +87,6 @@ pub fn give(machine: &mut Machine, call: &Called, value: Value) -> EventEnd
     EventEnd::Done
 }
 
-/// The number of a reference in a record; 0 is null.
-fn number_of(value: Value) -> u32
-    ensures { result ≡ number_in value }
-{
-    match value {
-        Value::Ref(o) => o.number(),
-        Value::Unset | Value::Int(_) | Value::Long(_) | Value::LongHigh | Value::Null => 0,
-    }
-}
-
-/// Tells in the event under way that a value is written to a slot of an object over another, where it is a reference.
-fn tell_update(
-    out: &mut Lines,
-    event: u64,
-    thread: ThreadId,
-    object: ObjectId,
-    slot: u32,
-    old: Value,
-    value: Value,
-) -> Result<(), NoMemory>
-    ensures { OnOk result ((p : Linked) (b s : Kept) → s.guest.clock ≡ event → out.new
-        ≡ (updated (record { program = p; before = b; thread = thread }) object slot old value
-        (record { state = s; records = out.old })).records) }
-{
-    match value {
-        Value::Null | Value::Ref(_) => out.push(Record::Update {
-            event,
-            thread: thread.number(),
-            object: object.number(),
-            slot,
-            old: number_of(old),
-            new: number_of(value),
-        }),
-        Value::Unset | Value::Int(_) | Value::Long(_) | Value::LongHigh => Ok(()),
-    }
-}
-
 /// Writes a slot of an object in the event under way, and tells of it.
 fn write<L: Ledger>(
     machine: &mut Machine,
@@ -139,18 +103,15 @@ fn write<L: Ledger>(
     ensures new { OnOk result (machine.new
         ≡ steps_object machine.old object (with_slot slot value (object_at machine.old.heap object))
         (refs_of_value (slot_of (object_at machine.old.heap object) slot))) }
-    ensures told { OnOk result ((p : Linked) (b s : Kept) →
-        s.guest.clock ≡ machine.old.guest.clock →
-        out.new ≡ (updated (record { program = p; before = b; thread = thread }) object slot
-        (slot_of (object_at machine.old.heap object) slot) value
-        (record { state = s; records = out.old })).records) }
+    ensures told { OnOk result (TellsUpdate machine.old.guest.clock thread object slot
+        (slot_of (object_at machine.old.heap object) slot) value out.old out.new) }
     ensures few { OnOk result (length machine.new.lost ≤ length machine.old.lost + 1) }
     ensures visits { visits.new ≡ visits.old + 1 }
 {
     let event = machine.clock();
     let told = value;
     let old = machine.set_slot(object, slot, value, visits);
-    tell_update(out, event, thread, object, slot, old, told)
+    tell_update(out, event, thread, Some(object), slot, old, told)
 }
 
 /// The event in which a method writes the first slot of an object. After `NoMemory` the machine may only be dropped.
