@@ -18,8 +18,8 @@ use std::sync::ledger::Ledger;
 /// The event of a thread whose turn is `athrow`, or to unwind the exception that is pending (JVMS 2.10, 6.5 athrow, and 5.5
 /// for initializers). It answers what the table of events says: `Done`, and then the machine keeps the next state, to which a
 /// legal step led, and the records of the event stand behind those that were there; or `IllTyped` or `ObjectLimit`, and then
-/// machine and records are as before. It visits six objects at most. After `NoMemory` the machine may have one object more,
-/// to which nothing refers, and there may be some of the records; all else is as before.
+/// machine and records are as before. After `NoMemory` the machine may have one object more, to which nothing refers, and
+/// there may be some of the records; all else is as before.
 #[tactic(auto, using(et_event::proofs::FamilyTurns::family_at, et_event::proofs::FamilyTurns::throws_here))]
 pub fn throw_event<L: Ledger>(
     _alloc: Global,

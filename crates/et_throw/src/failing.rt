@@ -92,7 +92,7 @@ fn make(machine: &mut Machine, class: ClassId, slots: u32) -> Result<Option<Obje
     }
 }
 
-/// Writes the cause of an exception, where it has a slot for it. It visits one object at most.
+/// Writes the cause of an exception, where it has a slot for it.
 fn write_cause<L: Ledger>(
     machine: &mut Machine,
     error: ObjectId,

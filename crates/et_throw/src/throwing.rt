@@ -36,7 +36,7 @@ fn throw_object(machine: &mut Machine, thread: ThreadId, exception: ObjectId)
     machine.throw(thread, exception);
 }
 
-/// Whether an object is a Throwable. It visits the object.
+/// Whether an object is a Throwable.
 fn is_exception<L: Ledger>(
     program: &Program,
     machine: &Machine,
@@ -55,9 +55,9 @@ fn is_exception<L: Ledger>(
 
 /// The event of `athrow` (JVMS 6.5): the Throwable on top of the operands becomes pending, and the frame stays as it is. Null
 /// throws NullPointerException; what is no Throwable has no meaning. It answers what the table of events says: `Done`, and
-/// then the machine keeps the next state, to which a legal step led, and the records of the event stand behind those that were
-/// there; or `IllTyped` or `ObjectLimit`, and then machine and records are as before. It visits one object at most. After
-/// `NoMemory` the machine may have one object more, to which nothing refers, and there may be its record; all else is as before.
+/// then the machine keeps the next state, to which a legal step led, and the records of the event stand behind those that
+/// were there; or `IllTyped` or `ObjectLimit`, and then machine and records are as before. After `NoMemory` the machine may
+/// have one object more, to which nothing refers, and there may be its record; all else is as before.
 #[tactic(auto, using(crate::proofs::Thrown::reference_held, crate::proofs::Thrown::thrown_by_null, crate::proofs::Thrown::thrown_answers, crate::proofs::Thrown::no_throwable, crate::proofs::Thrown::nothing_thrown))]
 pub(crate) fn athrow_event<L: Ledger>(
     program: &Program,

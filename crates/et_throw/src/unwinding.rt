@@ -30,7 +30,7 @@ use et_program::Program;
 use et_state::{EventEnd, Lines, Machine, Stage};
 use std::sync::ledger::Ledger;
 
-/// Leaves the monitor of a lock once, where a thread owns it. It visits three objects at most.
+/// Leaves the monitor of a lock once, where a thread owns it.
 fn leave_if_owned<L: Ledger>(
     machine: &mut Machine,
     thread: ThreadId,
@@ -209,10 +209,10 @@ fn unwind_event<L: Ledger>(
 /// The event of a thread whose turn is to unwind the exception that is pending (JVMS 2.10, and 5.5 for initializers): a
 /// handler of the topmost frame is entered, or the frame is dropped, its monitor left once where the thread owns it, and the
 /// class of an initializer has failed. It answers what the table of events says: `Done`, and then the machine keeps the next
-/// state, to which a legal step led, and the records of the event stand behind those that were there; or, and then machine and
-/// records are as before, `IllTyped` where the exception doesn't fit in the frame of the handler, or `ObjectLimit` where a new
-/// ExceptionInInitializerError doesn't fit. It visits six objects at most. After `NoMemory` the machine may have one object
-/// more, to which nothing refers, and there may be some of the records; all else is as before.
+/// state, to which a legal step led, and the records of the event stand behind those that were there; or, and then machine
+/// and records are as before, `IllTyped` where the exception doesn't fit in the frame of the handler, or `ObjectLimit` where
+/// a new ExceptionInInitializerError doesn't fit. After `NoMemory` the machine may have one object more, to which nothing
+/// refers, and there may be some of the records; all else is as before.
 #[tactic(auto, using(crate::proofs::Turning::unwinds_frame, crate::proofs::Turns::turn_ill_typed))]
 pub(crate) fn unwinding_event<L: Ledger>(
     program: &Program,
