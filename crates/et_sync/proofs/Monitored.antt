@@ -1,5 +1,5 @@
 -- `monitorenter` and `monitorexit`.
-use Rattle.std.proofs.Common.{◌≡◌, ℕ, ◌+◌, ◌<◌, ◌≤◌, ◌^◌, Bool, true, false, List, [], ◌∷◌, length, get_or, drop, Some, None, refl, sym, ◌∙◌, ap, subst, Contains, append-nil, arith}
+use Rattle.std.proofs.Common.{◌≡◌, ℕ, ◌<◌, ◌≤◌, ◌^◌, Bool, true, false, List, [], ◌∷◌, length, get_or, drop, Some, None, refl, sym, ◌∙◌, ap, subst, Contains, append-nil, arith}
 use Rattle.std.specs.Prelude.{Result, Ok, Err, IfOk}
 use Rattle.std.proofs.lemmas.List.{length-set}
 use Rattle.et_base.specs.declared.value.Value.{Value}
@@ -36,6 +36,7 @@ use Rattle.et_event.proofs.Keeping.{monitor_on_way}
 use Rattle.et_event.proofs.There.{few_times}
 use Rattle.et_event.specs.Tops.{entry_reference}
 use Rattle.et_event.proofs.Answering.{ill_typed_answers, ill_typed_end}
+use Rattle.et_sync.specs.Monitoring.{gone_on, once_more}
 
 -- THE REFERENCE ON TOP
 
@@ -96,7 +97,7 @@ monitored_led change m t f l m₁ m₂ o sound has held d e =
 pub changed_led : (change : Monitor → Monitor) (m : MachineState) (t o next : ℕ) (m₁ m₂ m₃ m₄ : MachineState) → IsSound (kept_of m) → HasFrame m.guest t → IsHeld m.heap o → 0 < length (top m.guest t).operands → m₁ ≡ begun m
     → m₂ ≡ steps_top m₁ t (popped 1 (top m₁.guest t)) (refs_of_value (operand_of (top m₁.guest t) 0)) → m₃ ≡ steps_top m₂ t (at_pc next (top m₂.guest t)) []
     → m₄ ≡ with_monitor_at (OfObject o) (change (monitor_at m₃ (OfObject o))) m₃
-    → Led (kept_of m) (record { heap = with_object_at m.heap o (with_monitor (change (object_at m.heap o).monitor) (object_at m.heap o)); guest = with_top (ticked m.guest) t (record (top m.guest t) { pc = next; operands = drop 1 (top m.guest t).operands }) }) m₄
+    → Led (kept_of m) (gone_on change m t o next) m₄
 changed_led change m t o next m₁ m₂ m₃ m₄ sound has held some e₁ e₂ e₃ e₄ =
     let s : Kept = kept_of m in
     let b : MachineState = begun m in
@@ -127,14 +128,6 @@ enters_it p m t at r e = reference_taken (ill_typed (moment p m t)) (λ x below.
 
 exits_it : (p : Linked) (m : MachineState) (t : ℕ) (at : Site) (r : Reference) → entry_reference (operand_of (top m.guest t) 0) ≡ Some r → monitor_event (moment p m t) at Exit ≡ exits (moment p m t) at r (drop 1 (top m.guest t).operands)
 exits_it p m t at r e = reference_taken (ill_typed (moment p m t)) (λ x below. exits (moment p m t) at x below) (top m.guest t).operands r e
-
--- the state in which a frame has gone on, and a monitor has changed
-abbrev pub gone_on : (Monitor → Monitor) → MachineState → ℕ → ℕ → ℕ → Kept
-gone_on change m t o next =
-    record { heap = with_object_at m.heap o (with_monitor (change (object_at m.heap o).monitor) (object_at m.heap o)); guest = with_top (ticked m.guest) t (record (top m.guest t) { pc = next; operands = drop 1 (top m.guest t).operands }) }
-
-abbrev pub once_more : ℕ → Monitor → Monitor
-once_more t y = record { owner = Some t; count = y.count + 1 }
 
 pub entered_answers : (p : Linked) (t o next : ℕ) (m m' : MachineState) (at : Site) (out : List Record) → at.next ≡ next → entry_reference (operand_of (top m.guest t) 0) ≡ Some (Some o) → may_enter_at t (OfObject o) m ≡ true
     → Led (kept_of m) (gone_on (once_more t) m t o next) m' → EventAnswers (monitor_event (moment p m t) at Enter) ends.Done m m' out out

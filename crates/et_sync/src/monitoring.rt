@@ -1,10 +1,8 @@
 //! `monitorenter` and `monitorexit`.
-ghost use Rattle.std.specs.Prelude.{◌≡◌, ◌+◌, ◌<◌, ◌≤◌, ◌^◌, List, Some, IfOk, OnErr, length, drop};
-ghost use Rattle.et_heap.specs.Objects.{IsHeld, object_at, with_monitor, with_object_at};
-ghost use Rattle.et_state.specs.Threads.{operand_of};
+ghost use Rattle.std.specs.Prelude.{◌≡◌, ◌+◌, ◌<◌, ◌≤◌, ◌^◌, List, Some, IfOk, OnErr};
+ghost use Rattle.et_heap.specs.Objects.{object_at};
 ghost use Rattle.et_state.specs.State.{kept_of};
-ghost use Rattle.et_state.specs.Words.{HasFrame, top, with_top, ticked};
-ghost use Rattle.et_state.specs.Sound.{IsSound};
+ghost use Rattle.et_state.specs.Words.{HasFrame, top};
 ghost use Rattle.et_state.specs.Moves.{Led};
 ghost use Rattle.et_state.specs.declared.records.Record.{Record};
 ghost use Rattle.et_event.specs.Answered.{EventAnswers};
@@ -13,8 +11,8 @@ ghost use Rattle.et_event.specs.Sites.{Site};
 ghost use Rattle.et_event.specs.Sound.{IsSoundFor};
 ghost use Rattle.et_event.specs.Sync.{monitor_event};
 ghost use Rattle.et_event.specs.declared.rows.MonitorRow.TheVariants as rows;
-ghost use Rattle.et_event.specs.Tops.{entry_reference};
 ghost use Rattle.et_event.specs.Moments.{moment};
+ghost use Rattle.et_sync.specs.Monitoring.{MayLock, MayPass, gone_on, once_more};
 
 use et_base::{NoMemory, ObjectId, Steps, ThreadId};
 use et_event::{
@@ -33,22 +31,10 @@ fn enter_object<L: Ledger>(
     next: u32,
     visits: &mut Steps<L>,
 )
-    requires frame { HasFrame machine.old.guest thread }
-    requires sound { IsSound (kept_of machine.old) }
-    requires clock { machine.old.guest.clock < 2 ^ 40 }
-    requires operand { 0 < length (top machine.old.guest thread).operands }
-    requires held { IsHeld machine.old.heap object }
+    requires passes { MayPass machine.old thread object }
     requires count { (object_at machine.old.heap object).monitor.count ≤ 2 ^ 40 }
     ensures led { Led (kept_of machine.old)
-        (record {
-          heap = with_object_at machine.old.heap object (with_monitor (record {
-            owner = Some thread;
-            count = (object_at machine.old.heap object).monitor.count + 1;
-          })
-              (object_at machine.old.heap object));
-          guest = with_top (ticked machine.old.guest) thread (record (top machine.old.guest thread)
-              { pc = next; operands = drop 1 (top machine.old.guest thread).operands });
-        }) machine.new }
+        (gone_on (once_more thread) machine.old thread object next) machine.new }
     ensures visits { visits.new ≤ visits.old + 2 }
 {
     machine.begin_event();
@@ -65,18 +51,9 @@ fn exit_object<L: Ledger>(
     next: u32,
     visits: &mut Steps<L>,
 )
-    requires frame { HasFrame machine.old.guest thread }
-    requires sound { IsSound (kept_of machine.old) }
-    requires clock { machine.old.guest.clock < 2 ^ 40 }
-    requires operand { 0 < length (top machine.old.guest thread).operands }
-    requires held { IsHeld machine.old.heap object }
+    requires passes { MayPass machine.old thread object }
     ensures led { Led (kept_of machine.old)
-        (record {
-          heap = with_object_at machine.old.heap object (with_monitor (left_once
-              (object_at machine.old.heap object).monitor) (object_at machine.old.heap object));
-          guest = with_top (ticked machine.old.guest) thread (record (top machine.old.guest thread)
-              { pc = next; operands = drop 1 (top machine.old.guest thread).operands });
-        }) machine.new }
+        (gone_on left_once machine.old thread object next) machine.new }
     ensures visits { visits.new ≤ visits.old + 2 }
 {
     machine.begin_event();
@@ -95,12 +72,7 @@ fn monitorenter<L: Ledger>(
     next: u32,
     visits: &mut Steps<L>,
 ) -> EventEnd
-    requires sound { IsSoundFor program.now (kept_of machine.old) }
-    requires frame { HasFrame machine.old.guest thread }
-    requires clock { machine.old.guest.clock < 2 ^ 40 }
-    requires operand { entry_reference (operand_of (top machine.old.guest thread) 0)
-        ≡ Some (Some object) }
-    requires held { IsHeld machine.old.heap object }
+    requires locks { MayLock program.now machine.old thread object }
     ensures ok { (at : Site) (out : List Record) → at.next ≡ next →
         EventAnswers (monitor_event (moment program.now machine.old thread) at rows.Enter)
         result machine.old machine.new out out }
@@ -124,12 +96,7 @@ fn monitorexit<L: Ledger>(
     out: &mut Lines,
     visits: &mut Steps<L>,
 ) -> Result<EventEnd, NoMemory>
-    requires sound { IsSoundFor program.now (kept_of machine.old) }
-    requires frame { HasFrame machine.old.guest thread }
-    requires clock { machine.old.guest.clock < 2 ^ 40 }
-    requires operand { entry_reference (operand_of (top machine.old.guest thread) 0)
-        ≡ Some (Some object) }
-    requires held { IsHeld machine.old.heap object }
+    requires locks { MayLock program.now machine.old thread object }
     ensures ok { IfOk result (λ end. (at : Site) → at.next ≡ next →
         EventAnswers (monitor_event (moment program.now machine.old thread) at rows.Exit)
         end machine.old machine.new out.old out.new) }
@@ -153,9 +120,8 @@ fn monitorexit<L: Ledger>(
 /// enter the monitor of an object a thread waits for another owner; to leave one that it doesn't own throws
 /// IllegalMonitorStateException. It answers what the table of events says: `Done`, and then the machine keeps the next state,
 /// to which a legal step led, and the records of the event stand behind those that were there; `Waited`, and then only the
-/// clock has gone on; or `IllTyped` or `ObjectLimit`, and then machine and records are as before. It visits three objects at
-/// most. After `NoMemory` the machine may have one object more, to which nothing refers, and there may be its record; all else
-/// is as before.
+/// clock has gone on; or `IllTyped` or `ObjectLimit`, and then machine and records are as before. After `NoMemory` the
+/// machine may have one object more, to which nothing refers, and there may be its record; all else is as before.
 #[tactic(auto, using(crate::proofs::Monitored::reference_held, crate::proofs::Monitored::null_each, crate::proofs::Monitored::ill_typed_row))]
 pub(crate) fn monitor_row_event<L: Ledger>(
     program: &Program,

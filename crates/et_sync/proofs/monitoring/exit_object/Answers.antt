@@ -4,4 +4,4 @@ use Rattle.et_sync.proofs.monitoring.exit_object.Goals as goal
 
 pub returns-clause-led : goal.returns-clause-led
 returns-clause-led g c =
-    changed_led left_once c.args.machine.now c.args.thread c.args.object c.args.next _ _ _ _ c.requires.sound c.requires.frame c.requires.held c.requires.operand c.begin_event.ensures c.pop.ensures.new c.set_pc.ensures c.leave_monitor.ensures.new
+    changed_led left_once c.args.machine.now c.args.thread c.args.object c.args.next _ _ _ _ c.requires.passes.sound c.requires.passes.frame c.requires.passes.held c.requires.passes.operand c.begin_event.ensures c.pop.ensures.new c.set_pc.ensures c.leave_monitor.ensures.new
