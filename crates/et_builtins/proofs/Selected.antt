@@ -1,5 +1,5 @@
 -- What the table says of a built-in method, by the tests of its receiver.
-use Rattle.std.proofs.Common.{◌≡◌, ℕ, ◌<◌, Bool, true, false, List, length, Option, Some, None, refl, sym, ◌∙◌, ap, subst, arith}
+use Rattle.std.proofs.Common.{◌≡◌, ℕ, ◌<◌, Bool, true, false, List, [], length, Option, Some, None, refl, sym, ◌∙◌, ap, subst, arith}
 use Rattle.std.specs.Prelude.{nat_lt}
 use Rattle.std.specs.Option.{is_some}
 use Rattle.std.proofs.lemmas.Bool.Decides.{nat_tests}
@@ -12,10 +12,14 @@ use Rattle.et_state.specs.Outcome.{Outcome}
 use Rattle.et_event.specs.declared.errors.GuestError.TheVariants.{OutOfMemoryError}
 use Rattle.et_program.specs.BootMethods.BuiltIn.{BuiltIn}
 use Rattle.et_event.specs.Answered.{EventAnswers}
-use Rattle.et_event.specs.BuiltIns.{built_in_row, is_fit_for, row_done, starts_thread}
+use Rattle.et_event.specs.BuiltIns.{built_in_row, is_fit_for, row_done, starts_thread, with_reference_made}
+use Rattle.et_event.specs.Calls.{arguments_of}
 use Rattle.et_event.specs.Checks.{ill_typed_unless, throws_unless, waits_unless}
-use Rattle.et_event.specs.Moments.{Moment, begins, ill_typed, waits}
+use Rattle.et_event.specs.Moments.{Moment, begins, goes, ill_typed, moment, waits}
 use Rattle.et_event.specs.Sites.{Site}
+use Rattle.et_program.specs.Entries.{Linked}
+use Rattle.et_builtins.specs.Calling.{answered}
+use Rattle.et_builtins.specs.declared.changes.Called.{Called}
 
 pub fit_answers : (e : Moment) (at : Site) (args : List Value) (o : ℕ) (b : BuiltIn) (end : EventEnd) (m m' : MachineState) (out out' : List Record) → is_fit_for e (begins e) o b ≡ true
     → EventAnswers (row_done e at (begins e) args o b) end m m' out out' → EventAnswers (built_in_row e at (begins e) args o b) end m m' out out'
@@ -26,6 +30,22 @@ pub unfit_answers : (e : Moment) (at : Site) (args : List Value) (o : ℕ) (b : 
     → EventAnswers (ill_typed e) end m m' out out' → EventAnswers (built_in_row e at (begins e) args o b) end m m' out out'
 unfit_answers e at args o b end m m' out out' unfit a =
     subst (λ (x : Outcome Kept). EventAnswers x end m m' out out') (sym (ap (λ (c : Bool). ill_typed_unless e c (row_done e at (begins e) args o b)) unfit)) a
+
+-- WHAT IS DONE, by the kind of the method
+
+pub done_by : (p : Linked) (m m' : MachineState) (call : Called) (at : Site) (o : ℕ) (b b' : BuiltIn) (end : EventEnd) (out out' : List Record) → b ≡ b'
+    → EventAnswers (row_done (moment p m call.thread) at (begins (moment p m call.thread)) (arguments_of (moment p m call.thread) call.count) o b') end m m' out out'
+    → EventAnswers (row_done (moment p m call.thread) at (begins (moment p m call.thread)) (arguments_of (moment p m call.thread) call.count) o b) end m m' out out'
+done_by p m m' call at o b b' end out out' is a =
+    let e = moment p m call.thread in
+    subst (λ (x : BuiltIn). EventAnswers (row_done e at (begins e) (arguments_of e call.count) o x) end m m' out out') (sym is) a
+
+pub made_by : (p : Linked) (m m' : MachineState) (call : Called) (at : Site) (o : ℕ) (end : EventEnd) (out : List Record) (r r' q q' : Option ℕ) → r ≡ r' → q ≡ q'
+    → EventAnswers (goes (with_reference_made o r q (answered p m call at []))) end m m' out out
+    → EventAnswers (goes (with_reference_made o r' q' (answered p m call at []))) end m m' out out
+made_by p m m' call at o end out r r' q q' is same a =
+    subst (λ (x : Option ℕ). EventAnswers (goes (with_reference_made o r' x (answered p m call at []))) end m m' out out) same
+    (subst (λ (x : Option ℕ). EventAnswers (goes (with_reference_made o x q (answered p m call at []))) end m m' out out) is a)
 
 -- START AND JOIN
 

@@ -1,24 +1,25 @@
 -- The shape of a call, and the member that its instruction names.
 use Rattle.std.proofs.Common.{◌≡◌, ℕ, Bool, true, false, List, [], Option, Some, None, refl, sym, ◌∙◌, ap}
 use Rattle.std.specs.Option.{option_map_or}
-use Rattle.std.specs.Prelude.{if◌then◌else◌, option_map, option_and_then}
+use Rattle.std.specs.Prelude.{if◌then◌else◌, option_map, option_and_then, Result}
 use Rattle.et_pool.specs.Descriptors.{MethodType, method_type}
 use Rattle.et_pool.specs.Entries.{Item}
 use Rattle.et_pool.specs.Operands.{Shape, shape_of, shape_in}
 use Rattle.et_program.specs.Entries.{Linked}
 use Rattle.et_program.specs.Referring.{Member, pool_of_class, member_described}
 use Rattle.et_program.specs.Shapes.{shape_referred}
+use Rattle.et_event.specs.declared.errors.GuestError.{GuestError}
 use Rattle.et_event.specs.declared.rows.CallKind.{CallKind}
 use Rattle.et_event.specs.Calls.{arguments_of, call_fits, entry_count, invoke, is_static_call, with_method}
 use Rattle.et_event.specs.Checks.{ill_typed_unless}
 use Rattle.et_event.specs.Moments.{Moment, ill_typed}
 use Rattle.et_event.specs.Sites.{Site, site_member, names_interface, pool_index}
 use Rattle.et_builtins.specs.Arguments.{fitting}
-use Rattle.et_builtins.specs.Plans.{HasCount, IsPassing}
+use Rattle.et_builtins.specs.Plans.{HasCount, IsPassing, resolving}
 use Rattle.et_builtins.specs.declared.plans.CallPlan.{CallPlan}
 use Rattle.et_builtins.specs.declared.plans.CallPlan.TheVariants.{Enters}
-use Rattle.et_event.specs.Selected.{passed_at, selected_by, selected_method}
-use Rattle.et_builtins.proofs.Planning.{checks, fitted, fitted_method, invoke_is, resolves, selected_is}
+use Rattle.et_event.specs.Selected.{passed_at, selected_by, selected_from, selected_method, with_resolved}
+use Rattle.et_builtins.proofs.Planning.{checks, fitted, fitted_method, found_by, invoke_is, resolves, selected_is}
 
 abbrev named_shape : Option Member → Option Shape
 named_shape o = option_and_then (λ (m : Member). shape_in m.descriptor) o
@@ -51,6 +52,30 @@ shaped p class index at shape pool same e = by_member at shape (site_member at) 
 pub typed_fitting : (e : Moment) (at : Site) (shape : Shape) (h : HasShape at shape) (b static : Bool) (r : Option ℕ) → b ≡ static → r ≡ fitting e b (Some h.type) → fitting e static (method_type h.member.descriptor) ≡ r
 typed_fitting e at shape h b static r same is =
     ap (λ (o : Option MethodType). fitting e static o) h.typed ∙ (ap (λ (s : Bool). fitting e s (Some h.type)) (sym same) ∙ sym is)
+
+-- .. at a place, with the member that is named there
+pub record FitsAt (e : Moment) (at : Site) (kind : CallKind) (shape : Shape) (r : Option ℕ) : Type 0 where
+  pub has : HasShape at shape
+  pub fits : fitting e (is_static_call kind) (method_type has.member.descriptor) ≡ r
+
+pub fits_at : (e : Moment) (at : Site) (kind : CallKind) (class index : ℕ) (shape : Shape) (b : Bool) (r : Option ℕ) → at.pool ≡ pool_of_class e.program class → index ≡ pool_index at → Some shape ≡ shape_referred e.program class index
+    → b ≡ is_static_call kind → ((type : MethodType) → shape ≡ shape_of type → r ≡ fitting e b (Some type)) → FitsAt e at kind shape r
+fits_at e at kind class index shape b r pool same referred static is =
+    let h : HasShape at shape = shaped e.program class index at shape pool same referred in
+    record { has = h; fits = typed_fitting e at shape h b (is_static_call kind) r static (is h.type h.is) }
+
+-- what the invoke comes to then, and what it selects, by what was resolved
+pub invoked_by : (e : Moment) (at : Site) (kind : CallKind) (shape : Shape) (count : ℕ) (r : Result (ℕ × ℕ) GuestError) → FitsAt e at kind shape (Some count)
+    → ((m : Member) → site_member at ≡ Some m → resolves e m (names_interface at) (checks e at kind count) ≡ resolving e r (checks e at kind count))
+    → invoke e at kind ≡ resolving e r (checks e at kind count)
+invoked_by e at kind shape count r f answer =
+    invoke_is e at kind f.has.member f.has.named ∙ (ap (fitted e at kind f.has.member) f.fits ∙ answer f.has.member f.has.named)
+
+pub chosen_by : (e : Moment) (at : Site) (kind : CallKind) (shape : Shape) (count : ℕ) (r : Result (ℕ × ℕ) GuestError) → FitsAt e at kind shape (Some count)
+    → ((m : Member) → site_member at ≡ Some m → with_resolved e.program (names_interface at) m (selected_from e at kind (arguments_of e count)) ≡ found_by r (selected_from e at kind (arguments_of e count)))
+    → selected_method e at kind ≡ found_by r (selected_from e at kind (arguments_of e count))
+chosen_by e at kind shape count r f answer =
+    selected_is e at kind f.has.member f.has.named ∙ (ap (fitted_method e at kind f.has.member) f.fits ∙ answer f.has.member f.has.named)
 
 -- .. and they are those that the invoke passes
 by_count : (e : Moment) (at : Site) (kind : CallKind) (type : MethodType) (count : ℕ) (b : Bool) → (if b then Some (entry_count (is_static_call kind) type) else None) ≡ Some count → arguments_of e count ≡ arguments_of e (entry_count (is_static_call kind) type)

@@ -3,3 +3,4 @@ pub mod Kinds
 pub mod Types
 pub mod Plans
 pub mod Classes
+pub mod Calling

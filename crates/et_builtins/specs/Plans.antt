@@ -1,5 +1,5 @@
 -- What an invoke comes to, as a plan.
-use Rattle.std.specs.Prelude.{◌≡◌, ℕ, ◌+◌, ◌<◌, ◌≤◌, true, length, drop, Option, Some, None, Result, Ok, Err}
+use Rattle.std.specs.Prelude.{◌≡◌, ℕ, ◌+◌, ◌<◌, ◌≤◌, true, length, drop, option_and_then, Option, Some, None, Result, Ok, Err}
 use Rattle.et_state.specs.State.{Kept}
 use Rattle.et_state.specs.declared.class_state.ClassState.TheVariants.{Untouched}
 use Rattle.et_program.specs.Entries.{method_at, is_static}
@@ -8,10 +8,11 @@ use Rattle.et_event.specs.declared.rows.CallKind.{CallKind}
 use Rattle.et_event.specs.declared.rows.CallKind.TheVariants.{Static}
 use Rattle.et_event.specs.declared.errors.GuestError.{GuestError}
 use Rattle.et_event.specs.Calls.{arguments_of, dispatched, enters_method}
+use Rattle.et_event.specs.Frames.{first_reference}
 use Rattle.et_event.specs.Moments.{Moment, begins, current_frame, ill_typed, throws, waits}
 use Rattle.et_event.specs.Initialization.{state_of}
 use Rattle.et_event.specs.Operands.{returned_width}
-use Rattle.et_event.specs.Selected.{passed_at}
+use Rattle.et_event.specs.Selected.{passed_at, selected_on}
 use Rattle.et_event.specs.Sites.{Site}
 use Rattle.et_event.specs.Sound.{returned_of}
 use Rattle.et_builtins.specs.declared.plans.CallPlan.{CallPlan}
@@ -24,6 +25,14 @@ call_planned e at (Throws error) = throws e error (begins e)
 call_planned e at Waits = waits e
 call_planned e at (Initializes method count) = dispatched e at Static (arguments_of e count) 0 method
 call_planned e at (Enters method count) = enters_method e at (begins e) (arguments_of e count) method
+
+-- .. is that of the row of an invoke of a kind, of a method that was resolved in a named class
+abbrev pub IsPlanOf : Moment → Site → CallKind → (named method count : ℕ) → CallPlan → Type 0
+IsPlanOf e at kind named method count plan = dispatched e at kind (arguments_of e count) named method ≡ call_planned e at plan
+
+-- what that row selects
+abbrev pub entered_by : Moment → Site → CallKind → (named method count : ℕ) → Option ℕ
+entered_by e at kind named method count = option_and_then (selected_on e at kind (arguments_of e count) named method) (first_reference (arguments_of e count))
 
 -- what the method returns will fit once its arguments are taken
 abbrev pub HasCallRoom : Moment → ℕ → ℕ → Type 0

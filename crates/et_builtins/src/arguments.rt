@@ -21,29 +21,18 @@ use et_event::operand_at;
 use et_pool::{CallShape, Operand};
 use et_state::Machine;
 
-/// A frame has no more operands than it has room for, and that is for fewer than 65,536.
-pub fn operands_are_few(machine: &Machine, thread: ThreadId)
-    requires { HasFrame machine.now.guest thread }
-    ensures few { length (top machine.now.guest thread).operands < 2 ^ 16 }
-    ensures fits { length (top machine.now.guest thread).operands
-        ≤ (top machine.now.guest thread).room }
-{
-    let _room = machine.room(thread);
-    let _depth = machine.depth(thread);
-}
-
 /// The entry of the arguments that stands so far behind the first of them; `Unset` behind the last.
 #[tactic(auto, using(crate::proofs::Standing::argument_there, crate::proofs::Standing::argument_past, et_event::proofs::Groups::unset_is_in))]
 #[inline(always)]
-pub fn argument_at(machine: &Machine, thread: ThreadId, count: u32, j: u32) -> Value
+pub fn argument_at(machine: &Machine, thread: ThreadId, count: u16, j: u32) -> Value
     requires frame { HasFrame machine.now.guest thread }
     requires operands { count ≤ length (top machine.now.guest thread).operands }
     ensures there { IsIn (top machine.now.guest thread) result }
     ensures value { result
         ≡ slice_index_or (arguments_in (top machine.now.guest thread) count) j Unset }
 {
-    if j < count {
-        operand_at(machine, thread, count - 1 - j)
+    if j < count as u32 {
+        operand_at(machine, thread, count as u32 - 1 - j)
     } else {
         Value::Unset
     }
@@ -51,7 +40,7 @@ pub fn argument_at(machine: &Machine, thread: ThreadId, count: u32, j: u32) -> V
 
 /// The object on which a method is called: the first argument (JVMS 2.6.1).
 #[tactic(auto, using(crate::proofs::Standing::first_is, crate::proofs::Standing::reference_held, crate::proofs::Standing::reference_there))]
-pub fn receiver(machine: &Machine, thread: ThreadId, count: u32) -> Option<ObjectId>
+pub fn receiver(machine: &Machine, thread: ThreadId, count: u16) -> Option<ObjectId>
     requires frame { HasFrame machine.now.guest thread }
     requires operands { count ≤ length (top machine.now.guest thread).operands }
     requires sound { IsSound (kept_of machine.now) }
@@ -71,7 +60,7 @@ fn entries_at(
     machine: &Machine,
     thread: ThreadId,
     kind: Option<Operand>,
-    count: u32,
+    count: u16,
     at: u32,
 ) -> Option<u32>
     requires frame { HasFrame machine.now.guest thread }
@@ -99,13 +88,12 @@ fn are_of(
     machine: &Machine,
     thread: ThreadId,
     kinds: &[Option<Operand>],
-    count: u32,
+    count: u16,
     from: u32,
 ) -> bool
     requires frame { HasFrame machine.now.guest thread }
     requires operands { count ≤ length (top machine.now.guest thread).operands }
     requires from { from ≤ count }
-    requires small { count < 2 ^ 16 }
     ensures { result
         ≡ are_of_kinds kinds.now (drop from (arguments_in (top machine.now.guest thread) count)) }
 {
@@ -116,7 +104,7 @@ fn are_of(
         };
         at += entries;
     }
-    at == count
+    at == count as u32
 }
 
 /// Whether the arguments are values of these kinds, behind a receiver where the method isn't static, and no others.
@@ -126,11 +114,10 @@ fn are_arguments(
     thread: ThreadId,
     is_static: bool,
     kinds: &[Option<Operand>],
-    count: u32,
+    count: u16,
 ) -> bool
     requires frame { HasFrame machine.now.guest thread }
     requires operands { count ≤ length (top machine.now.guest thread).operands }
-    requires small { count < 2 ^ 16 }
     ensures { result
         ≡ are_passed is_static kinds.now (arguments_in (top machine.now.guest thread) count) }
 {
@@ -144,8 +131,7 @@ fn are_arguments(
 }
 
 /// How many entries a call takes whose parameters take so many, if there are as many operands.
-fn count_within(entries: usize, is_static: bool, depth: u32) -> Option<u32>
-    requires { depth < 2 ^ 16 }
+fn count_within(entries: usize, is_static: bool, depth: u16) -> Option<u16>
     ensures { result ≡ (if nat_le (entries + (if is_static then 0 else 1)) depth then Some
         (entries + (if is_static then 0 else 1)) else None) }
 {
@@ -157,7 +143,11 @@ fn count_within(entries: usize, is_static: bool, depth: u32) -> Option<u32>
     } else {
         entries as u32 + 1
     };
-    if count <= depth { Some(count) } else { None }
+    if count <= depth as u32 {
+        Some(count as u16)
+    } else {
+        None
+    }
 }
 
 /// Whether a call of this shape may be done with the topmost entries as arguments: they are of its kinds, and what is
@@ -167,16 +157,16 @@ fn passes(
     thread: ThreadId,
     is_static: bool,
     shape: &CallShape,
-    count: u32,
+    count: u16,
+    room: u16,
 ) -> bool
     requires frame { HasFrame machine.now.guest thread }
     requires operands { count ≤ length (top machine.now.guest thread).operands }
-    requires small { count < 2 ^ 16 }
+    requires room { room ≡ (top machine.now.guest thread).room }
     ensures { result ≡ is_passing (top machine.now.guest thread) is_static shape.now count }
 {
-    let left = machine.depth(thread) - count;
-    let room = machine.room(thread) as u32;
-    let fits = left + shape.returned().entries() as u32 <= room;
+    let left = machine.depth(thread) - count as u32;
+    let fits = left + shape.returned().entries() as u32 <= room as u32;
     are_arguments(machine, thread, is_static, shape.kinds(), count) && fits
 }
 
@@ -186,7 +176,7 @@ pub(crate) fn fitting_call(
     thread: ThreadId,
     is_static: bool,
     shape: &CallShape,
-) -> Option<u32>
+) -> Option<u16>
     requires frame { HasFrame machine.now.guest thread }
     ensures value { (p : Linked) (type : MethodType) → shape.now ≡ shape_of type →
         result ≡ fitting (moment p machine.now thread) is_static (Some type) }
@@ -196,9 +186,10 @@ pub(crate) fn fitting_call(
         (λ count. length (drop count (top machine.now.guest thread).operands)
         + entries_returned shape.now.returned ≤ (top machine.now.guest thread).room) }
 {
-    operands_are_few(machine, thread);
-    let count = count_within(shape.entries(), is_static, machine.depth(thread))?;
-    if passes(machine, thread, is_static, shape, count) {
+    let room = machine.room(thread);
+    let depth = machine.depth(thread) as u16;
+    let count = count_within(shape.entries(), is_static, depth)?;
+    if passes(machine, thread, is_static, shape, count, room) {
         Some(count)
     } else {
         None

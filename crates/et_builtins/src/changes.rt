@@ -1,23 +1,20 @@
 //! What a built-in method changes once its arguments are taken.
-ghost use Rattle.std.specs.Prelude.{◌≡◌, ◌+◌, ◌<◌, ◌≤◌, ◌^◌, ◌∷◌, ◌++◌, [], List, IfOk, OnOk, Contains, None, length, drop, take as first};
+ghost use Rattle.std.specs.Prelude.{◌≡◌, ◌+◌, ◌<◌, ◌≤◌, ◌^◌, ◌∷◌, ◌++◌, [], List, IfOk, OnOk, None, length, drop, take as first};
 ghost use Rattle.et_heap.specs.Objects.{IsHeld, object_at, slot_of, with_slot, referent_of, referent_value, with_referent, with_queue};
 ghost use Rattle.et_heap.specs.Queues.{IsWhole, first_value, polled};
 ghost use Rattle.et_heap.specs.Refs.{refs_of, refs_of_value};
-ghost use Rattle.et_state.specs.ThreadRoots.{frame_roots};
 ghost use Rattle.et_state.specs.Threads.{lost_room, most_threads, thread_with};
-ghost use Rattle.et_state.specs.State.{kept_of};
-ghost use Rattle.et_state.specs.Words.{HasFrame, top, begun, losing, steps_object, steps_top, with_object};
-ghost use Rattle.et_state.specs.Sound.{IsSound};
+ghost use Rattle.et_state.specs.Words.{top, begun, losing, steps_object, steps_top, with_object};
 ghost use Rattle.et_state.specs.Moves.{AreInHeap};
 ghost use Rattle.et_program.specs.Entries.{Linked};
 ghost use Rattle.et_state.specs.declared.records.Record.{Record};
 ghost use Rattle.et_event.specs.Answered.{EventAnswers};
-ghost use Rattle.et_event.specs.BuiltIns.{answering, with_first_taken, with_reference_made, with_referent_of, with_thread_for};
-ghost use Rattle.et_event.specs.Calls.{arguments_of};
+ghost use Rattle.et_event.specs.BuiltIns.{with_first_taken, with_reference_made, with_referent_of, with_thread_for};
 ghost use Rattle.et_event.specs.Moments.{moment, begins, goes, slot_written};
 ghost use Rattle.et_event.specs.Sites.{Site};
 ghost use Rattle.et_event.specs.Telling.{TellsUpdate};
 ghost use Rattle.et_event.specs.Tops.{IsIn};
+ghost use Rattle.et_builtins.specs.Calling.{HasRoomFor, MayDo, StandsThere, answered};
 
 use et_base::{NoMemory, ObjectId, Steps, ThreadId, Value};
 use et_event::{take, tell_update};
@@ -28,40 +25,32 @@ use std::sync::ledger::Ledger;
 #[derive(Clone, Copy)]
 pub struct Called {
     pub thread: ThreadId,
-    pub count: u32,
+    pub count: u16,
     pub next: u32,
 }
 
 /// The event begins, the arguments are taken, and the pc goes on.
 fn pass(machine: &mut Machine, call: &Called)
-    requires frame { HasFrame machine.old.guest call.now.thread }
-    requires clock { machine.old.guest.clock < 2 ^ 40 }
-    requires operands { call.now.count ≤ length (top machine.old.guest call.now.thread).operands }
-    requires small { call.now.count < 2 ^ 16 }
+    requires calls { MayDo machine.old call.now }
     ensures new { machine.new ≡ steps_top (begun machine.old) call.now.thread
         (record (top machine.old.guest call.now.thread) {
           pc = call.now.next;
           operands = drop call.now.count (top machine.old.guest call.now.thread).operands;
         })
         (refs_of (first call.now.count (top machine.old.guest call.now.thread).operands)) }
-    ensures few { length machine.new.lost ≤ call.now.count }
+    ensures few { length machine.new.lost < 2 ^ 16 }
 {
     machine.begin_event();
-    take(machine, call.thread, call.count);
+    take(machine, call.thread, call.count as u32);
     machine.set_pc(call.thread, call.next);
 }
 
 /// The event in which a method gives nothing.
 pub fn give_nothing(machine: &mut Machine, call: &Called) -> EventEnd
-    requires frame { HasFrame machine.old.guest call.now.thread }
-    requires sound { IsSound (kept_of machine.old) }
-    requires clock { machine.old.guest.clock < 2 ^ 40 }
-    requires operands { call.now.count ≤ length (top machine.old.guest call.now.thread).operands }
-    requires small { call.now.count < 2 ^ 16 }
+    requires calls { MayDo machine.old call.now }
     ensures { (p : Linked) (at : Site) (out : List Record) → at.next ≡ call.now.next →
-        EventAnswers (goes (answering (moment p machine.old call.now.thread) at
-        (arguments_of (moment p machine.old call.now.thread) call.now.count) []
-        (begins (moment p machine.old call.now.thread)))) result machine.old machine.new out out }
+        EventAnswers (goes (answered p machine.old call.now at [])) result machine.old machine.new
+        out out }
 {
     pass(machine, call);
     EventEnd::Done
@@ -69,18 +58,12 @@ pub fn give_nothing(machine: &mut Machine, call: &Called) -> EventEnd
 
 /// The event in which a method gives a value of one entry.
 pub fn give(machine: &mut Machine, call: &Called, value: Value) -> EventEnd
-    requires frame { HasFrame machine.old.guest call.now.thread }
-    requires sound { IsSound (kept_of machine.old) }
-    requires clock { machine.old.guest.clock < 2 ^ 40 }
-    requires operands { call.now.count ≤ length (top machine.old.guest call.now.thread).operands }
-    requires small { call.now.count < 2 ^ 16 }
-    requires room { length (drop call.now.count (top machine.old.guest call.now.thread).operands)
-        < (top machine.old.guest call.now.thread).room }
+    requires calls { MayDo machine.old call.now }
+    requires room { HasRoomFor 1 machine.old call.now }
     requires held { AreInHeap machine.old (refs_of_value value) }
     ensures { (p : Linked) (at : Site) (out : List Record) → at.next ≡ call.now.next →
-        EventAnswers (goes (answering (moment p machine.old call.now.thread) at
-        (arguments_of (moment p machine.old call.now.thread) call.now.count) (value ∷ [])
-        (begins (moment p machine.old call.now.thread)))) result machine.old machine.new out out }
+        EventAnswers (goes (answered p machine.old call.now at (value ∷ []))) result
+        machine.old machine.new out out }
 {
     pass(machine, call);
     machine.push(call.thread, value);
@@ -123,20 +106,13 @@ pub(crate) fn write_one<L: Ledger>(
     out: &mut Lines,
     visits: &mut Steps<L>,
 ) -> Result<EventEnd, NoMemory>
-    requires frame { HasFrame machine.old.guest call.now.thread }
-    requires sound { IsSound (kept_of machine.old) }
-    requires clock { machine.old.guest.clock < 2 ^ 40 }
-    requires operands { call.now.count ≤ length (top machine.old.guest call.now.thread).operands }
-    requires small { call.now.count < 2 ^ 16 }
-    requires object { Contains (frame_roots (top machine.old.guest call.now.thread)) object }
-    requires held { IsHeld machine.old.heap object }
+    requires calls { MayDo machine.old call.now }
+    requires object { StandsThere machine.old call.now object }
     requires slots { 0 < length (object_at machine.old.heap object).slots }
     requires value { IsIn (top machine.old.guest call.now.thread) value }
     ensures ok { IfOk result (λ end. (p : Linked) (at : Site) → at.next ≡ call.now.next →
         EventAnswers (goes (slot_written (moment p machine.old call.now.thread) object 0 value
-        (answering (moment p machine.old call.now.thread) at
-        (arguments_of (moment p machine.old call.now.thread) call.now.count) [] (begins
-        (moment p machine.old call.now.thread))))) end machine.old machine.new out.old out.new) }
+        (answered p machine.old call.now at []))) end machine.old machine.new out.old out.new) }
     ensures visits { visits.new ≤ visits.old + 2 }
 {
     pass(machine, call);
@@ -154,22 +130,15 @@ pub(crate) fn write_two<L: Ledger>(
     out: &mut Lines,
     visits: &mut Steps<L>,
 ) -> Result<EventEnd, NoMemory>
-    requires frame { HasFrame machine.old.guest call.now.thread }
-    requires sound { IsSound (kept_of machine.old) }
-    requires clock { machine.old.guest.clock < 2 ^ 40 }
-    requires operands { call.now.count ≤ length (top machine.old.guest call.now.thread).operands }
-    requires small { call.now.count < 2 ^ 16 }
-    requires object { Contains (frame_roots (top machine.old.guest call.now.thread)) object }
-    requires held { IsHeld machine.old.heap object }
+    requires calls { MayDo machine.old call.now }
+    requires object { StandsThere machine.old call.now object }
     requires slots { 2 ≤ length (object_at machine.old.heap object).slots }
     requires first_value { IsIn (top machine.old.guest call.now.thread) first_value }
     requires second_value { IsIn (top machine.old.guest call.now.thread) second_value }
     ensures ok { IfOk result (λ end. (p : Linked) (at : Site) → at.next ≡ call.now.next →
         EventAnswers (goes (slot_written (moment p machine.old call.now.thread) object
         1 second_value (slot_written (moment p machine.old call.now.thread) object 0 first_value
-        (answering (moment p machine.old call.now.thread) at
-        (arguments_of (moment p machine.old call.now.thread) call.now.count) [] (begins
-        (moment p machine.old call.now.thread)))))) end machine.old machine.new out.old out.new) }
+        (answered p machine.old call.now at [])))) end machine.old machine.new out.old out.new) }
     ensures visits { visits.new ≤ visits.old + 2 }
 {
     pass(machine, call);
@@ -200,17 +169,11 @@ pub(crate) fn clear_referent<L: Ledger>(
     object: ObjectId,
     visits: &mut Steps<L>,
 ) -> EventEnd
-    requires frame { HasFrame machine.old.guest call.now.thread }
-    requires sound { IsSound (kept_of machine.old) }
-    requires clock { machine.old.guest.clock < 2 ^ 40 }
-    requires operands { call.now.count ≤ length (top machine.old.guest call.now.thread).operands }
-    requires small { call.now.count < 2 ^ 16 }
+    requires calls { MayDo machine.old call.now }
     requires held { IsHeld machine.old.heap object }
     ensures ok { (p : Linked) (at : Site) (out : List Record) →
-        at.next ≡ call.now.next → EventAnswers (goes (with_referent_of object
-        None (answering (moment p machine.old call.now.thread) at
-        (arguments_of (moment p machine.old call.now.thread) call.now.count) []
-        (begins (moment p machine.old call.now.thread))))) result machine.old machine.new out out }
+        at.next ≡ call.now.next → EventAnswers (goes (with_referent_of object None
+        (answered p machine.old call.now at []))) result machine.old machine.new out out }
     ensures visits { visits.new ≡ visits.old + 1 }
 {
     pass(machine, call);
@@ -258,20 +221,13 @@ pub(crate) fn make_reference<L: Ledger>(
     queue: Value,
     visits: &mut Steps<L>,
 ) -> EventEnd
-    requires frame { HasFrame machine.old.guest call.now.thread }
-    requires sound { IsSound (kept_of machine.old) }
-    requires clock { machine.old.guest.clock < 2 ^ 40 }
-    requires operands { call.now.count ≤ length (top machine.old.guest call.now.thread).operands }
-    requires small { call.now.count < 2 ^ 16 }
-    requires object { Contains (frame_roots (top machine.old.guest call.now.thread)) object }
-    requires held { IsHeld machine.old.heap object }
+    requires calls { MayDo machine.old call.now }
+    requires object { StandsThere machine.old call.now object }
     requires referent { IsIn (top machine.old.guest call.now.thread) referent }
     requires queue { IsIn (top machine.old.guest call.now.thread) queue }
     ensures ok { (p : Linked) (at : Site) (out : List Record) → at.next ≡ call.now.next →
         EventAnswers (goes (with_reference_made object (referent_of referent) (referent_of queue)
-        (answering (moment p machine.old call.now.thread) at
-        (arguments_of (moment p machine.old call.now.thread) call.now.count) []
-        (begins (moment p machine.old call.now.thread))))) result machine.old machine.new out out }
+        (answered p machine.old call.now at []))) result machine.old machine.new out out }
     ensures visits { visits.new ≡ visits.old + 2 }
 {
     pass(machine, call);
@@ -307,21 +263,13 @@ pub(crate) fn give_first<L: Ledger>(
     queue: ObjectId,
     visits: &mut Steps<L>,
 ) -> EventEnd
-    requires frame { HasFrame machine.old.guest call.now.thread }
-    requires sound { IsSound (kept_of machine.old) }
-    requires clock { machine.old.guest.clock < 2 ^ 40 }
-    requires operands { call.now.count ≤ length (top machine.old.guest call.now.thread).operands }
-    requires small { call.now.count < 2 ^ 16 }
-    requires room { length (drop call.now.count (top machine.old.guest call.now.thread).operands)
-        < (top machine.old.guest call.now.thread).room }
-    requires object { Contains (frame_roots (top machine.old.guest call.now.thread)) queue }
-    requires held { IsHeld machine.old.heap queue }
+    requires calls { MayDo machine.old call.now }
+    requires room { HasRoomFor 1 machine.old call.now }
+    requires object { StandsThere machine.old call.now queue }
     ensures ok { (p : Linked) (at : Site) (out : List Record) → at.next ≡ call.now.next →
-        EventAnswers (goes (with_first_taken queue
-        (answering (moment p machine.old call.now.thread) at
-        (arguments_of (moment p machine.old call.now.thread) call.now.count)
-        (first_value (object_at machine.old.heap queue).waiting ∷ [])
-        (begins (moment p machine.old call.now.thread))))) result machine.old machine.new out out }
+        EventAnswers (goes (with_first_taken queue (answered p machine.old call.now at
+        (first_value (object_at machine.old.heap queue).waiting ∷ [])))) result
+        machine.old machine.new out out }
     ensures visits { visits.new ≡ visits.old + 1 }
 {
     pass(machine, call);
@@ -336,19 +284,13 @@ pub(crate) fn start(
     call: &Called,
     object: ObjectId,
 ) -> Result<EventEnd, NoMemory>
-    requires frame { HasFrame machine.old.guest call.now.thread }
-    requires sound { IsSound (kept_of machine.old) }
-    requires clock { machine.old.guest.clock < 2 ^ 40 }
-    requires operands { call.now.count ≤ length (top machine.old.guest call.now.thread).operands }
-    requires small { call.now.count < 2 ^ 16 }
+    requires calls { MayDo machine.old call.now }
     requires held { IsHeld machine.old.heap object }
     requires few { length machine.old.guest.threads < most_threads }
     requires fresh { thread_with machine.old.guest.threads object ≡ None }
     ensures { IfOk result (λ end. (p : Linked) (at : Site) (out : List Record) →
-        at.next ≡ call.now.next → EventAnswers
-        (goes (with_thread_for object (answering (moment p machine.old call.now.thread) at
-        (arguments_of (moment p machine.old call.now.thread) call.now.count) []
-        (begins (moment p machine.old call.now.thread))))) end machine.old machine.new out out) }
+        at.next ≡ call.now.next → EventAnswers (goes (with_thread_for object
+        (answered p machine.old call.now at []))) end machine.old machine.new out out) }
 {
     pass(machine, call);
     let _thread = machine.start_thread(object)?;

@@ -4,12 +4,12 @@ ghost use Rattle.std.specs.Prelude.{◌≡◌, ℕ, ◌<◌, ◌≤◌, ◌+◌,
 ghost use Rattle.et_heap.specs.Objects.{IsHeld};
 ghost use Rattle.et_heap.specs.Refs.{refs_of_value};
 ghost use Rattle.et_state.specs.State.{kept_of};
-ghost use Rattle.et_state.specs.Words.{HasFrame, top};
 ghost use Rattle.et_program.specs.BootNames.{built_in_class_name};
 ghost use Rattle.et_event.specs.BuiltIns.{class_argument as argument_in_table, class_argument_of as argument_of_method, is_null_or_of_class, is_object_of_class as is_of_class, is_of_its_class as is_of_class_wanted, takes_arguments as takes_in, text_argument as text_in_table};
 ghost use Rattle.et_event.specs.Calls.{arguments_of, fits_resolved as fits_in};
 ghost use Rattle.et_event.specs.Moments.{begins, moment, object_class};
 ghost use Rattle.et_event.specs.Sound.{IsSoundFor};
+ghost use Rattle.et_builtins.specs.Calling.{HasArguments};
 ghost use Rattle.et_builtins.specs.Classes.{named};
 
 use crate::arguments::argument_at;
@@ -138,12 +138,10 @@ fn is_of_its_class<L: Ledger>(
     machine: &Machine,
     thread: ThreadId,
     argument: Option<ClassArgument>,
-    count: u32,
+    count: u16,
     visits: &mut Steps<L>,
 ) -> bool
-    requires frame { HasFrame machine.now.guest thread }
-    requires sound { IsSoundFor program.now (kept_of machine.now) }
-    requires operands { count ≤ length (top machine.now.guest thread).operands }
+    requires call { HasArguments program.now machine.now thread count }
     ensures value { result ≡ is_of_class_wanted (moment program.now machine.now thread)
         (begins (moment program.now machine.now thread))
         (arguments_of (moment program.now machine.now thread) count)
@@ -164,12 +162,10 @@ fn takes_arguments<L: Ledger>(
     machine: &Machine,
     thread: ThreadId,
     method: MethodId,
-    count: u32,
+    count: u16,
     visits: &mut Steps<L>,
 ) -> bool
-    requires frame { HasFrame machine.now.guest thread }
-    requires sound { IsSoundFor program.now (kept_of machine.now) }
-    requires operands { count ≤ length (top machine.now.guest thread).operands }
+    requires call { HasArguments program.now machine.now thread count }
     requires method { method < length program.now.methods }
     ensures value { result ≡ takes_in (moment program.now machine.now thread)
         (begins (moment program.now machine.now thread))
@@ -186,12 +182,10 @@ pub fn takes_text<L: Ledger>(
     machine: &Machine,
     thread: ThreadId,
     method: TextMethod,
-    count: u32,
+    count: u16,
     visits: &mut Steps<L>,
 ) -> bool
-    requires frame { HasFrame machine.now.guest thread }
-    requires sound { IsSoundFor program.now (kept_of machine.now) }
-    requires operands { count ≤ length (top machine.now.guest thread).operands }
+    requires call { HasArguments program.now machine.now thread count }
     ensures value { result ≡ is_of_class_wanted (moment program.now machine.now thread)
         (begins (moment program.now machine.now thread))
         (arguments_of (moment program.now machine.now thread) count) (text_in_table method) }
@@ -210,12 +204,10 @@ pub(crate) fn fits_resolved<L: Ledger>(
     thread: ThreadId,
     class: ClassId,
     method: MethodId,
-    count: u32,
+    count: u16,
     visits: &mut Steps<L>,
 ) -> bool
-    requires frame { HasFrame machine.now.guest thread }
-    requires sound { IsSoundFor program.now (kept_of machine.now) }
-    requires operands { count ≤ length (top machine.now.guest thread).operands }
+    requires call { HasArguments program.now machine.now thread count }
     requires class { class < length program.now.classes }
     requires method { method < length program.now.methods }
     ensures value { (o : ℕ) →

@@ -9,7 +9,7 @@ mod kinds;
 mod plans;
 mod rows;
 
-pub use arguments::{argument_at, operands_are_few, receiver};
+pub use arguments::{argument_at, receiver};
 pub use changes::{Called, give, give_nothing};
 pub use classes::{is_of, takes_text};
 pub use events::built_in_method_event;

@@ -15,13 +15,13 @@ ghost use Rattle.et_state.specs.Outcome.{Outcome};
 ghost use Rattle.et_event.specs.declared.errors.GuestError.TheVariants as errors;
 ghost use Rattle.et_event.specs.Calls.{arguments_of, dispatched, enters_method, invoke, is_as, is_static_call as calls_static, special_class as class_of_special};
 ghost use Rattle.et_event.specs.Checks.{resolved, after_selection as selected_in, throws_unless};
-ghost use Rattle.et_event.specs.Frames.{first_reference};
 ghost use Rattle.et_event.specs.Moments.{Moment, begins, current_frame, moment};
 ghost use Rattle.et_event.specs.Sites.{Member, Site, natural_of, site_member, names_interface as is_of_interface};
 ghost use Rattle.et_event.specs.Initialization.{state_of};
 ghost use Rattle.et_event.specs.Sound.{IsSoundFor};
-ghost use Rattle.et_event.specs.Selected.{selected_from, selected_method, selected_on, with_resolved};
-ghost use Rattle.et_builtins.specs.Plans.{method_entered, call_planned, HasCallRoom, HasCount, IsCallPlan, IsPassing, resolving};
+ghost use Rattle.et_event.specs.Selected.{selected_from, selected_method, with_resolved};
+ghost use Rattle.et_builtins.specs.Calling.{IsCallable};
+ghost use Rattle.et_builtins.specs.Plans.{method_entered, call_planned, HasCallRoom, HasCount, IsCallPlan, IsPassing, IsPlanOf, resolving, entered_by};
 
 use crate::arguments::{fitting_call, receiver};
 use crate::classes::fits_resolved;
@@ -42,9 +42,9 @@ pub enum CallPlan {
     /// Another thread initializes the class of the static method, and the thread waits.
     Waits,
     /// The class of the static method is untouched, and is initialized first.
-    Initializes { method: MethodId, count: u32 },
+    Initializes { method: MethodId, count: u16 },
     /// The selected method is entered, or done where it is built in, with so many entries as arguments.
-    Enters { method: MethodId, count: u32 },
+    Enters { method: MethodId, count: u16 },
 }
 
 /// A method that is called.
@@ -53,7 +53,7 @@ pub struct Call {
     /// The method, as it was selected.
     pub method: MethodId,
     /// So many entries on top of the operands are its arguments.
-    pub count: u32,
+    pub count: u16,
     /// The pc behind the call.
     pub next: u32,
 }
@@ -66,11 +66,11 @@ struct Callee {
     /// The class that the invoke names.
     named: ClassId,
     method: MethodId,
-    count: u32,
+    count: u16,
 }
 
 /// The selected method is entered, or the error of the selection is thrown.
-fn selected(answer: Result<MethodId, LinkError>, count: u32) -> CallPlan
+fn selected(answer: Result<MethodId, LinkError>, count: u16) -> CallPlan
     ensures within { (e : Moment) → IfOk answer (λ m. m < length e.program.methods) → IfOk answer
         (λ m. HasCallRoom e m count) → count ≤ length (current_frame e).operands → IsCallPlan e
         result }
@@ -92,21 +92,14 @@ fn virtual_plan<L: Ledger>(
     machine: &Machine,
     thread: ThreadId,
     method: MethodId,
-    count: u32,
+    count: u16,
     visits: &mut Steps<L>,
 ) -> CallPlan
-    requires frame { HasFrame machine.now.guest thread }
-    requires sound { IsSoundFor program.now (kept_of machine.now) }
-    requires operands { count ≤ length (top machine.now.guest thread).operands }
-    requires method { method < length program.now.methods }
-    requires room { HasCallRoom (moment program.now machine.now thread) method count }
-    ensures plan { (at : Site) (named : ℕ) → dispatched (moment program.now machine.now thread)
-        at kinds.Virtual (arguments_of (moment program.now machine.now thread) count) named method
-        ≡ call_planned (moment program.now machine.now thread) at result }
-    ensures entered { (at : Site) (named : ℕ) → method_entered result ≡ option_and_then (selected_on
-        (moment program.now machine.now thread) at kinds.Virtual
-        (arguments_of (moment program.now machine.now thread) count) named method) (first_reference
-        (arguments_of (moment program.now machine.now thread) count)) }
+    requires call { IsCallable program.now machine.now thread method count }
+    ensures plan { (at : Site) (named : ℕ) → IsPlanOf
+        (moment program.now machine.now thread) at kinds.Virtual named method count result }
+    ensures entered { (at : Site) (named : ℕ) → method_entered result ≡ entered_by
+        (moment program.now machine.now thread) at kinds.Virtual named method count }
     ensures within { IsCallPlan (moment program.now machine.now thread) result }
     ensures passes { HasCount count result }
     ensures visits { visits.new ≤ visits.old + 2 }
@@ -128,21 +121,14 @@ fn interface_plan<L: Ledger>(
     machine: &Machine,
     thread: ThreadId,
     method: MethodId,
-    count: u32,
+    count: u16,
     visits: &mut Steps<L>,
 ) -> CallPlan
-    requires frame { HasFrame machine.now.guest thread }
-    requires sound { IsSoundFor program.now (kept_of machine.now) }
-    requires operands { count ≤ length (top machine.now.guest thread).operands }
-    requires method { method < length program.now.methods }
-    requires room { HasCallRoom (moment program.now machine.now thread) method count }
-    ensures plan { (at : Site) (named : ℕ) → dispatched (moment program.now machine.now thread)
-        at kinds.Interface (arguments_of (moment program.now machine.now thread) count) named method
-        ≡ call_planned (moment program.now machine.now thread) at result }
-    ensures entered { (at : Site) (named : ℕ) → method_entered result ≡ option_and_then (selected_on
-        (moment program.now machine.now thread) at kinds.Interface
-        (arguments_of (moment program.now machine.now thread) count) named method) (first_reference
-        (arguments_of (moment program.now machine.now thread) count)) }
+    requires call { IsCallable program.now machine.now thread method count }
+    ensures plan { (at : Site) (named : ℕ) → IsPlanOf
+        (moment program.now machine.now thread) at kinds.Interface named method count result }
+    ensures entered { (at : Site) (named : ℕ) → method_entered result ≡ entered_by
+        (moment program.now machine.now thread) at kinds.Interface named method count }
     ensures within { IsCallPlan (moment program.now machine.now thread) result }
     ensures passes { HasCount count result }
     ensures visits { visits.new ≤ visits.old + 1 }
@@ -175,22 +161,15 @@ fn special_plan<L: Ledger>(
     callee: Callee,
     visits: &mut Steps<L>,
 ) -> CallPlan
-    requires frame { HasFrame machine.now.guest thread }
-    requires sound { IsSoundFor program.now (kept_of machine.now) }
-    requires operands { callee.count ≤ length (top machine.now.guest thread).operands }
+    requires call { IsCallable program.now machine.now thread callee.method callee.count }
     requires current { callee.current < length program.now.classes }
     requires named { callee.named < length program.now.classes }
-    requires method { callee.method < length program.now.methods }
-    requires room { HasCallRoom (moment program.now machine.now thread) callee.method callee.count }
     ensures plan { (at : Site) → at.class ≡ callee.current →
-        dispatched (moment program.now machine.now thread) at kinds.Special (arguments_of
-        (moment program.now machine.now thread) callee.count) callee.named callee.method
-        ≡ call_planned (moment program.now machine.now thread) at result }
-    ensures entered { (at : Site) → at.class ≡ callee.current →
-        method_entered result ≡ option_and_then (selected_on (moment program.now machine.now thread)
-        at kinds.Special (arguments_of (moment program.now machine.now thread) callee.count)
-        callee.named callee.method) (first_reference
-        (arguments_of (moment program.now machine.now thread) callee.count)) }
+        IsPlanOf (moment program.now machine.now thread) at kinds.Special
+        callee.named callee.method callee.count result }
+    ensures entered { (at : Site) → at.class ≡ callee.current → method_entered result ≡ entered_by
+        (moment program.now machine.now thread) at kinds.Special
+        callee.named callee.method callee.count }
     ensures within { IsCallPlan (moment program.now machine.now thread) result }
     ensures passes { HasCount callee.count result }
     ensures visits { visits.new ≤ visits.old + 2 }
@@ -213,16 +192,12 @@ fn static_plan(
     machine: &Machine,
     thread: ThreadId,
     method: MethodId,
-    count: u32,
+    count: u16,
 ) -> CallPlan
-    requires sound { IsSoundFor program.now (kept_of machine.now) }
-    requires operands { count ≤ length (top machine.now.guest thread).operands }
-    requires method { method < length program.now.methods }
-    requires room { HasCallRoom (moment program.now machine.now thread) method count }
+    requires call { IsCallable program.now machine.now thread method count }
     requires is_static { is_static program.now method ≡ true }
-    ensures plan { (at : Site) (named : ℕ) → dispatched (moment program.now machine.now thread)
-        at kinds.Static (arguments_of (moment program.now machine.now thread) count) named method
-        ≡ call_planned (moment program.now machine.now thread) at result }
+    ensures plan { (at : Site) (named : ℕ) → IsPlanOf
+        (moment program.now machine.now thread) at kinds.Static named method count result }
     ensures entered { (method_entered result ≡ None) ⊎ (method_entered result ≡ Some method) }
     ensures within { IsCallPlan (moment program.now machine.now thread) result }
     ensures passes { HasCount count result }
@@ -232,11 +207,10 @@ fn static_plan(
 }
 
 /// The plan of `invokestatic` where the class of the method is in this state.
-fn state_plan(state: ClassState, thread: ThreadId, method: MethodId, count: u32) -> CallPlan
+fn state_plan(state: ClassState, thread: ThreadId, method: MethodId, count: u16) -> CallPlan
     ensures plan { (e : Moment) (at : Site) (class named : ℕ) → e.thread ≡ thread →
         (method_at e.program method).class ≡ class → state_of (begins e) class ≡ state →
-        dispatched e at kinds.Static (arguments_of e count) named method
-        ≡ call_planned e at result }
+        IsPlanOf e at kinds.Static named method count result }
     ensures entered { (method_entered result ≡ None) ⊎ (method_entered result ≡ Some method) }
     ensures within { (e : Moment) → method < length e.program.methods →
         HasCallRoom e method count → count ≤ length (current_frame e).operands →
@@ -265,25 +239,17 @@ fn dispatch_plan<L: Ledger>(
     callee: Callee,
     visits: &mut Steps<L>,
 ) -> CallPlan
-    requires frame { HasFrame machine.now.guest thread }
-    requires sound { IsSoundFor program.now (kept_of machine.now) }
-    requires operands { callee.count ≤ length (top machine.now.guest thread).operands }
+    requires call { IsCallable program.now machine.now thread callee.method callee.count }
     requires current { callee.current < length program.now.classes }
     requires named { callee.named < length program.now.classes }
-    requires method { callee.method < length program.now.methods }
-    requires room { HasCallRoom (moment program.now machine.now thread) callee.method callee.count }
     requires is_static { is_as (calls_static kind) (is_static program.now callee.method) ≡ true }
     ensures plan { (at : Site) → at.class ≡ callee.current →
-        dispatched (moment program.now machine.now thread) at kind (arguments_of
-        (moment program.now machine.now thread) callee.count) callee.named callee.method
-        ≡ call_planned (moment program.now machine.now thread) at result }
+        IsPlanOf (moment program.now machine.now thread) at kind
+        callee.named callee.method callee.count result }
     ensures deferred { (at : Site) → at.class ≡ callee.current →
         kept (is_deferred_in program.now) (method_entered result)
-        ≡ kept (is_deferred_in program.now) (option_and_then (selected_on
-        (moment program.now machine.now thread) at kind
-        (arguments_of (moment program.now machine.now thread) callee.count)
-        callee.named callee.method)
-        (first_reference (arguments_of (moment program.now machine.now thread) callee.count))) }
+        ≡ kept (is_deferred_in program.now) (entered_by (moment program.now machine.now thread)
+        at kind callee.named callee.method callee.count) }
     ensures within { IsCallPlan (moment program.now machine.now thread) result }
     ensures passes { HasCount callee.count result }
     ensures visits { visits.new ≤ visits.old + 2 }
@@ -330,13 +296,9 @@ fn resolved_plan<L: Ledger>(
     callee: Callee,
     visits: &mut Steps<L>,
 ) -> CallPlan
-    requires frame { HasFrame machine.now.guest thread }
-    requires sound { IsSoundFor program.now (kept_of machine.now) }
-    requires operands { callee.count ≤ length (top machine.now.guest thread).operands }
+    requires call { IsCallable program.now machine.now thread callee.method callee.count }
     requires current { callee.current < length program.now.classes }
     requires named { callee.named < length program.now.classes }
-    requires method { callee.method < length program.now.methods }
-    requires room { HasCallRoom (moment program.now machine.now thread) callee.method callee.count }
     ensures plan { (at : Site) →
         at.class ≡ callee.current → throws_unless (moment program.now machine.now thread)
         (begins (moment program.now machine.now thread)) errors.IncompatibleClassChangeError

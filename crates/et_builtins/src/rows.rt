@@ -1,18 +1,13 @@
 //! What each built-in method does (`java.lang.Throwable`, `Thread`, and the weak references and reference queues of
 //! `java.lang.ref`).
-ghost use Rattle.std.specs.Prelude.{◌≡◌, ℕ, ◌+◌, ◌<◌, ◌≤◌, ◌^◌, ◌∷◌, [], true, Some, List, IfOk, Contains, length, drop};
+ghost use Rattle.std.specs.Prelude.{◌≡◌, ℕ, ◌+◌, ◌<◌, ◌≤◌, ◌∷◌, [], true, Some, List, IfOk, length};
 ghost use Rattle.et_heap.specs.Objects.{IsHeld, object_at, referent_value};
-ghost use Rattle.et_heap.specs.Refs.{refs_of_value};
-ghost use Rattle.et_state.specs.ThreadRoots.{frame_roots};
 ghost use Rattle.et_state.specs.Threads.{thread_with};
 ghost use Rattle.et_state.specs.State.{kept_of};
-ghost use Rattle.et_state.specs.Sound.{IsSound};
-ghost use Rattle.et_state.specs.Words.{HasFrame, top};
-ghost use Rattle.et_program.specs.BootNames.{built_in_class_name};
 ghost use Rattle.et_program.specs.Entries.{Linked};
 ghost use Rattle.et_state.specs.declared.records.Record.{Record};
 ghost use Rattle.et_event.specs.Answered.{EventAnswers};
-ghost use Rattle.et_event.specs.BuiltIns.{answering, built_in_row as row_of, entries_answered, has_thread_ended as has_ended_in, is_fit_for as fits_row, reference_in, row_done, starts_thread, uses_thread as is_on_thread, uses_throwable as is_on_throwable, with_thread_for};
+ghost use Rattle.et_event.specs.BuiltIns.{built_in_row as row_of, entries_answered, has_thread_ended as has_ended_in, is_fit_for as fits_row, reference_in, row_done, starts_thread, uses_thread as is_on_thread, uses_throwable as is_on_throwable, with_thread_for};
 ghost use Rattle.et_event.specs.Calls.{arguments_of};
 ghost use Rattle.et_event.specs.Checks.{waits_unless};
 ghost use Rattle.et_event.specs.Kinds.{or_zero};
@@ -21,6 +16,7 @@ ghost use Rattle.et_event.specs.PoolOperands.Operand.TheVariants as operand;
 ghost use Rattle.et_event.specs.Sites.{Site};
 ghost use Rattle.et_event.specs.Sound.{IsSoundFor};
 ghost use Rattle.et_event.specs.Programs.{HasMachineSlots};
+ghost use Rattle.et_builtins.specs.Calling.{HasRoomFor, MayDo, StandsThere, answered};
 ghost use Rattle.et_builtins.specs.Kinds.{slots_used};
 
 use crate::arguments::argument_at;
@@ -100,20 +96,14 @@ fn give_slot<L: Ledger>(
     slot: u32,
     visits: &mut Steps<L>,
 ) -> EventEnd
-    requires frame { HasFrame machine.old.guest call.now.thread }
-    requires sound { IsSound (kept_of machine.old) }
-    requires clock { machine.old.guest.clock < 2 ^ 40 }
-    requires operands { call.now.count ≤ length (top machine.old.guest call.now.thread).operands }
-    requires small { call.now.count < 2 ^ 16 }
-    requires room { length (drop call.now.count (top machine.old.guest call.now.thread).operands)
-        < (top machine.old.guest call.now.thread).room }
+    requires calls { MayDo machine.old call.now }
+    requires room { HasRoomFor 1 machine.old call.now }
     requires held { IsHeld machine.old.heap object }
     requires slots { slot < length (object_at machine.old.heap object).slots }
     ensures ok { (p : Linked) (at : Site) (out : List Record) → at.next ≡ call.now.next →
-        EventAnswers (goes (answering (moment p machine.old call.now.thread) at
-        (arguments_of (moment p machine.old call.now.thread) call.now.count)
-        (reference_in (begins (moment p machine.old call.now.thread)) object slot ∷ [])
-        (begins (moment p machine.old call.now.thread)))) result machine.old machine.new out out }
+        EventAnswers (goes (answered p machine.old call.now at
+        (reference_in (begins (moment p machine.old call.now.thread)) object slot ∷ []))) result
+        machine.old machine.new out out }
     ensures visits { visits.new ≡ visits.old + 1 }
 {
     let value = or_null(machine.heap.slot(object, slot, visits));
@@ -128,19 +118,13 @@ fn give_referent<L: Ledger>(
     object: ObjectId,
     visits: &mut Steps<L>,
 ) -> EventEnd
-    requires frame { HasFrame machine.old.guest call.now.thread }
-    requires sound { IsSound (kept_of machine.old) }
-    requires clock { machine.old.guest.clock < 2 ^ 40 }
-    requires operands { call.now.count ≤ length (top machine.old.guest call.now.thread).operands }
-    requires small { call.now.count < 2 ^ 16 }
-    requires room { length (drop call.now.count (top machine.old.guest call.now.thread).operands)
-        < (top machine.old.guest call.now.thread).room }
+    requires calls { MayDo machine.old call.now }
+    requires room { HasRoomFor 1 machine.old call.now }
     requires held { IsHeld machine.old.heap object }
     ensures ok { (p : Linked) (at : Site) (out : List Record) → at.next ≡ call.now.next →
-        EventAnswers (goes (answering (moment p machine.old call.now.thread) at
-        (arguments_of (moment p machine.old call.now.thread) call.now.count)
-        (referent_value (object_at machine.old.heap object).referent ∷ [])
-        (begins (moment p machine.old call.now.thread)))) result machine.old machine.new out out }
+        EventAnswers (goes (answered p machine.old call.now at
+        (referent_value (object_at machine.old.heap object).referent ∷ []))) result
+        machine.old machine.new out out }
     ensures visits { visits.new ≡ visits.old + 1 }
 {
     let value = machine.heap.referent(object, visits);
@@ -155,19 +139,14 @@ fn start_event(
     object: ObjectId,
     out: &mut Lines,
 ) -> Result<EventEnd, NoMemory>
-    requires frame { HasFrame machine.old.guest call.now.thread }
-    requires sound { IsSound (kept_of machine.old) }
-    requires clock { machine.old.guest.clock < 2 ^ 40 }
-    requires operands { call.now.count ≤ length (top machine.old.guest call.now.thread).operands }
-    requires small { call.now.count < 2 ^ 16 }
+    requires calls { MayDo machine.old call.now }
     requires held { IsHeld machine.old.heap object }
     ensures { IfOk result (λ end. (at : Site) → at.next ≡ call.now.next →
         EventAnswers (starts_thread (moment program.now machine.old call.now.thread)
         (begins (moment program.now machine.old call.now.thread)) object
-        (goes (with_thread_for object (answering (moment program.now machine.old call.now.thread) at
-        (arguments_of (moment program.now machine.old call.now.thread) call.now.count) []
-        (begins (moment program.now machine.old call.now.thread))))) (thread_with
-        machine.old.guest.threads object)) end machine.old machine.new out.old out.new) }
+        (goes (with_thread_for object (answered program.now machine.old call.now at [])))
+        (thread_with machine.old.guest.threads object)) end machine.old machine.new
+        out.old out.new) }
 {
     if machine.thread_of(object).is_some() {
         let error = GuestError::IllegalThreadStateException;
@@ -194,17 +173,11 @@ fn has_ended(machine: &Machine, object: ObjectId) -> bool
 
 /// The event in which a thread waits for the end of another, and goes on once that has ended.
 fn join_event(machine: &mut Machine, call: &Called, object: ObjectId) -> EventEnd
-    requires frame { HasFrame machine.old.guest call.now.thread }
-    requires sound { IsSound (kept_of machine.old) }
-    requires clock { machine.old.guest.clock < 2 ^ 40 }
-    requires operands { call.now.count ≤ length (top machine.old.guest call.now.thread).operands }
-    requires small { call.now.count < 2 ^ 16 }
+    requires calls { MayDo machine.old call.now }
     ensures { (p : Linked) (at : Site) (out : List Record) → at.next ≡ call.now.next →
         EventAnswers (waits_unless (moment p machine.old call.now.thread) (has_ended_in (begins
         (moment p machine.old call.now.thread)) (thread_with machine.old.guest.threads object))
-        (goes (answering (moment p machine.old call.now.thread) at
-        (arguments_of (moment p machine.old call.now.thread) call.now.count) []
-        (begins (moment p machine.old call.now.thread))))) result machine.old machine.new out out }
+        (goes (answered p machine.old call.now at []))) result machine.old machine.new out out }
 {
     if has_ended(machine, object) {
         return give_nothing(machine, call);
@@ -223,15 +196,9 @@ fn fit_row_event<L: Ledger>(
     out: &mut Lines,
     visits: &mut Steps<L>,
 ) -> Result<EventEnd, NoMemory>
-    requires frame { HasFrame machine.old.guest call.now.thread }
-    requires sound { IsSound (kept_of machine.old) }
-    requires clock { machine.old.guest.clock < 2 ^ 40 }
-    requires operands { call.now.count ≤ length (top machine.old.guest call.now.thread).operands }
-    requires small { call.now.count < 2 ^ 16 }
-    requires room { length (drop call.now.count (top machine.old.guest call.now.thread).operands)
-        + entries_answered built_in ≤ (top machine.old.guest call.now.thread).room }
-    requires object { Contains (frame_roots (top machine.old.guest call.now.thread)) object }
-    requires held { IsHeld machine.old.heap object }
+    requires calls { MayDo machine.old call.now }
+    requires room { HasRoomFor (entries_answered built_in) machine.old call.now }
+    requires object { StandsThere machine.old call.now object }
     requires slots { slots_used built_in ≤ length (object_at machine.old.heap object).slots }
     ensures ok { IfOk result (λ end. (at : Site) → at.next ≡ call.now.next →
         EventAnswers (row_done (moment program.now machine.old call.now.thread) at
@@ -281,16 +248,11 @@ pub(crate) fn row_event<L: Ledger>(
     out: &mut Lines,
     visits: &mut Steps<L>,
 ) -> Result<EventEnd, NoMemory>
-    requires frame { HasFrame machine.old.guest call.now.thread }
     requires sound { IsSoundFor program.now (kept_of machine.old) }
-    requires program_slots { HasMachineSlots program.now }
-    requires clock { machine.old.guest.clock < 2 ^ 40 }
-    requires operands { call.now.count ≤ length (top machine.old.guest call.now.thread).operands }
-    requires small { call.now.count < 2 ^ 16 }
-    requires room { length (drop call.now.count (top machine.old.guest call.now.thread).operands)
-        + entries_answered built_in ≤ (top machine.old.guest call.now.thread).room }
-    requires object { Contains (frame_roots (top machine.old.guest call.now.thread)) object }
-    requires held { IsHeld machine.old.heap object }
+    requires slots { HasMachineSlots program.now }
+    requires calls { MayDo machine.old call.now }
+    requires room { HasRoomFor (entries_answered built_in) machine.old call.now }
+    requires object { StandsThere machine.old call.now object }
     ensures ok { IfOk result (λ end. (at : Site) → at.next ≡ call.now.next →
         EventAnswers (row_of (moment program.now machine.old call.now.thread) at
         (begins (moment program.now machine.old call.now.thread))

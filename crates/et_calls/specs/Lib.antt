@@ -5,3 +5,4 @@ pub mod Ways
 pub mod Fresh
 pub mod Runs
 pub mod Sizes
+pub mod Asked

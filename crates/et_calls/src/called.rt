@@ -1,9 +1,7 @@
 //! The methods that are called: those with code are entered, a built-in one is done, and others throw (JVMS 2.11.8, 5.5).
-ghost use Rattle.std.specs.Prelude.{◌≡◌, ◌+◌, ◌<◌, ◌≤◌, ◌^◌, true, if◌then◌else◌, IfOk, length};
+ghost use Rattle.std.specs.Prelude.{◌≡◌, ◌+◌, ◌<◌, ◌≤◌, true, if◌then◌else◌, IfOk};
 ghost use Rattle.et_class.specs.Names.{has as has_flag};
 ghost use Rattle.et_class.specs.declared.flags.TheConstants.{NATIVE as NATIVE_FLAG};
-ghost use Rattle.et_state.specs.State.{kept_of};
-ghost use Rattle.et_state.specs.Words.{HasFrame, top};
 ghost use Rattle.et_program.specs.Entries.{method_at};
 ghost use Rattle.et_event.specs.Answered.{EventAnswers};
 ghost use Rattle.et_event.specs.Calls.{arguments_of, enters_method};
@@ -11,11 +9,11 @@ ghost use Rattle.et_event.specs.declared.errors.GuestError.TheVariants as errors
 ghost use Rattle.et_event.specs.Initialization.{is_quiet};
 ghost use Rattle.et_event.specs.Moments.{moment, begins};
 ghost use Rattle.et_event.specs.Sites.{Site};
-ghost use Rattle.et_event.specs.Sound.{IsSoundFor};
-ghost use Rattle.et_event.specs.Programs.{HasMachineSlots, HasBuiltInMethods};
 ghost use Rattle.et_event.specs.InitializationOrder.{IsInOrder};
+ghost use Rattle.et_calls.specs.Asked.{MayInvoke};
 ghost use Rattle.et_calls.specs.Entering.{codeless_call};
-ghost use Rattle.et_builtins.specs.Plans.{HasCallRoom, IsCallPlan, call_planned};
+ghost use Rattle.et_builtins.specs.Calling.{MayCall};
+ghost use Rattle.et_builtins.specs.Plans.{IsCallPlan, call_planned};
 ghost use Rattle.et_builtins.specs.declared.plans.CallPlan.TheVariants as plans;
 
 use crate::entering::enter_code;
@@ -43,8 +41,7 @@ pub(crate) fn codeless_error(info: &MethodInfo) -> GuestError
     }
 }
 
-/// The event of a method without code: a native one throws, and another one is built in or abstract. It visits three objects at
-/// most.
+/// The event of a method without code: a native one throws, and another one is built in or abstract.
 fn codeless_event<L: Ledger>(
     program: &Program,
     machine: &mut Machine,
@@ -53,13 +50,7 @@ fn codeless_event<L: Ledger>(
     out: &mut Lines,
     visits: &mut Steps<L>,
 ) -> Result<EventEnd, NoMemory>
-    requires frame { HasFrame machine.old.guest thread }
-    requires sound { IsSoundFor program.now (kept_of machine.old) }
-    requires clock { machine.old.guest.clock < 2 ^ 40 }
-    requires operands { call.count ≤ length (top machine.old.guest thread).operands }
-    requires method { call.method < length program.now.methods }
-    requires room { HasCallRoom (moment program.now machine.old thread) call.method call.count }
-    requires slots { HasMachineSlots program.now }
+    requires call { MayCall program.now machine.old thread call }
     ensures ok { IfOk result (λ end. (at : Site) →
         at.next ≡ call.next → EventAnswers (codeless_call (moment program.now machine.old thread)
         at call.method call.count) end machine.old machine.new out.old out.new) }
@@ -73,7 +64,7 @@ fn codeless_event<L: Ledger>(
 }
 
 /// The event in which a selected method is called that needs no class (JVMS 2.6, 2.11.8, 2.11.10): one without code is done,
-/// where it is built in, and else throws. It visits three objects at most. After `NoMemory` the event may be half done.
+/// where it is built in, and else throws. After `NoMemory` the event may be half done.
 pub(crate) fn enter_event<L: Ledger>(
     alloc: Global,
     program: &Program,
@@ -83,14 +74,8 @@ pub(crate) fn enter_event<L: Ledger>(
     out: &mut Lines,
     visits: &mut Steps<L>,
 ) -> Result<EventEnd, NoMemory>
-    requires frame { HasFrame machine.old.guest thread }
-    requires sound { IsSoundFor program.now (kept_of machine.old) }
-    requires clock { machine.old.guest.clock < 2 ^ 40 }
+    requires call { MayCall program.now machine.old thread call }
     requires order { IsInOrder program.now }
-    requires operands { call.count ≤ length (top machine.old.guest thread).operands }
-    requires method { call.method < length program.now.methods }
-    requires room { HasCallRoom (moment program.now machine.old thread) call.method call.count }
-    requires slots { HasMachineSlots program.now }
     ensures ok { IfOk result (λ end. (at : Site) → at.next ≡ call.next → EventAnswers (enters_method
         (moment program.now machine.old thread) at (begins (moment program.now machine.old thread))
         (arguments_of (moment program.now machine.old thread) call.count) call.method)
@@ -113,8 +98,8 @@ pub(crate) fn enter_event<L: Ledger>(
     }
 }
 
-/// The event in which a static method is called, after its class, which is quiet, became done (JVMS 5.5, 2.6, 2.11.8, 2.11.10).
-/// It visits three objects at most. After `NoMemory` the event may be half done.
+/// The event in which a static method is called, after its class, which is quiet, became done (JVMS 5.5, 2.6, 2.11.8,
+/// 2.11.10). After `NoMemory` the event may be half done.
 pub(crate) fn enter_after<L: Ledger>(
     alloc: Global,
     program: &Program,
@@ -124,11 +109,7 @@ pub(crate) fn enter_after<L: Ledger>(
     out: &mut Lines,
     visits: &mut Steps<L>,
 ) -> Result<EventEnd, NoMemory>
-    requires frame { HasFrame machine.old.guest thread }
-    requires sound { IsSoundFor program.now (kept_of machine.old) }
-    requires clock { machine.old.guest.clock < 2 ^ 40 }
-    requires order { IsInOrder program.now }
-    requires methods { HasBuiltInMethods program.now }
+    requires invoke { MayInvoke program.now machine.old thread }
     requires plan { IsCallPlan (moment program.now machine.old thread)
         (plans.Initializes call.method call.count) }
     requires quiet { is_quiet (moment program.now machine.old thread)

@@ -1,15 +1,13 @@
 //! Methods with code are entered (JVMS 2.6, 2.11.8, 2.11.10), after quiet classes became done in the same event (JVMS 5.5).
-ghost use Rattle.std.specs.Prelude.{◌≡◌, ◌+◌, ◌<◌, ◌≤◌, ◌^◌, true, [], IfOk, OnOk, length};
+ghost use Rattle.std.specs.Prelude.{◌≡◌, ◌+◌, ◌<◌, ◌≤◌, true, [], IfOk, OnOk, length};
 ghost use Rattle.et_state.specs.NewFrames.{frame_with};
 ghost use Rattle.et_state.specs.Threads.{most_frames};
-ghost use Rattle.et_state.specs.State.{kept_of};
 ghost use Rattle.et_state.specs.Words.{thread_at, top};
 ghost use Rattle.et_event.specs.Answered.{EventAnswers};
 ghost use Rattle.et_event.specs.Moments.{fits_heap, moment};
-ghost use Rattle.et_event.specs.Sound.{IsSoundFor};
 ghost use Rattle.et_event.specs.Locks.{HasSome, IsSomeFewTimes, entering_some, locks_of};
-ghost use Rattle.et_event.specs.InitializationOrder.{IsInOrder};
-ghost use Rattle.et_calls.specs.Entering.{ArePassedTo, IsEntered, arguments_passed, entering_event, fitting_event, prepared_for, pushed_by, pushed_event};
+ghost use Rattle.et_calls.specs.Asked.{MayEnter};
+ghost use Rattle.et_calls.specs.Entering.{ArePassedTo, arguments_passed, entering_event, fitting_event, prepared_for, pushed_by, pushed_event};
 
 use crate::new_frames::{
     Entered, Passed, new_head, number_of, passed_count, put_frame, receiver_of,
@@ -22,8 +20,7 @@ use et_state::{EventEnd, Lines, Machine, NewHead, Record};
 use std::alloc::Global;
 use std::sync::ledger::Ledger;
 
-/// In the event under way, the arguments are taken, the frame is put on top, and its monitor is entered. It visits two objects
-/// at most.
+/// In the event under way, the arguments are taken, the frame is put on top, and its monitor is entered.
 fn push_frame<L: Ledger>(
     alloc: Global,
     machine: &mut Machine,
@@ -50,8 +47,7 @@ fn push_frame<L: Ledger>(
     Ok(())
 }
 
-/// The event in which a method is entered. All fits, the thread may enter its monitor, and has room for a frame. It visits two
-/// objects at most.
+/// The event in which a method is entered. All fits, the thread may enter its monitor, and has room for a frame.
 fn push_event<L: Ledger>(
     alloc: Global,
     program: &Program,
@@ -61,10 +57,7 @@ fn push_event<L: Ledger>(
     out: &mut Lines,
     visits: &mut Steps<L>,
 ) -> Result<EventEnd, NoMemory>
-    requires order { IsInOrder program.now }
-    requires sound { IsSoundFor program.now (kept_of machine.old) }
-    requires clock { machine.old.guest.clock < 2 ^ 40 }
-    requires entered { IsEntered program.now machine.old thread entered.now }
+    requires enters { MayEnter program.now machine.old thread entered.now }
     requires few { length (thread_at machine.old.guest thread).frames < most_frames }
     requires fits { fits_heap (prepared_for
         (moment program.now machine.old thread) entered.now).state.heap ≡ true }
@@ -74,7 +67,7 @@ fn push_event<L: Ledger>(
 {
     let passed = &entered.passed;
     let receiver = receiver_of(machine, thread, entered);
-    let count = passed_count(machine, thread, passed);
+    let count = passed_count(passed);
     let head = new_head(entered, &receiver, count);
     begin_prepared(program, machine, thread, entered.classes, out)?;
     out.push(Record::Enter {
@@ -97,9 +90,7 @@ fn classes_fit(
     thread: ThreadId,
     entered: &Entered<'_>,
 ) -> Result<bool, NoMemory>
-    requires order { IsInOrder program.now }
-    requires sound { IsSoundFor program.now (kept_of machine.now) }
-    requires entered { IsEntered program.now machine.now thread entered.now }
+    requires enters { MayEnter program.now machine.now thread entered.now }
     ensures { IfOk result (λ fits. fits ≡ fits_heap
         (prepared_for (moment program.now machine.now thread) entered.now).state.heap) }
 {
@@ -109,8 +100,8 @@ fn classes_fit(
     prepared_fit(alloc, program, machine, entered.classes, 0, 0)
 }
 
-/// The event of a method whose monitor the thread may enter: it is entered, or StackOverflowError is thrown where the thread has
-/// 1,024 frames. It visits two objects at most.
+/// The event of a method whose monitor the thread may enter: it is entered, or StackOverflowError is thrown where the thread
+/// has 1,024 frames.
 fn fitting_frame_event<L: Ledger>(
     alloc: Global,
     program: &Program,
@@ -120,10 +111,7 @@ fn fitting_frame_event<L: Ledger>(
     out: &mut Lines,
     visits: &mut Steps<L>,
 ) -> Result<EventEnd, NoMemory>
-    requires order { IsInOrder program.now }
-    requires sound { IsSoundFor program.now (kept_of machine.old) }
-    requires clock { machine.old.guest.clock < 2 ^ 40 }
-    requires entered { IsEntered program.now machine.old thread entered.now }
+    requires enters { MayEnter program.now machine.old thread entered.now }
     ensures ok { IfOk result (λ end. EventAnswers (fitting_event (moment
         program.now machine.old thread) entered.now) end machine.old machine.new out.old out.new) }
     ensures visits { visits.new ≤ visits.old + 2 }
@@ -138,8 +126,8 @@ fn fitting_frame_event<L: Ledger>(
     push_event(alloc, program, machine, thread, entered, out, visits)
 }
 
-/// The event in which a thread enters a method with code, or waits for its monitor (JVMS 2.6, 2.11.8, 2.11.10). It visits three
-/// objects at most. After `NoMemory` the event may be half done.
+/// The event in which a thread enters a method with code, or waits for its monitor (JVMS 2.6, 2.11.8, 2.11.10). After
+/// `NoMemory` the event may be half done.
 pub(crate) fn enter_code<L: Ledger>(
     alloc: Global,
     program: &Program,
@@ -149,10 +137,7 @@ pub(crate) fn enter_code<L: Ledger>(
     out: &mut Lines,
     visits: &mut Steps<L>,
 ) -> Result<EventEnd, NoMemory>
-    requires order { IsInOrder program.now }
-    requires sound { IsSoundFor program.now (kept_of machine.old) }
-    requires clock { machine.old.guest.clock < 2 ^ 40 }
-    requires entered { IsEntered program.now machine.old thread entered.now }
+    requires enters { MayEnter program.now machine.old thread entered.now }
     ensures ok { IfOk result (λ end. EventAnswers (entering_event (moment
         program.now machine.old thread) entered.now) end machine.old machine.new out.old out.new) }
     ensures visits { visits.new ≤ visits.old + 3 }

@@ -1,5 +1,5 @@
 //! What is entered, and its frame: the arguments, the receiver and the lock (JVMS 2.6, 2.6.1).
-ghost use Rattle.std.specs.Prelude.{◌≡◌, ◌<◌, ◌≤◌, nat_le, if◌then◌else◌, List, [], None, IfOk, IfSome, OnOk, length, unwrap_or};
+ghost use Rattle.std.specs.Prelude.{◌≡◌, ℕ, ◌<◌, ◌≤◌, nat_le, if◌then◌else◌, List, [], None, IfOk, IfSome, OnOk, length, unwrap_or};
 ghost use Rattle.et_base.specs.declared.value.Value.{Value};
 ghost use Rattle.et_class.specs.Names.{has as has_flag};
 ghost use Rattle.et_class.specs.declared.flags.TheConstants.{SYNCHRONIZED as SYNCHRONIZED_FLAG};
@@ -7,7 +7,7 @@ ghost use Rattle.et_heap.specs.Objects.{IsHeld};
 ghost use Rattle.et_state.specs.NewFrames.{frame_with};
 ghost use Rattle.et_state.specs.Threads.{most_frames};
 ghost use Rattle.et_state.specs.Sound.{IsSound};
-ghost use Rattle.et_state.specs.State.{kept_of};
+ghost use Rattle.et_state.specs.State.{GuestState, kept_of};
 ghost use Rattle.et_state.specs.Words.{thread_at, top};
 ghost use Rattle.et_program.specs.Entries.{Linked, method_at};
 ghost use Rattle.et_event.specs.Calls.{entry_arguments as arguments_first};
@@ -16,7 +16,7 @@ ghost use Rattle.et_calls.specs.Entering.{ArePassedTo, arguments_passed, pushed_
 ghost use Rattle.et_calls.specs.declared.new_frames.Passed.TheVariants as places;
 
 use et_base::{ClassId, MethodId, NoMemory, ObjectId, ThreadId, Value};
-use et_builtins::{operands_are_few, receiver};
+use et_builtins::receiver;
 use et_class::flags::{STATIC, SYNCHRONIZED, has};
 use et_code::Code;
 use et_program::MethodInfo;
@@ -28,7 +28,7 @@ use std::alloc::Global;
 #[derive(Clone, Copy)]
 pub(crate) enum Passed {
     /// So many entries on top of the operands of the caller.
-    Operands(u32),
+    Operands(u16),
     /// An object of a thread that is to be entered, or none.
     Object(Option<ObjectId>),
 }
@@ -95,17 +95,13 @@ fn entry_arguments(
     Ok(arguments)
 }
 
-/// How many entries the arguments of a method take: fewer than 65,536.
-pub(crate) fn passed_count(machine: &Machine, thread: ThreadId, passed: &Passed) -> u16
-    requires { ArePassedTo machine.now.guest thread passed.now }
-    ensures { result
-        ≡ length (arguments_passed (top machine.now.guest thread) passed.now) }
+/// How many entries the arguments of a method take.
+pub(crate) fn passed_count(passed: &Passed) -> u16
+    ensures { (g : GuestState) (t : ℕ) → ArePassedTo g t passed.now →
+        result ≡ length (arguments_passed (top g t) passed.now) }
 {
     match passed {
-        Passed::Operands(count) => {
-            operands_are_few(machine, thread);
-            *count as u16
-        }
+        Passed::Operands(count) => *count,
         Passed::Object(None) => 0,
         Passed::Object(Some(_)) => 1,
     }
@@ -208,7 +204,7 @@ pub(crate) fn put_frame(
         (frame_with head.now (arguments_passed (top machine.old.guest thread) passed.now))) }
 {
     match passed {
-        Passed::Operands(count) => machine.enter_over(thread, head, *count),
+        Passed::Operands(count) => machine.enter_over(thread, head, *count as u32),
         Passed::Object(argument) => put_first_frame(alloc, machine, thread, head, argument),
     }
 }

@@ -23,7 +23,6 @@ ghost use Rattle.et_calls.specs.Ways.{Came};
 use crate::frames::resume;
 use crate::returned::returned_values;
 use et_base::{MethodId, NoMemory, Steps, ThreadId, Value};
-use et_builtins::operands_are_few;
 use et_event::{
     GuestError, Lock, Operand, ill_typed, leave_some, lock_in, method_of, owns_some, throw_error,
 };
@@ -130,8 +129,7 @@ fn finish_class(machine: &mut Machine, stage: Stage)
     }
 }
 
-/// The event of a return begins: the frame's monitor is left, and the class of an initializer is done. It visits two objects
-/// at most.
+/// The event of a return begins: the frame's monitor is left, and the class of an initializer is done.
 #[tactic(auto, using(crate::proofs::Leaving::lock_later))]
 fn begin_return<L: Ledger>(
     machine: &mut Machine,
@@ -154,8 +152,17 @@ fn begin_return<L: Ledger>(
     finish_class(machine, stage);
 }
 
+/// A frame has fewer operands than 65,536.
+fn operands_are_few(machine: &Machine, thread: ThreadId)
+    requires { HasFrame machine.now.guest thread }
+    ensures { length (top machine.now.guest thread).operands < 2 ^ 16 }
+{
+    let _room = machine.room(thread);
+    let _depth = machine.depth(thread);
+}
+
 /// The event in which a frame returns that owns the monitor of this lock, if it holds one (JVMS 2.6.4, 2.11.10). After
-/// `NoMemory` the machine is as before. It visits two objects at most.
+/// `NoMemory` the machine is as before.
 fn leave_frame<L: Ledger>(
     program: &Program,
     machine: &mut Machine,
@@ -195,8 +202,7 @@ fn leave_frame<L: Ledger>(
     Ok(())
 }
 
-/// The event in which a value, or nothing, is returned that the method returns and that stands on top. It visits three
-/// objects at most.
+/// The event in which a value, or nothing, is returned that the method returns and that stands on top.
 #[tactic(auto, using(crate::proofs::Leaving::class_is_in, et_event::proofs::There::frame_lock_there, crate::proofs::Leaving::unowned_answers))]
 fn return_value<L: Ledger>(
     program: &Program,
@@ -236,8 +242,8 @@ fn return_value<L: Ledger>(
     Ok(EventEnd::Done)
 }
 
-/// The event of a return of a value of a kind, or of nothing. It visits three objects at most. After `NoMemory` the machine may
-/// have one object more, to which nothing refers, and there may be its record or that of the return; all else is as before.
+/// The event of a return of a value of a kind, or of nothing. After `NoMemory` the machine may have one object more, to which
+/// nothing refers, and there may be its record or that of the return; all else is as before.
 #[tactic(auto, using(crate::proofs::Leaving::fits_returned))]
 pub(crate) fn return_event<L: Ledger>(
     program: &Program,

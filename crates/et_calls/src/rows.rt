@@ -3,7 +3,7 @@ ghost use Rattle.std.specs.Prelude.{◌≡◌, ℕ, ◌+◌, ◌<◌, ◌≤◌,
 ghost use Rattle.et_state.specs.declared.stage.Turn.TheVariants as turns;
 ghost use Rattle.et_state.specs.Threads.{turn_of};
 ghost use Rattle.et_state.specs.State.{kept_of};
-ghost use Rattle.et_state.specs.Words.{HasFrame, thread_at, top};
+ghost use Rattle.et_state.specs.Words.{thread_at, top};
 ghost use Rattle.et_event.specs.Places.{IsPlace, site_at};
 ghost use Rattle.et_event.specs.declared.families.Family.TheVariants as families;
 ghost use Rattle.et_event.specs.Answered.{EventAnswers};
@@ -15,6 +15,7 @@ ghost use Rattle.et_event.specs.Sound.{IsSoundFor};
 ghost use Rattle.et_event.specs.Programs.{HasMachineSlots, HasBuiltInMethods};
 ghost use Rattle.et_event.specs.Selected.{deferred_at};
 ghost use Rattle.et_event.specs.Answered.{DefersOrAnswers};
+ghost use Rattle.et_calls.specs.Asked.{MayInvoke};
 ghost use Rattle.et_builtins.specs.Plans.{IsCallPlan, call_planned as event_of};
 ghost use Rattle.et_builtins.specs.declared.plans.CallPlan.TheVariants as plans;
 ghost use Rattle.et_event.specs.InitializationOrder.{IsInOrder};
@@ -31,7 +32,7 @@ use std::alloc::Global;
 use std::sync::ledger::Ledger;
 
 /// The event of a call of a static method whose class is untouched: a quiet class becomes done and the method is called, and
-/// another one begins. It visits three objects at most.
+/// another one begins.
 fn initialize_event<L: Ledger>(
     alloc: Global,
     program: &Program,
@@ -41,11 +42,7 @@ fn initialize_event<L: Ledger>(
     out: &mut Lines,
     visits: &mut Steps<L>,
 ) -> Result<EventEnd, NoMemory>
-    requires frame { HasFrame machine.old.guest thread }
-    requires sound { IsSoundFor program.now (kept_of machine.old) }
-    requires clock { machine.old.guest.clock < 2 ^ 40 }
-    requires order { IsInOrder program.now }
-    requires methods { HasBuiltInMethods program.now }
+    requires invoke { MayInvoke program.now machine.old thread }
     requires plan { IsCallPlan
         (moment program.now machine.old thread) (plans.Initializes call.method call.count) }
     ensures ok { IfOk result
@@ -67,7 +64,7 @@ struct Planned {
     next: u32,
 }
 
-/// The event of a plan. It visits three objects at most. After `NoMemory` the event may be half done.
+/// The event of a plan. After `NoMemory` the event may be half done.
 fn plan_event<L: Ledger>(
     alloc: Global,
     program: &Program,
@@ -77,12 +74,7 @@ fn plan_event<L: Ledger>(
     out: &mut Lines,
     visits: &mut Steps<L>,
 ) -> Result<EventEnd, NoMemory>
-    requires frame { HasFrame machine.old.guest thread }
-    requires sound { IsSoundFor program.now (kept_of machine.old) }
-    requires clock { machine.old.guest.clock < 2 ^ 40 }
-    requires slots { HasMachineSlots program.now }
-    requires order { IsInOrder program.now }
-    requires methods { HasBuiltInMethods program.now }
+    requires invoke { MayInvoke program.now machine.old thread }
     requires plan { IsCallPlan (moment program.now machine.old thread) planned.plan }
     ensures ok { IfOk result (λ end. (at : Site) →
         at.next ≡ planned.next → EventAnswers (event_of (moment program.now machine.old thread)

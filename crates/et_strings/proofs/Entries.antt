@@ -129,6 +129,11 @@ removed o (e ∷ es) ordered =
 pub removed-spelled : (o : ℕ) (es : List Entry) → IsStrictlySortedBy nat_cmp (keys_of es) → spelled (remove_entry (is_at (nat_cmp o)) es) ≡ without_text o (spelled es)
 removed-spelled o es ordered = spelled-remove (is_at (nat_cmp o)) es ∙ removed o (spelled es) (subst (λ ks. IsStrictlySortedBy nat_cmp ks) (sym (keys-spelled es)) ordered)
 
+pub left-taken : (o k : ℕ) (es : List Entry) (texts : Texts) (left : List Entry) → spelled es ≡ texts → IsStrictlySortedBy nat_cmp (keys_of es) → k ≡ o → left ≡ remove_entry (is_at (nat_cmp k)) es
+    → spelled left ≡ without_text o texts
+left-taken o k es texts left view ordered named is =
+    ap spelled is ∙ (removed-spelled k es ordered ∙ (ap (without_text k) view ∙ ap (λ (j : ℕ). without_text j texts) named))
+
 -- AN OBJECT IS GIVEN A TEXT: the same, whether the one that it had was taken out before or not
 
 given_at : (r : Ordering) (o : ℕ) (text : List ℕ) (e : ℕ × List ℕ) (es : Texts) → nat_cmp o e.0 ≡ r → AreBehind e.0 es → with_text o text (without_text o es) ≡ with_text o text es

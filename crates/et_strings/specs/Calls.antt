@@ -1,8 +1,7 @@
 -- A CALL OF A METHOD OF TEXTS, which a machine does that stands beside its texts.
-use Rattle.std.specs.Prelude.{◌≡◌, ℕ, ◌+◌, ◌<◌, ◌≤◌, ◌^◌, true, List, Some, All, drop, length}
+use Rattle.std.specs.Prelude.{◌≡◌, ℕ, ◌<◌, ◌≤◌, ◌^◌, true, List, Some, All, length}
 use Rattle.std.specs.Map.{keys_of, values_of}
 use Rattle.et_builtins.specs.Arguments.{arguments_in}
-use Rattle.et_builtins.specs.declared.changes.Called.{Called}
 use Rattle.et_event.specs.Answered.{TextAnswers}
 use Rattle.et_event.specs.BuiltIns.{argument}
 use Rattle.et_event.specs.Calls.{arguments_of}
@@ -46,14 +45,15 @@ pub record StandBeside (m : MachineState) (x : Texts) : Type 0 where
 pub record IsCalled (m : MachineState) (c : TextCalled) : Type 0 where
   pub frame : HasFrame m.guest c.called.thread
   pub operands : c.called.count ≤ length (top m.guest c.called.thread).operands
-  pub small : c.called.count < 2 ^ 16
   pub held : IsHeld m.heap c.object
   pub argument : c.argument ≡ argument (arguments_in (top m.guest c.called.thread) c.called.count) 1
   pub there : IsIn (top m.guest c.called.thread) c.argument
 
--- so many entries fit once they are taken
-abbrev pub HasRoomFor : ℕ → MachineState → Called → Type 0
-HasRoomFor entries m c = length (drop c.count (top m.guest c.thread).operands) + entries ≤ (top m.guest c.thread).room
+-- it may be answered
+pub record MayAnswer (m : MachineState) (x : Texts) (c : TextCalled) : Type 0 where
+  pub machine : IsReady m
+  pub texts : StandBeside m x
+  pub call : IsCalled m c
 
 abbrev pub entries_given : TextMethod → ℕ
 entries_given Length = 1

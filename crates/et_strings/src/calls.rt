@@ -9,10 +9,11 @@ ghost use Rattle.et_event.specs.declared.rows.CallRow.TheVariants as calls;
 ghost use Rattle.et_event.specs.declared.rows.Row.TheVariants as rows;
 ghost use Rattle.et_event.specs.Places.{IsPlace, site_at};
 ghost use Rattle.et_state.specs.Words.{HasFrame, top};
-ghost use Rattle.et_strings.specs.Calls.{HasRoomFor, IsCalled, entries_given};
+ghost use Rattle.et_builtins.specs.Calling.{HasRoomFor};
+ghost use Rattle.et_strings.specs.Calls.{IsCalled, entries_given};
 
 use et_base::{ObjectId, Steps, ThreadId, Value};
-use et_builtins::{CallPlan, Called, argument_at, invoke_plan, operands_are_few, receiver};
+use et_builtins::{CallPlan, Called, argument_at, invoke_plan, receiver};
 use et_event::{CallKind, Place};
 use et_program::{Program, TextMethod};
 use et_state::Machine;
@@ -67,7 +68,6 @@ pub(crate) fn text_called<L: Ledger>(
     let Some(object) = receiver(machine, thread, count) else {
         unreachable!()
     };
-    operands_are_few(machine, thread);
     TextCalled {
         method: text_method,
         called: Called {

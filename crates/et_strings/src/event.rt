@@ -65,11 +65,11 @@ fn read_event(
     Ok(end)
 }
 
-/// The event of a thread whose turn calls a method of strings, of string builders or of print streams, or reads System.out. It
-/// answers what the table of events with texts says: `Done`, and then the machine keeps the next state but for its texts, which
-/// are the texts beside it, and the records of the event and the bytes that it prints stand behind those that were there; or
-/// `IllTyped` or `ObjectLimit`, and then all is as before. It visits six objects at most. After `NoMemory` the event may be half
-/// done, and machine, texts and output may only be dropped.
+/// The event of a thread whose turn calls a method of strings, of string builders or of print streams, or reads System.out.
+/// It answers what the table of events with texts says: `Done`, and then the machine keeps the next state but for its texts,
+/// which are the texts beside it, and the records of the event and the bytes that it prints stand behind those that were
+/// there; or `IllTyped` or `ObjectLimit`, and then all is as before. After `NoMemory` the event may be half done, and
+/// machine, texts and output may only be dropped.
 pub fn strings_event<L: Ledger>(
     alloc: Global,
     program: &Program,

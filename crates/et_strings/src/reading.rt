@@ -4,8 +4,8 @@ ghost use Rattle.et_event.specs.TextRows.{is_text_like as is_text_like_in};
 ghost use Rattle.et_program.specs.BootTexts.TextMethod.TheVariants as methods;
 ghost use Rattle.et_program.specs.Entries.{Linked};
 ghost use Rattle.et_state.specs.declared.records.Record.{Record};
-ghost use Rattle.et_strings.specs.Calls.{AnswersText, HasRoomFor, IsCalled, IsReady};
-ghost use Rattle.et_strings.specs.Calls.{StandBeside, text_moment};
+ghost use Rattle.et_builtins.specs.Calling.{HasRoomFor};
+ghost use Rattle.et_strings.specs.Calls.{AnswersText, MayAnswer, text_moment};
 
 use crate::calls::TextCalled;
 use crate::text::{are_same, text_at, text_length, text_unit};
@@ -19,9 +19,7 @@ use std::sync::ledger::Ledger;
 
 /// The event in which a method gives the length of a text.
 pub(crate) fn length_event(machine: &mut Machine, texts: &Texts, call: &TextCalled) -> EventEnd
-    requires machine { IsReady machine.old }
-    requires texts { StandBeside machine.old texts.now }
-    requires call { IsCalled machine.old call.now }
+    requires answers { MayAnswer machine.old texts.now call.now }
     requires room { HasRoomFor 1 machine.old call.now.called }
     ensures { (p : Linked) (out : List Record) → AnswersText methods.Length p call.now result
         machine.old machine.new texts.now texts.now out out }
@@ -38,9 +36,7 @@ pub(crate) fn char_event(
     call: &TextCalled,
     out: &mut Lines,
 ) -> Result<EventEnd, NoMemory>
-    requires machine { IsReady machine.old }
-    requires texts { StandBeside machine.old texts.now }
-    requires call { IsCalled machine.old call.now }
+    requires answers { MayAnswer machine.old texts.now call.now }
     requires room { HasRoomFor 1 machine.old call.now.called }
     ensures { IfOk result (λ end. AnswersText methods.CharAt program.now call.now end
         machine.old machine.new texts.now texts.now out.old out.new) }
@@ -65,9 +61,7 @@ fn is_text_like<L: Ledger>(
     call: &TextCalled,
     visits: &mut Steps<L>,
 ) -> bool
-    requires machine { IsReady machine.now }
-    requires texts { StandBeside machine.now texts.now }
-    requires call { IsCalled machine.now call.now }
+    requires answers { MayAnswer machine.now texts.now call.now }
     ensures value { result
         ≡ is_text_like_in (text_moment program.now machine.now texts.now call.now.called.thread)
         call.now.object call.now.argument }
@@ -92,9 +86,7 @@ pub(crate) fn equals_event<L: Ledger>(
     call: &TextCalled,
     visits: &mut Steps<L>,
 ) -> EventEnd
-    requires machine { IsReady machine.old }
-    requires texts { StandBeside machine.old texts.now }
-    requires call { IsCalled machine.old call.now }
+    requires answers { MayAnswer machine.old texts.now call.now }
     requires room { HasRoomFor 1 machine.old call.now.called }
     ensures event { (out : List Record) → AnswersText methods.Equals program.now call.now result
         machine.old machine.new texts.now texts.now out out }

@@ -13,7 +13,8 @@ ghost use Rattle.et_state.specs.State.{MachineState, kept_of};
 ghost use Rattle.et_state.specs.Words.{HasFrame, ticked, top, with_new_object, with_top};
 ghost use Rattle.et_state.specs.Texts.{longest_text, text_units, with_text};
 ghost use Rattle.et_state.specs.declared.records.Record.{Record};
-ghost use Rattle.et_strings.specs.Calls.{AnswersText, HasRoomFor, IsCalled, IsReady, StandBeside};
+ghost use Rattle.et_builtins.specs.Calling.{HasRoomFor};
+ghost use Rattle.et_strings.specs.Calls.{AnswersText, MayAnswer};
 ghost use Rattle.et_strings.specs.TextUnits.{units_in};
 
 use crate::calls::TextCalled;
@@ -51,9 +52,7 @@ pub(crate) fn begin_event(
     texts: &mut Texts,
     call: &TextCalled,
 ) -> Result<EventEnd, NoMemory>
-    requires machine { IsReady machine.old }
-    requires texts { StandBeside machine.old texts.old }
-    requires call { IsCalled machine.old call.now }
+    requires answers { MayAnswer machine.old texts.old call.now }
     ensures { IfOk result (λ end. (p : Linked) (out : List Record) →
         AnswersText methods.Begin p call.now end machine.old machine.new texts.old texts.new
         out out) }
@@ -71,9 +70,7 @@ pub(crate) fn begin_with_event(
     call: &TextCalled,
     out: &mut Lines,
 ) -> Result<EventEnd, NoMemory>
-    requires machine { IsReady machine.old }
-    requires texts { StandBeside machine.old texts.old }
-    requires call { IsCalled machine.old call.now }
+    requires answers { MayAnswer machine.old texts.old call.now }
     ensures { IfOk result (λ end. AnswersText methods.BeginWith program.now call.now end
         machine.old machine.new texts.old texts.new out.old out.new) }
 {
@@ -94,7 +91,6 @@ fn give_made(machine: &mut Machine, call: &Called, object: ObjectId)
     requires frame { HasFrame machine.old.guest call.now.thread }
     requires clock { machine.old.guest.clock < 2 ^ 40 }
     requires operands { call.now.count ≤ length (top machine.old.guest call.now.thread).operands }
-    requires small { call.now.count < 2 ^ 16 }
     requires room { HasRoomFor 1 machine.old call.now }
     ensures { (m : MachineState) (class slots : ℕ) → IsSound (kept_of m) →
         machine.old ≡ with_new_object m (new_object class 0 slots) → object ≡ length m.heap →
@@ -107,7 +103,7 @@ fn give_made(machine: &mut Machine, call: &Called, object: ObjectId)
         }) machine.new }
 {
     machine.begin_event();
-    take(machine, call.thread, call.count);
+    take(machine, call.thread, call.count as u32);
     machine.set_pc(call.thread, call.next);
     machine.push(call.thread, Value::Ref(object));
 }
@@ -121,9 +117,7 @@ pub(crate) fn to_string_event(
     call: &TextCalled,
     out: &mut Lines,
 ) -> Result<EventEnd, NoMemory>
-    requires machine { IsReady machine.old }
-    requires texts { StandBeside machine.old texts.old }
-    requires call { IsCalled machine.old call.now }
+    requires answers { MayAnswer machine.old texts.old call.now }
     requires room { HasRoomFor 1 machine.old call.now.called }
     ensures { IfOk result (λ end. AnswersText methods.ToString program.now call.now end
         machine.old machine.new texts.old texts.new out.old out.new) }
@@ -171,9 +165,7 @@ fn append_text(
     more: Text<'_>,
     out: &mut Lines,
 ) -> Result<EventEnd, NoMemory>
-    requires machine { IsReady machine.old }
-    requires texts { StandBeside machine.old texts.old }
-    requires call { IsCalled machine.old call.now }
+    requires answers { MayAnswer machine.old texts.old call.now }
     requires room { HasRoomFor 1 machine.old call.now.called }
     requires short { length (units_in more) ≤ longest_text }
     ensures { IfOk result (λ end. (kind : Shown) → units_in more.entry ≡ shown
@@ -205,9 +197,7 @@ pub(crate) fn append_event(
     kind: Shown,
     out: &mut Lines,
 ) -> Result<EventEnd, NoMemory>
-    requires machine { IsReady machine.old }
-    requires texts { StandBeside machine.old texts.old }
-    requires call { IsCalled machine.old call.now }
+    requires answers { MayAnswer machine.old texts.old call.now }
     requires room { HasRoomFor 1 machine.old call.now.called }
     ensures { IfOk result (λ end. AnswersText (methods.Append kind) program.now call.now end
         machine.old machine.new texts.old texts.new out.old out.new) }

@@ -5,8 +5,8 @@ ghost use Rattle.et_event.specs.Moments.{begins, moment};
 ghost use Rattle.et_event.specs.Sound.{IsSoundFor};
 ghost use Rattle.et_event.specs.TextRows.{is_fit_text, writes_text as is_writing};
 ghost use Rattle.et_state.specs.State.{kept_of};
-ghost use Rattle.et_strings.specs.Calls.{AnswersRow, AnswersText, HasRoomFor, IsCalled, IsReady};
-ghost use Rattle.et_strings.specs.Calls.{SaysRow, StandBeside, entries_given};
+ghost use Rattle.et_builtins.specs.Calling.{HasRoomFor};
+ghost use Rattle.et_strings.specs.Calls.{AnswersRow, AnswersText, IsCalled, MayAnswer, SaysRow, entries_given};
 
 use crate::calls::TextCalled;
 use crate::reading::{char_event, equals_event, length_event};
@@ -70,9 +70,7 @@ fn done_event<L: Ledger>(
     out: &mut Output,
     visits: &mut Steps<L>,
 ) -> Result<EventEnd, NoMemory>
-    requires machine { IsReady machine.old }
-    requires texts { StandBeside machine.old texts.old }
-    requires call { IsCalled machine.old call.now }
+    requires answers { MayAnswer machine.old texts.old call.now }
     requires room { HasRoomFor (entries_given call.now.method) machine.old call.now.called }
     ensures event { IfOk result (λ end. AnswersText call.now.method program.now call.now end
         machine.old machine.new texts.old texts.new out.old.records out.new.records) }
@@ -110,9 +108,7 @@ pub(crate) fn row_event<L: Ledger>(
     visits: &mut Steps<L>,
 ) -> Result<EventEnd, NoMemory>
     requires sound { IsSoundFor program.now (kept_of machine.old) }
-    requires machine { IsReady machine.old }
-    requires texts { StandBeside machine.old texts.old }
-    requires call { IsCalled machine.old call.now }
+    requires answers { MayAnswer machine.old texts.old call.now }
     requires room { HasRoomFor (entries_given call.now.method) machine.old call.now.called }
     ensures event { IfOk result (λ end. AnswersRow program.now call.now end
         machine.old machine.new texts.old texts.new out.old.records out.new.records) }

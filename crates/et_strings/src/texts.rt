@@ -63,14 +63,13 @@ impl Texts {
     pub fn forget(&mut self, o: ObjectId)
         ensures { self.new ≡ without_text o self.old }
     {
-        if let Some(units) = self.own.remove(&o.number()) {
-            self.units -= units.len() as u64;
-        }
+        self.take(o);
     }
 
     /// Takes the text of an object out, for one that it is given then. It takes no memory.
     pub(crate) fn take(&mut self, o: ObjectId) -> Option<Vec<u16>>
         ensures value { option_map_or (λ units. units.items) result [] ≡ given_text self.old o }
+        ensures left { self.new ≡ without_text o self.old }
         ensures given { (text : List ℕ) → with_text o text self.new ≡ with_text o text self.old }
         ensures units { text_units self.new ≤ text_units self.old }
     {

@@ -8,7 +8,7 @@ ghost use Rattle.et_state.specs.Spoken.{spoken};
 ghost use Rattle.et_state.specs.State.{kept_of};
 ghost use Rattle.et_state.specs.Texts.{Texts as TextList, longest_text};
 ghost use Rattle.et_state.specs.declared.records.Record.{Record};
-ghost use Rattle.et_strings.specs.Calls.{AnswersText, IsCalled, IsReady, StandBeside};
+ghost use Rattle.et_strings.specs.Calls.{AnswersText, IsCalled, IsReady, MayAnswer};
 
 use crate::calls::TextCalled;
 use crate::printing::push_written;
@@ -53,9 +53,7 @@ pub(crate) fn print_event(
     kind: Shown,
     said: &mut Vec<u8>,
 ) -> Result<EventEnd, NoMemory>
-    requires machine { IsReady machine.old }
-    requires texts { StandBeside machine.old texts.now }
-    requires call { IsCalled machine.old call.now }
+    requires answers { MayAnswer machine.old texts.now call.now }
     ensures event { IfOk result (λ end. (p : Linked) (out : List Record) →
         AnswersText (methods.Print kind) p call.now end machine.old machine.new
         texts.now texts.now out out) }
@@ -75,9 +73,7 @@ pub(crate) fn print_line_event(
     kind: Shown,
     said: &mut Vec<u8>,
 ) -> Result<EventEnd, NoMemory>
-    requires machine { IsReady machine.old }
-    requires texts { StandBeside machine.old texts.now }
-    requires call { IsCalled machine.old call.now }
+    requires answers { MayAnswer machine.old texts.now call.now }
     ensures event { IfOk result (λ end. (p : Linked) (out : List Record) →
         AnswersText (methods.PrintLine kind) p call.now end machine.old machine.new
         texts.now texts.now out out) }

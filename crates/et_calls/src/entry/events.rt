@@ -19,8 +19,7 @@ use std::alloc::Global;
 use std::sync::ledger::Ledger;
 
 /// The event of a thread without a frame that is entered (JVMS 5.2, 5.5, 2.6): thread 0 enters `main`, and each other thread
-/// calls `run` on its Thread object. It visits four objects at most. After `NoMemory` the event may be half done, and the
-/// machine is not to be used.
+/// calls `run` on its Thread object. After `NoMemory` the event may be half done, and the machine is not to be used.
 pub fn entry_event<L: Ledger>(
     alloc: Global,
     program: &Program,

@@ -1,16 +1,12 @@
 //! The first method of thread 0: `main`, whose class is initialized first (JVMS 5.2, 5.5).
-ghost use Rattle.std.specs.Prelude.{◌≡◌, ◌+◌, ◌<◌, ◌≤◌, ◌^◌, true, All, IfOk, length};
+ghost use Rattle.std.specs.Prelude.{◌≡◌, ◌+◌, ◌<◌, ◌≤◌, true, All, IfOk, length};
 ghost use Rattle.std.specs.List.{list_all};
-ghost use Rattle.et_state.specs.State.{kept_of};
 ghost use Rattle.et_state.specs.Words.{thread_at};
 ghost use Rattle.et_event.specs.Answered.{EventAnswers};
 ghost use Rattle.et_event.specs.Calls.{enters_first, enters_main, entry_arguments};
 ghost use Rattle.et_event.specs.Initialization.{is_ready as ready, prepared};
 ghost use Rattle.et_event.specs.Moments.{moment, begins};
-ghost use Rattle.et_event.specs.Sound.{IsSoundFor};
-ghost use Rattle.et_event.specs.Programs.{HasBuiltInMethods};
-ghost use Rattle.et_event.specs.InitializationOrder.{IsInOrder};
-ghost use Rattle.et_calls.specs.Fresh.{IsFresh};
+ghost use Rattle.et_calls.specs.Asked.{MayBegin};
 
 use crate::entering::enter_code;
 use crate::entry::throws::throw_first;
@@ -23,8 +19,7 @@ use et_state::{EventEnd, Lines, Machine};
 use std::alloc::Global;
 use std::sync::ledger::Ledger;
 
-/// The event in which thread 0 enters `main`, after the quiet ones among these classes became done. It visits three objects at
-/// most.
+/// The event in which thread 0 enters `main`, after the quiet ones among these classes became done.
 fn enter_main<L: Ledger>(
     alloc: Global,
     program: &Program,
@@ -34,11 +29,7 @@ fn enter_main<L: Ledger>(
     out: &mut Lines,
     visits: &mut Steps<L>,
 ) -> Result<EventEnd, NoMemory>
-    requires order { IsInOrder program.now }
-    requires methods { HasBuiltInMethods program.now }
-    requires sound { IsSoundFor program.now (kept_of machine.old) }
-    requires clock { machine.old.guest.clock < 2 ^ 40 }
-    requires fresh { IsFresh machine.old.guest thread }
+    requires begins { MayBegin program.now machine.old thread }
     requires classes { All (λ c. c < length program.now.classes) classes.now }
     requires ready { list_all (ready (moment program.now machine.old thread)
         (begins (moment program.now machine.old thread))) classes.now ≡ true }
@@ -67,7 +58,7 @@ fn enter_main<L: Ledger>(
 }
 
 /// The event in which thread 0 enters `main`: where its class is done, begun by this thread or quiet, it is entered, and else
-/// what the initialization of the class asks for is done. It visits three objects at most.
+/// what the initialization of the class asks for is done.
 pub(crate) fn main_event<L: Ledger>(
     alloc: Global,
     program: &Program,
@@ -76,11 +67,7 @@ pub(crate) fn main_event<L: Ledger>(
     out: &mut Lines,
     visits: &mut Steps<L>,
 ) -> Result<EventEnd, NoMemory>
-    requires order { IsInOrder program.now }
-    requires methods { HasBuiltInMethods program.now }
-    requires sound { IsSoundFor program.now (kept_of machine.old) }
-    requires clock { machine.old.guest.clock < 2 ^ 40 }
-    requires fresh { IsFresh machine.old.guest thread }
+    requires begins { MayBegin program.now machine.old thread }
     ensures ok { IfOk result (λ end. EventAnswers (enters_main
         (moment program.now machine.old thread)) end machine.old machine.new out.old out.new) }
     ensures visits { visits.new ≤ visits.old + 3 }

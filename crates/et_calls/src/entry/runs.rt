@@ -1,5 +1,5 @@
 //! The first method of each thread but the first: `run` of its Thread object (JVMS 5.4.3.3, 5.4.6).
-ghost use Rattle.std.specs.Prelude.{◌≡◌, ◌+◌, ◌<◌, ◌≤◌, ◌^◌, false, codes, IfOk, Ok, length};
+ghost use Rattle.std.specs.Prelude.{◌≡◌, ◌+◌, ◌<◌, ◌≤◌, false, codes, IfOk, Ok, length};
 ghost use Rattle.et_program.specs.Resolution.{resolve_method};
 ghost use Rattle.et_state.specs.State.{kept_of};
 ghost use Rattle.et_state.specs.Words.{thread_at};
@@ -8,7 +8,7 @@ ghost use Rattle.et_event.specs.Calls.{enters_first, enters_run, entry_arguments
 ghost use Rattle.et_event.specs.Errors.{class_called};
 ghost use Rattle.et_event.specs.Sound.{IsSoundFor};
 ghost use Rattle.et_event.specs.Moments.{begins, moment};
-ghost use Rattle.et_event.specs.InitializationOrder.{IsInOrder};
+ghost use Rattle.et_calls.specs.Asked.{MayBegin};
 ghost use Rattle.et_calls.specs.Fresh.{IsFresh};
 ghost use Rattle.et_calls.specs.Runs.{run_planned, IsRunPlan};
 
@@ -49,7 +49,7 @@ fn thread_run(program: &Program) -> MethodId
     MethodId::new(RUN)
 }
 
-/// What a thread comes to: `run` is resolved in Thread, and selected by the class of its Thread object. It visits one object.
+/// What a thread comes to: `run` is resolved in Thread, and selected by the class of its Thread object.
 fn run_plan<L: Ledger>(
     program: &Program,
     machine: &Machine,
@@ -79,7 +79,7 @@ fn run_plan<L: Ledger>(
 }
 
 /// The event in which a thread without a frame enters a method on its Thread object; where the method has no code an error is
-/// thrown. It visits three objects at most.
+/// thrown.
 fn enter_run<L: Ledger>(
     alloc: Global,
     program: &Program,
@@ -89,10 +89,7 @@ fn enter_run<L: Ledger>(
     out: &mut Lines,
     visits: &mut Steps<L>,
 ) -> Result<EventEnd, NoMemory>
-    requires order { IsInOrder program.now }
-    requires sound { IsSoundFor program.now (kept_of machine.old) }
-    requires clock { machine.old.guest.clock < 2 ^ 40 }
-    requires fresh { IsFresh machine.old.guest thread }
+    requires begins { MayBegin program.now machine.old thread }
     requires method { method < length program.now.methods }
     ensures ok { IfOk result (λ end. EventAnswers (enters_first
         (moment program.now machine.old thread) (begins (moment program.now machine.old thread))
@@ -116,7 +113,7 @@ fn enter_run<L: Ledger>(
     }
 }
 
-/// The event in which a thread other than the first is entered. It visits four objects at most.
+/// The event in which a thread other than the first is entered.
 pub(crate) fn run_event<L: Ledger>(
     alloc: Global,
     program: &Program,
@@ -125,10 +122,7 @@ pub(crate) fn run_event<L: Ledger>(
     out: &mut Lines,
     visits: &mut Steps<L>,
 ) -> Result<EventEnd, NoMemory>
-    requires order { IsInOrder program.now }
-    requires sound { IsSoundFor program.now (kept_of machine.old) }
-    requires clock { machine.old.guest.clock < 2 ^ 40 }
-    requires fresh { IsFresh machine.old.guest thread }
+    requires begins { MayBegin program.now machine.old thread }
     ensures ok { IfOk result
         (λ end. EventAnswers (enters_run (moment program.now machine.old thread)
         (thread_at machine.old.guest thread).object) end machine.old machine.new out.old out.new) }

@@ -7,4 +7,4 @@ start_thread-requires-clause-fresh c =
 
 pub returns : goal.returns
 returns c = λ p at out same.
-    thread_started p c.args.call.now.thread c.args.call.now.count c.args.call.now.next c.args.object c.args.machine.now c.pass.new.machine c.start_thread.new.self at out c.requires.sound c.requires.frame c.requires.operands same c.requires.held c.pass.ensures.new c.in_ok-_thread.ensures.ok
+    thread_started p c.args.call.now.thread c.args.call.now.count c.args.call.now.next c.args.object c.args.machine.now c.pass.new.machine c.start_thread.new.self at out c.requires.calls.sound c.requires.calls.frame c.requires.calls.operands same c.requires.held c.pass.ensures.new c.in_ok-_thread.ensures.ok

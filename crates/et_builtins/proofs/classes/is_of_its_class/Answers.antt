@@ -13,7 +13,7 @@ use Rattle.et_builtins.proofs.classes.is_of_its_class.Goals as goal
 -- what stands in the topmost frame is held
 pub is_null_or_of-requires-clause-held : goal.is_null_or_of-requires-clause-held
 is_null_or_of-requires-clause-held g c = λ o inside.
-    c.requires.sound.held.roots o (top_root c.args.machine.now.guest c.args.thread o c.requires.frame (c.argument_at-value.ensures.there o inside))
+    c.requires.call.sound.held.roots o (top_root c.args.machine.now.guest c.args.thread o c.requires.call.frame (c.argument_at-value.ensures.there o inside))
 
 pub returns-clause-value : goal.returns-clause-value
 returns-clause-value g c =

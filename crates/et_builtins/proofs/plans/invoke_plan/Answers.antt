@@ -9,7 +9,7 @@ use Rattle.et_event.specs.Selected.{selected_from, selected_method}
 use Rattle.et_builtins.specs.Plans.{resolving}
 use Rattle.et_builtins.proofs.Planning.{checks, fitted, fitted_method, found_by, invoke_is, selected_is}
 use Rattle.et_builtins.proofs.Choosing.{resolved_room}
-use Rattle.et_builtins.proofs.Shaping.{HasShape, passed_is, passing, shaped, typed_fitting, ill_called, none_selected}
+use Rattle.et_builtins.proofs.Shaping.{chosen_by, fits_at, ill_called, invoked_by, none_selected, passed_is, passing}
 use Rattle.et_event.proofs.SiteAnswers.{place_pool}
 use Rattle.et_builtins.proofs.plans.invoke_plan.Goals as goal
 use Rattle.et_event.specs.Moments.{moment}
@@ -32,33 +32,26 @@ pub returns-in_default-fitting_call-clause-plan : goal.returns-in_default-fittin
 returns-in_default-fitting_call-clause-plan g c =
     let e = moment c.args.program.now c.args.machine.now c.args.thread in
     let at = site_at c.args.place.now in
-    let h : HasShape at c.in-Some.shape.now = shaped c.args.program.now c.args.place.now.class c.index_of.result at c.in-Some.shape.now (place_pool c.args.program.now _ c.args.place.now c.requires.place) c.index_of.ensures c.in-Some.ensures in
-    let none = typed_fitting e at c.in-Some.shape.now h c.is_static_call.result (is_static_call c.args.kind) None c.is_static_call.ensures (c.in_default-fitting_call.ensures.value c.args.program.now h.type h.is) in
-    invoke_is e at c.args.kind h.member h.named ∙ ap (fitted e at c.args.kind h.member) none
+    let f = fits_at e at c.args.kind c.args.place.now.class c.index_of.result c.in-Some.shape.now c.is_static_call.result None (place_pool c.args.program.now _ c.args.place.now c.requires.place) c.index_of.ensures c.in-Some.ensures c.is_static_call.ensures (c.in_default-fitting_call.ensures.value c.args.program.now) in
+    invoke_is e at c.args.kind f.has.member f.has.named ∙ ap (fitted e at c.args.kind f.has.member) f.fits
 
 pub returns-in-Ok-clause-plan : goal.returns-in-Ok-clause-plan
 returns-in-Ok-clause-plan g c =
     let e = moment c.args.program.now c.args.machine.now c.args.thread in
     let at = site_at c.args.place.now in
-    let count = c.in-Some-fitting_call.count in
-    let h : HasShape at c.in-Some.shape.now = shaped c.args.program.now c.args.place.now.class c.index_of.result at c.in-Some.shape.now (place_pool c.args.program.now _ c.args.place.now c.requires.place) c.index_of.ensures c.in-Some.ensures in
-    let some = typed_fitting e at c.in-Some.shape.now h c.is_static_call.result (is_static_call c.args.kind) (Some count) c.is_static_call.ensures (c.in-Some-fitting_call.ensures.value c.args.program.now h.type h.is) in
-    invoke_is e at c.args.kind h.member h.named
-    ∙ (ap (fitted e at c.args.kind h.member) some
-    ∙ (c.resolve.ensures.value e h.member (checks e at c.args.kind count) refl h.named
-    ∙ (ap (λ (r : Result (ℕ × ℕ) GuestError). resolving e r (checks e at c.args.kind count)) c.in-Ok.is ∙ c.resolved_plan.ensures.plan at refl)))
+    let f = fits_at e at c.args.kind c.args.place.now.class c.index_of.result c.in-Some.shape.now c.is_static_call.result (Some c.in-Some-fitting_call.count) (place_pool c.args.program.now _ c.args.place.now c.requires.place) c.index_of.ensures c.in-Some.ensures c.is_static_call.ensures (c.in-Some-fitting_call.ensures.value c.args.program.now) in
+    let go = checks e at c.args.kind c.in-Some-fitting_call.count in
+    invoked_by e at c.args.kind c.in-Some.shape.now c.in-Some-fitting_call.count c.resolve.result f (λ m named. c.resolve.ensures.value e m go refl named)
+    ∙ (ap (λ (r : Result (ℕ × ℕ) GuestError). resolving e r go) c.in-Ok.is ∙ c.resolved_plan.ensures.plan at refl)
 
 pub returns-in-Err-clause-plan : goal.returns-in-Err-clause-plan
 returns-in-Err-clause-plan g c =
     let e = moment c.args.program.now c.args.machine.now c.args.thread in
     let at = site_at c.args.place.now in
-    let count = c.in-Some-fitting_call.count in
-    let h : HasShape at c.in-Some.shape.now = shaped c.args.program.now c.args.place.now.class c.index_of.result at c.in-Some.shape.now (place_pool c.args.program.now _ c.args.place.now c.requires.place) c.index_of.ensures c.in-Some.ensures in
-    let some = typed_fitting e at c.in-Some.shape.now h c.is_static_call.result (is_static_call c.args.kind) (Some count) c.is_static_call.ensures (c.in-Some-fitting_call.ensures.value c.args.program.now h.type h.is) in
-    invoke_is e at c.args.kind h.member h.named
-    ∙ (ap (fitted e at c.args.kind h.member) some
-    ∙ (c.resolve.ensures.value e h.member (checks e at c.args.kind count) refl h.named
-    ∙ ap (λ (r : Result (ℕ × ℕ) GuestError). resolving e r (checks e at c.args.kind count)) c.in-Err.is))
+    let f = fits_at e at c.args.kind c.args.place.now.class c.index_of.result c.in-Some.shape.now c.is_static_call.result (Some c.in-Some-fitting_call.count) (place_pool c.args.program.now _ c.args.place.now c.requires.place) c.index_of.ensures c.in-Some.ensures c.is_static_call.ensures (c.in-Some-fitting_call.ensures.value c.args.program.now) in
+    let go = checks e at c.args.kind c.in-Some-fitting_call.count in
+    invoked_by e at c.args.kind c.in-Some.shape.now c.in-Some-fitting_call.count c.resolve.result f (λ m named. c.resolve.ensures.value e m go refl named)
+    ∙ ap (λ (r : Result (ℕ × ℕ) GuestError). resolving e r go) c.in-Err.is
 
 -- WHICH DEFERRED METHOD IS ENTERED
 
@@ -66,36 +59,27 @@ pub returns-in_default-fitting_call-clause-deferred : goal.returns-in_default-fi
 returns-in_default-fitting_call-clause-deferred g c =
     let e = moment c.args.program.now c.args.machine.now c.args.thread in
     let at = site_at c.args.place.now in
-    let h : HasShape at c.in-Some.shape.now = shaped c.args.program.now c.args.place.now.class c.index_of.result at c.in-Some.shape.now (place_pool c.args.program.now _ c.args.place.now c.requires.place) c.index_of.ensures c.in-Some.ensures in
-    let none = typed_fitting e at c.in-Some.shape.now h c.is_static_call.result (is_static_call c.args.kind) None c.is_static_call.ensures (c.in_default-fitting_call.ensures.value c.args.program.now h.type h.is) in
-    sym (ap (λ (r : Option ℕ). kept (is_deferred e.program) r) (selected_is e at c.args.kind h.member h.named ∙ ap (fitted_method e at c.args.kind h.member) none))
+    let f = fits_at e at c.args.kind c.args.place.now.class c.index_of.result c.in-Some.shape.now c.is_static_call.result None (place_pool c.args.program.now _ c.args.place.now c.requires.place) c.index_of.ensures c.in-Some.ensures c.is_static_call.ensures (c.in_default-fitting_call.ensures.value c.args.program.now) in
+    sym (ap (λ (r : Option ℕ). kept (is_deferred e.program) r) (selected_is e at c.args.kind f.has.member f.has.named ∙ ap (fitted_method e at c.args.kind f.has.member) f.fits))
 
 pub returns-in-Ok-clause-deferred : goal.returns-in-Ok-clause-deferred
 returns-in-Ok-clause-deferred g c =
     let e = moment c.args.program.now c.args.machine.now c.args.thread in
     let at = site_at c.args.place.now in
-    let count = c.in-Some-fitting_call.count in
-    let h : HasShape at c.in-Some.shape.now = shaped c.args.program.now c.args.place.now.class c.index_of.result at c.in-Some.shape.now (place_pool c.args.program.now _ c.args.place.now c.requires.place) c.index_of.ensures c.in-Some.ensures in
-    let some = typed_fitting e at c.in-Some.shape.now h c.is_static_call.result (is_static_call c.args.kind) (Some count) c.is_static_call.ensures (c.in-Some-fitting_call.ensures.value c.args.program.now h.type h.is) in
-    let from = selected_from e at c.args.kind (arguments_of e count) in
+    let f = fits_at e at c.args.kind c.args.place.now.class c.index_of.result c.in-Some.shape.now c.is_static_call.result (Some c.in-Some-fitting_call.count) (place_pool c.args.program.now _ c.args.place.now c.requires.place) c.index_of.ensures c.in-Some.ensures c.is_static_call.ensures (c.in-Some-fitting_call.ensures.value c.args.program.now) in
+    let from = selected_from e at c.args.kind (arguments_of e c.in-Some-fitting_call.count) in
     let selected : selected_method e at c.args.kind ≡ from c.in-Ok.found.0 c.in-Ok.found.1 =
-    selected_is e at c.args.kind h.member h.named
-    ∙ (ap (fitted_method e at c.args.kind h.member) some
-    ∙ (c.resolve.ensures.found h.member from h.named ∙ ap (λ (r : Result (ℕ × ℕ) GuestError). found_by r from) c.in-Ok.is)) in
+    chosen_by e at c.args.kind c.in-Some.shape.now c.in-Some-fitting_call.count c.resolve.result f (λ m named. c.resolve.ensures.found m from named) ∙ ap (λ (r : Result (ℕ × ℕ) GuestError). found_by r from) c.in-Ok.is in
     c.resolved_plan.ensures.deferred at refl ∙ sym (ap (λ (r : Option ℕ). kept (is_deferred e.program) r) selected)
 
 pub returns-in-Err-clause-deferred : goal.returns-in-Err-clause-deferred
 returns-in-Err-clause-deferred g c =
     let e = moment c.args.program.now c.args.machine.now c.args.thread in
     let at = site_at c.args.place.now in
-    let count = c.in-Some-fitting_call.count in
-    let h : HasShape at c.in-Some.shape.now = shaped c.args.program.now c.args.place.now.class c.index_of.result at c.in-Some.shape.now (place_pool c.args.program.now _ c.args.place.now c.requires.place) c.index_of.ensures c.in-Some.ensures in
-    let some = typed_fitting e at c.in-Some.shape.now h c.is_static_call.result (is_static_call c.args.kind) (Some count) c.is_static_call.ensures (c.in-Some-fitting_call.ensures.value c.args.program.now h.type h.is) in
-    let from = selected_from e at c.args.kind (arguments_of e count) in
+    let f = fits_at e at c.args.kind c.args.place.now.class c.index_of.result c.in-Some.shape.now c.is_static_call.result (Some c.in-Some-fitting_call.count) (place_pool c.args.program.now _ c.args.place.now c.requires.place) c.index_of.ensures c.in-Some.ensures c.is_static_call.ensures (c.in-Some-fitting_call.ensures.value c.args.program.now) in
+    let from = selected_from e at c.args.kind (arguments_of e c.in-Some-fitting_call.count) in
     let selected : selected_method e at c.args.kind ≡ None =
-    selected_is e at c.args.kind h.member h.named
-    ∙ (ap (fitted_method e at c.args.kind h.member) some
-    ∙ (c.resolve.ensures.found h.member from h.named ∙ ap (λ (r : Result (ℕ × ℕ) GuestError). found_by r from) c.in-Err.is)) in
+    chosen_by e at c.args.kind c.in-Some.shape.now c.in-Some-fitting_call.count c.resolve.result f (λ m named. c.resolve.ensures.found m from named) ∙ ap (λ (r : Result (ℕ × ℕ) GuestError). found_by r from) c.in-Err.is in
     sym (ap (λ (r : Option ℕ). kept (is_deferred e.program) r) selected)
 
 -- WHAT IS PASSED
@@ -104,10 +88,8 @@ pub returns-in-Ok-clause-passes : goal.returns-in-Ok-clause-passes
 returns-in-Ok-clause-passes g c =
     let e = moment c.args.program.now c.args.machine.now c.args.thread in
     let at = site_at c.args.place.now in
-    let count = c.in-Some-fitting_call.count in
-    let h : HasShape at c.in-Some.shape.now = shaped c.args.program.now c.args.place.now.class c.index_of.result at c.in-Some.shape.now (place_pool c.args.program.now _ c.args.place.now c.requires.place) c.index_of.ensures c.in-Some.ensures in
-    let some = typed_fitting e at c.in-Some.shape.now h c.is_static_call.result (is_static_call c.args.kind) (Some count) c.is_static_call.ensures (c.in-Some-fitting_call.ensures.value c.args.program.now h.type h.is) in
-    passing e at c.args.kind count c.resolved_plan.result c.resolved_plan.ensures.passes (passed_is e at c.in-Some.shape.now h c.args.kind count some)
+    let f = fits_at e at c.args.kind c.args.place.now.class c.index_of.result c.in-Some.shape.now c.is_static_call.result (Some c.in-Some-fitting_call.count) (place_pool c.args.program.now _ c.args.place.now c.requires.place) c.index_of.ensures c.in-Some.ensures c.is_static_call.ensures (c.in-Some-fitting_call.ensures.value c.args.program.now) in
+    passing e at c.args.kind c.in-Some-fitting_call.count c.resolved_plan.result c.resolved_plan.ensures.passes (passed_is e at c.in-Some.shape.now f.has c.args.kind c.in-Some-fitting_call.count f.fits)
 
 -- WHAT WAS RESOLVED
 
@@ -116,9 +98,13 @@ resolve-requires-clause-pool g c = place_pool c.args.program.now _ c.args.place.
 
 -- WHAT IS RETURNED FITS
 
-pub resolved_plan-requires-clause-room : goal.resolved_plan-requires-clause-room
-resolved_plan-requires-clause-room g c =
+pub resolved_plan-requires-clause-call : goal.resolved_plan-requires-clause-call
+resolved_plan-requires-clause-call g c =
     let e = moment c.args.program.now c.args.machine.now c.args.thread in
     let at = site_at c.args.place.now in
-    let h : HasShape at c.in-Some.shape.now = shaped c.args.program.now c.args.place.now.class c.index_of.result at c.in-Some.shape.now (place_pool c.args.program.now _ c.args.place.now c.requires.place) c.index_of.ensures c.in-Some.ensures in
-    resolved_room e c.in-Ok.found.1 c.in-Some-fitting_call.count h.member.descriptor h.type c.in-Some.shape.now (c.in-Ok.ensures.same h.member h.named) h.typed h.is c.in-Some-fitting_call.ensures.room
+    let f = fits_at e at c.args.kind c.args.place.now.class c.index_of.result c.in-Some.shape.now c.is_static_call.result (Some c.in-Some-fitting_call.count) (place_pool c.args.program.now _ c.args.place.now c.requires.place) c.index_of.ensures c.in-Some.ensures c.is_static_call.ensures (c.in-Some-fitting_call.ensures.value c.args.program.now) in
+    record {
+      arguments = record { frame = c.requires.frame; sound = c.requires.sound; operands = c.in-Some-fitting_call.ensures.operands };
+      method = c.in-Ok.ensures.within.1;
+      room = resolved_room e c.in-Ok.found.1 c.in-Some-fitting_call.count f.has.member.descriptor f.has.type c.in-Some.shape.now (c.in-Ok.ensures.same f.has.member f.has.named) f.has.typed f.has.is c.in-Some-fitting_call.ensures.room;
+    }

@@ -30,7 +30,7 @@ returns-clause-plan g c = λ at same.
 pub returns-clause-within : goal.returns-clause-within
 returns-clause-within g c =
     let e = moment c.args.program.now c.args.machine.now c.args.thread in
-    c.selected.ensures.within e c.select_special.ensures.within (special_room e c.args.callee.current c.special_class-from.result c.args.callee.method c.args.callee.count c.select_special.result c.select_special.ensures.value c.requires.room) c.requires.operands
+    c.selected.ensures.within e c.select_special.ensures.within (special_room e c.args.callee.current c.special_class-from.result c.args.callee.method c.args.callee.count c.select_special.result c.select_special.ensures.value c.requires.call.room) c.requires.call.arguments.operands
 
 pub returns-clause-entered : goal.returns-clause-entered
 returns-clause-entered g c = λ at same.

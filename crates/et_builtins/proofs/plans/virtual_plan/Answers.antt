@@ -6,4 +6,4 @@ use Rattle.et_event.specs.Moments.{moment}
 pub returns-clause-within : goal.returns-clause-within
 returns-clause-within g c =
     let e = moment c.args.program.now c.args.machine.now c.args.thread in
-    c.selected.ensures.within e c.select.ensures.within (select_room e c.class_of-class.result c.args.method c.args.count false c.select.result c.select.ensures.value c.requires.room) c.requires.operands
+    c.selected.ensures.within e c.select.ensures.within (select_room e c.class_of-class.result c.args.method c.args.count false c.select.result c.select.ensures.value c.requires.call.room) c.requires.call.arguments.operands

@@ -14,7 +14,7 @@ pub give-requires-clause-held : goal.give-requires-clause-held
 give-requires-clause-held g c =
     let m = c.args.machine.now in
     let read : c.slot.result ≡ slot_of (object_at m.heap c.args.object) c.args.slot = search rules in
-    slot_or_null_held m c.args.object c.args.slot c.or_null-value.result c.slot.result c.requires.sound c.requires.slots read c.or_null-value.ensures
+    slot_or_null_held m c.args.object c.args.slot c.or_null-value.result c.slot.result c.requires.calls.sound c.requires.slots read c.or_null-value.ensures
 
 pub returns-clause-ok : goal.returns-clause-ok
 returns-clause-ok g c = λ p at out same.

@@ -20,4 +20,4 @@ returns c = λ p at out same.
     let m = c.args.machine.now in
     let e = moment p m c.args.call.now.thread in
     waiting_answers e (has_thread_ended (begins e) (thread_with m.guest.threads c.args.object)) (goes (answering e at (arguments_of e c.args.call.now.count) [] (begins e))) ends.Waited m c.begin_event.new.self out out
-    (sym (c.has_ended.ensures p c.args.call.now.thread) ∙ c.if-has_ended.false) (waited_led m c.begin_event.new.self c.requires.sound c.begin_event.ensures, refl)
+    (sym (c.has_ended.ensures p c.args.call.now.thread) ∙ c.if-has_ended.false) (waited_led m c.begin_event.new.self c.requires.calls.sound c.begin_event.ensures, refl)

@@ -18,17 +18,24 @@ use Rattle.et_calls.proofs.CalledByCode.{error_by, none_called, one_ready, one_w
 use Rattle.et_calls.proofs.Initial.{quiet_answers}
 use Rattle.et_calls.proofs.called.enter_after.Goals as goal
 
-pub enter_code-requires-clause-entered : goal.enter_code-requires-clause-entered
-enter_code-requires-clause-entered g c =
+pub enter_code-requires : goal.enter_code-requires
+enter_code-requires g c =
     let p = c.args.program.now in
     let e = moment p c.args.machine.now c.args.thread in
     let class : c.method-info.result.now.class ≡ (method_at p c.args.call.method).class = ap (λ (i : MethodInfo). i.class) c.method-info.ensures.value in
     record {
-      info = c.method-info.ensures.value;
-      class = c.method-info.ensures.class;
-      passed = (c.requires.frame, c.requires.plan.1);
-      classes = one_within c.method-info.result.now.class (length p.classes) c.method-info.ensures.class;
-      ready = ap (λ (k : ℕ). list_all (is_ready e (begins e)) (k ∷ [])) class ∙ one_ready e (method_at p c.args.call.method).class (begins e) c.requires.plan.2 c.requires.quiet;
+      enters = record {
+        order = c.requires.invoke.order;
+        sound = c.requires.invoke.sound;
+        clock = c.requires.invoke.clock;
+        entered = record {
+          info = c.method-info.ensures.value;
+          class = c.method-info.ensures.class;
+          passed = (c.requires.invoke.frame, c.requires.plan.1);
+          classes = one_within c.method-info.result.now.class (length p.classes) c.method-info.ensures.class;
+          ready = ap (λ (k : ℕ). list_all (is_ready e (begins e)) (k ∷ [])) class ∙ one_ready e (method_at p c.args.call.method).class (begins e) c.requires.plan.2 c.requires.quiet;
+        };
+      };
     }
 
 pub throw_after-requires-clause-ready : goal.throw_after-requires-clause-ready
@@ -67,5 +74,5 @@ returns-in-None-clause-ok g c =
     (λ end a at. quiet_answers e at call.method call.count (method_at p call.method).class end m c.throw_after.new.machine c.args.out.now c.throw_after.new.out refl c.requires.plan.2 c.requires.quiet
     (subst (λ (o : Outcome Kept). EventAnswers o end m c.throw_after.new.machine c.args.out.now c.throw_after.new.out)
     (ap (λ (k : ℕ). throws e c.codeless_error-error.result (prepared e (k ∷ []) (begins e))) class
-    ∙ (ap (λ (x : GuestError). throws e x d) error ∙ sym (none_called e at d call.count call.method c.requires.plan.1 c.requires.methods c.requires.plan.0 c.requires.plan.3 code))) a))
+    ∙ (ap (λ (x : GuestError). throws e x d) error ∙ sym (none_called e at d call.count call.method c.requires.plan.1 c.requires.invoke.methods c.requires.plan.0 c.requires.plan.3 code))) a))
     c.throw_after.ensures

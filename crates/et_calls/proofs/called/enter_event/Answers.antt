@@ -11,13 +11,20 @@ use Rattle.et_calls.proofs.CalledByCode.{none_within}
 use Rattle.et_calls.proofs.Calling.{no_code_answers}
 use Rattle.et_calls.proofs.called.enter_event.Goals as goal
 
-pub enter_code-requires-clause-entered : goal.enter_code-requires-clause-entered
-enter_code-requires-clause-entered g c = record {
-  info = c.method-info.ensures.value;
-  class = c.method-info.ensures.class;
-  passed = (c.requires.frame, c.requires.operands);
-  classes = none_within (length c.args.program.now.classes);
-  ready = refl;
+pub enter_code-requires : goal.enter_code-requires
+enter_code-requires g c = record {
+  enters = record {
+    order = c.requires.order;
+    sound = c.requires.call.callable.arguments.sound;
+    clock = c.requires.call.clock;
+    entered = record {
+      info = c.method-info.ensures.value;
+      class = c.method-info.ensures.class;
+      passed = (c.requires.call.callable.arguments.frame, c.requires.call.callable.arguments.operands);
+      classes = none_within (length c.args.program.now.classes);
+      ready = refl;
+    };
+  };
 }
 
 pub returns-in-Some-clause-ok : goal.returns-in-Some-clause-ok
@@ -28,7 +35,7 @@ returns-in-Some-clause-ok g c =
     let call = c.args.call in
     let code : (method_at p call.method).code ≡ Some c.in-Some.code = ap (λ (i : MethodInfo). i.code) (sym c.method-info.ensures.value) ∙ c.in-Some.is in
     if_ok c.enter_code.result
-    (λ end a at same. subst (λ (o : Outcome Kept). EventAnswers o end m c.enter_code.new.machine c.args.out.now c.enter_code.new.out) (sym (code_called e at (begins e) call.count call.method c.in-Some.code c.requires.operands code)) a)
+    (λ end a at same. subst (λ (o : Outcome Kept). EventAnswers o end m c.enter_code.new.machine c.args.out.now c.enter_code.new.out) (sym (code_called e at (begins e) call.count call.method c.in-Some.code c.requires.call.callable.arguments.operands code)) a)
     c.enter_code.ensures.ok
 
 pub returns-in-None-clause-ok : goal.returns-in-None-clause-ok
@@ -38,5 +45,5 @@ returns-in-None-clause-ok g c =
     let call = c.args.call in
     let code : (method_at p call.method).code ≡ None = ap (λ (i : MethodInfo). i.code) (sym c.method-info.ensures.value) ∙ c.in-None.is in
     if_ok c.codeless_event.result
-    (λ end a at same. no_code_answers p c.args.thread m c.codeless_event.new.machine c.args.out.now c.codeless_event.new.out end at call.count call.method c.requires.operands code (a at same))
+    (λ end a at same. no_code_answers p c.args.thread m c.codeless_event.new.machine c.args.out.now c.codeless_event.new.out end at call.count call.method c.requires.call.callable.arguments.operands code (a at same))
     c.codeless_event.ensures.ok

@@ -13,7 +13,7 @@ throw_after-requires-clause-frame g c =
     let m = c.args.machine.now in
     let t = c.args.thread in
     let le : most_frames ≤ length (thread_at m.guest t).frames = omega (arith, c.if-frames-ge-MOST_FRAMES.true, c.frames.ensures.value) in
-    full_frame c.args.program.now t c.args.entered.now m c.requires.entered le
+    full_frame c.args.program.now t c.args.entered.now m c.requires.enters.entered le
 
 pub push_event-requires-clause-few : goal.push_event-requires-clause-few
 push_event-requires-clause-few g c = omega (arith, c.if-frames-ge-MOST_FRAMES.false, c.frames.ensures.value)
@@ -30,7 +30,7 @@ returns-then-not-branch-clause-ok g c =
     let x = c.args.entered.now in
     let lt : length (thread_at m.guest t).frames < most_frames = omega (arith, c.if-frames-ge-MOST_FRAMES.false, c.frames.ensures.value) in
     fits_few p t x.classes.now (pushed_event (moment p m t) x) m m c.args.out.now c.args.out.now ends.ObjectLimit lt
-    (unfit p t x m c.args.out.now c.requires.sound c.requires.entered
+    (unfit p t x m c.args.out.now c.requires.enters.sound c.requires.enters.entered
     (sym c.in_ok-classes_fit.ensures ∙ c.if-not-branch.true))
 
 pub returns-clause-ok : goal.returns-clause-ok

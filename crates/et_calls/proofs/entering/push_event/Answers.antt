@@ -13,7 +13,7 @@ use Rattle.et_calls.proofs.entering.push_event.Goals as goal
 
 pub push_frame-requires-clause-passed : goal.push_frame-requires-clause-passed
 push_frame-requires-clause-passed g c =
-    base_passed c.args.program.now c.args.thread c.args.entered.now.classes.now c.args.entered.now.passed c.args.machine.now c.begin_prepared.new.machine c.in_ok-begin_prepared.ensures.0 c.requires.entered.passed
+    base_passed c.args.program.now c.args.thread c.args.entered.now.classes.now c.args.entered.now.passed c.args.machine.now c.begin_prepared.new.machine c.in_ok-begin_prepared.ensures.0 c.requires.enters.entered.passed
 
 pub push_frame-requires-clause-few : goal.push_frame-requires-clause-few
 push_frame-requires-clause-few g c =
@@ -22,25 +22,25 @@ push_frame-requires-clause-few g c =
 pub push_frame-requires-clause-arguments : goal.push_frame-requires-clause-arguments
 push_frame-requires-clause-arguments g c =
     let same = base_arguments c.args.program.now c.args.thread c.args.entered.now.classes.now c.args.entered.now.passed c.args.machine.now c.begin_prepared.new.machine c.in_ok-begin_prepared.ensures.0 in
-    omega (arith, ap length same, c.passed_count-count.ensures, c.new_head-head.ensures.arguments)
+    omega (arith, ap length same, c.passed_count-count.ensures c.args.machine.now.guest c.args.thread c.requires.enters.entered.passed, c.new_head-head.ensures.arguments)
 
 pub push_frame-requires-clause-lock : goal.push_frame-requires-clause-lock
 push_frame-requires-clause-lock g c =
     let p = c.args.program.now in
     let x = c.args.entered.now in
     let lock = locks_of c.lock_for-lock.result in
-    let received = c.receiver_of-receiver.ensures.value p c.requires.entered.info in
-    let locked = entered_lock p c.args.thread x c.args.machine.now c.receiver_of-receiver.result lock c.requires.sound c.requires.entered received c.receiver_of-receiver.ensures.held c.lock_for-lock.ensures in
-    (base_lock p c.args.thread x.classes.now c.args.machine.now c.begin_prepared.new.machine lock c.in_ok-begin_prepared.ensures.0 c.requires.sound locked.1).0
+    let received = c.receiver_of-receiver.ensures.value p c.requires.enters.entered.info in
+    let locked = entered_lock p c.args.thread x c.args.machine.now c.receiver_of-receiver.result lock c.requires.enters.sound c.requires.enters.entered received c.receiver_of-receiver.ensures.held c.lock_for-lock.ensures in
+    (base_lock p c.args.thread x.classes.now c.args.machine.now c.begin_prepared.new.machine lock c.in_ok-begin_prepared.ensures.0 c.requires.enters.sound locked.1).0
 
 pub push_frame-requires-clause-times : goal.push_frame-requires-clause-times
 push_frame-requires-clause-times g c =
     let p = c.args.program.now in
     let x = c.args.entered.now in
     let lock = locks_of c.lock_for-lock.result in
-    let received = c.receiver_of-receiver.ensures.value p c.requires.entered.info in
-    let locked = entered_lock p c.args.thread x c.args.machine.now c.receiver_of-receiver.result lock c.requires.sound c.requires.entered received c.receiver_of-receiver.ensures.held c.lock_for-lock.ensures in
-    (base_lock p c.args.thread x.classes.now c.args.machine.now c.begin_prepared.new.machine lock c.in_ok-begin_prepared.ensures.0 c.requires.sound locked.1).1
+    let received = c.receiver_of-receiver.ensures.value p c.requires.enters.entered.info in
+    let locked = entered_lock p c.args.thread x c.args.machine.now c.receiver_of-receiver.result lock c.requires.enters.sound c.requires.enters.entered received c.receiver_of-receiver.ensures.held c.lock_for-lock.ensures in
+    (base_lock p c.args.thread x.classes.now c.args.machine.now c.begin_prepared.new.machine lock c.in_ok-begin_prepared.ensures.0 c.requires.enters.sound locked.1).1
 
 pub returns-clause-ok : goal.returns-clause-ok
 returns-clause-ok g c =
@@ -53,16 +53,16 @@ returns-clause-ok g c =
     let body = x.code.now in
     let lock = locks_of c.lock_for-lock.result in
     let vs = arguments_passed (top m.guest t) x.passed in
-    let received : c.receiver_of-receiver.result ≡ receiver_of p method vs = c.receiver_of-receiver.ensures.value p c.requires.entered.info in
-    let locked = entered_lock p t x m c.receiver_of-receiver.result lock c.requires.sound c.requires.entered received c.receiver_of-receiver.ensures.held c.lock_for-lock.ensures in
+    let received : c.receiver_of-receiver.result ≡ receiver_of p method vs = c.receiver_of-receiver.ensures.value p c.requires.enters.entered.info in
+    let locked = entered_lock p t x m c.receiver_of-receiver.result lock c.requires.enters.sound c.requires.enters.entered received c.receiver_of-receiver.ensures.held c.lock_for-lock.ensures in
     let same : arguments_passed (top m₂.guest t) x.passed ≡ vs = base_arguments p t x.classes.now x.passed m m₂ c.in_ok-begin_prepared.ensures.0 in
     let frame : frame_with c.new_head-head.result (arguments_passed (top m₂.guest t) x.passed) ≡ method_frame p method body vs =
-    ap (λ (us : List Value). frame_with c.new_head-head.result us) same ∙ c.new_head-head.ensures.frame p vs c.requires.entered.info received (sym c.passed_count-count.ensures) in
+    ap (λ (us : List Value). frame_with c.new_head-head.result us) same ∙ c.new_head-head.ensures.frame p vs c.requires.enters.entered.info received (sym (c.passed_count-count.ensures m.guest t c.requires.enters.entered.passed)) in
     let is = c.in_ok-push_frame.ensures.ok ∙ ap (λ (f : FrameState). entering_some t lock (pushed_by m₂ t x.passed f)) frame in
     let number = c.number_of.ensures ∙ ap (λ (r : Option ℕ). unwrap_or r 0) received in
     let told = c.in_ok-push.ensures.ok
     ∙ (ap (λ (n : ℕ). c.begin_prepared.new.out ++ Enter n c.number.result method c.number_of.result ∷ []) c.clock.ensures
     ∙ (ap (λ (n : ℕ). c.begin_prepared.new.out ++ Enter m₂.guest.clock n method c.number_of.result ∷ []) c.number.ensures.value
     ∙ ap (λ (n : ℕ). c.begin_prepared.new.out ++ Enter m₂.guest.clock t method n ∷ []) number)) in
-    method_entered p t method x.classes.now body x.passed lock m m₂ c.push_frame.new.machine c.args.out.now c.begin_prepared.new.out c.push.new.self c.requires.order c.requires.entered.classes
-    c.requires.sound c.requires.entered.passed c.requires.fits locked.0 locked.1 c.in_ok-begin_prepared.ensures.0 c.in_ok-begin_prepared.ensures.1 is told
+    method_entered p t method x.classes.now body x.passed lock m m₂ c.push_frame.new.machine c.args.out.now c.begin_prepared.new.out c.push.new.self c.requires.enters.order c.requires.enters.entered.classes
+    c.requires.enters.sound c.requires.enters.entered.passed c.requires.fits locked.0 locked.1 c.in_ok-begin_prepared.ensures.0 c.in_ok-begin_prepared.ensures.1 is told

@@ -38,8 +38,12 @@ text_called-call-requires-clause-call g c =
     let e = moment c.args.program.now c.args.machine.now c.args.thread in
     invoke_calls e (site_at c.in-Some.place) c.in-Some.place.row c.in-Some-invoke_kind.kind c.in-Some-invoke_kind.ensures.some (at_row c.args.program.now c.args.machine.now c.args.thread c.in-Some.place c.in-Some.ensures.found c.requires.turn)
 
-pub row_event-requires-clause-texts : goal.row_event-requires-clause-texts
-row_event-requires-clause-texts g c = record { owned = λ k d lt. (c.requires.texts.owned k d lt).0; short = c.requires.texts.short; few = c.requires.texts.few }
+pub row_event-requires-clause-answers : goal.row_event-requires-clause-answers
+row_event-requires-clause-answers g c = record {
+  machine = record { sound = c.requires.begins.sound.held; clock = c.requires.begins.clock; fits = c.requires.begins.sound.fits; silent = c.has_no_texts.ensures };
+  texts = record { owned = λ k d lt. (c.requires.texts.owned k d lt).0; short = c.requires.texts.short; few = c.requires.texts.few };
+  call = c.text_called-call.ensures.called;
+}
 
 pub read_event-requires-clause-turn : goal.read_event-requires-clause-turn
 read_event-requires-clause-turn g c =

@@ -26,8 +26,8 @@ returns-in-Some c = λ at same.
     let unit : c.in-Some.unit < 2 ^ 16 = search rules in
     let few : c.in-Some.unit < 2 ^ 31 = omega arith in
     subst (λ (k : Outcome Kept). TextAnswers k c.give.result c.args.machine.now c.give.new.machine c.args.texts.now c.args.texts.now c.args.out.now c.args.out.now)
-    (sym (char-given e at (begins e) (arguments_of e c.args.call.now.called.count) c.args.call.now.object c.in-Int.index c.in-Some.unit (sym c.requires.call.argument ∙ c.in-Int.is) some))
-    (value-beside c.args.program.now c.args.machine.now c.give.new.machine c.args.texts.now c.args.call.now.called.thread c.args.call.now.called.count at _ _ c.give.result c.args.out.now c.requires.machine.silent
+    (sym (char-given e at (begins e) (arguments_of e c.args.call.now.called.count) c.args.call.now.object c.in-Int.index c.in-Some.unit (sym c.requires.answers.call.argument ∙ c.in-Int.is) some))
+    (value-beside c.args.program.now c.args.machine.now c.give.new.machine c.args.texts.now c.args.call.now.called.thread c.args.call.now.called.count at _ _ c.give.result c.args.out.now c.requires.answers.machine.silent
     (ap Int (to_z_pos w32 c.in-Some.unit few)) (c.give.ensures c.args.program.now at c.args.out.now same))
 
 pub returns-in-None : goal.returns-in-None
@@ -39,6 +39,6 @@ returns-in-None c =
     ap (unit_numbered u) (sym number) ∙ (ap (λ (us : List ℕ). unit_numbered us (to_z w32 (of_z w32 c.in-Int.index))) (sym c.text_at.ensures.value) ∙ (sym c.text_unit.ensures ∙ c.in-None.is)) in
     if_ok c.throw_error.result
     (λ end h at same. subst (λ (k : Outcome Kept). TextAnswers k end c.args.machine.now c.throw_error.new.machine c.args.texts.now c.args.texts.now c.args.out.now c.throw_error.new.out)
-    (sym (char-throws e at (begins e) (arguments_of e c.args.call.now.called.count) c.args.call.now.object c.in-Int.index (sym c.requires.call.argument ∙ c.in-Int.is) none))
-    (thrown-beside c.args.program.now c.args.machine.now c.throw_error.new.machine c.args.texts.now c.args.call.now.called.thread StringIndexOutOfBoundsException end c.args.out.now c.throw_error.new.out c.requires.machine.silent h))
+    (sym (char-throws e at (begins e) (arguments_of e c.args.call.now.called.count) c.args.call.now.object c.in-Int.index (sym c.requires.answers.call.argument ∙ c.in-Int.is) none))
+    (thrown-beside c.args.program.now c.args.machine.now c.throw_error.new.machine c.args.texts.now c.args.call.now.called.thread StringIndexOutOfBoundsException end c.args.out.now c.throw_error.new.out c.requires.answers.machine.silent h))
     c.throw_error.ensures.ok

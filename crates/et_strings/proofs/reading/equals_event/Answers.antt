@@ -16,6 +16,6 @@ truth_is false = refl
 pub returns-clause-event : goal.returns-clause-event
 returns-clause-event g c = λ out at same.
     let e = text_moment c.args.program.now c.args.machine.now c.args.texts.now c.args.call.now.called.thread in
-    value-beside c.args.program.now c.args.machine.now c.give.new.machine c.args.texts.now c.args.call.now.called.thread c.args.call.now.called.count at _ _ c.give.result out c.requires.machine.silent
-    (truth_is c.is_text_like-is_same.result ∙ (ap truth c.is_text_like-is_same.ensures.value ∙ ap (λ (v : Value). truth (is_text_like e c.args.call.now.object v)) c.requires.call.argument))
+    value-beside c.args.program.now c.args.machine.now c.give.new.machine c.args.texts.now c.args.call.now.called.thread c.args.call.now.called.count at _ _ c.give.result out c.requires.answers.machine.silent
+    (truth_is c.is_text_like-is_same.result ∙ (ap truth c.is_text_like-is_same.ensures.value ∙ ap (λ (v : Value). truth (is_text_like e c.args.call.now.object v)) c.requires.answers.call.argument))
     (c.give.ensures c.args.program.now at out same)

@@ -23,12 +23,12 @@ returns-then-length-gt-LONGEST c =
     if_ok c.throw_error.result
     (λ end h kind named at same.
     let more : List ℕ = shown e.before kind (argument (arguments_of e n) 1) in
-    let second : units_in c.args.more ≡ more = named ∙ ap (shown e.before kind) c.requires.call.argument in
+    let second : units_in c.args.more ≡ more = named ∙ ap (shown e.before kind) c.requires.answers.call.argument in
     let total = both (units_in c.text_at.result) (units_in c.args.more) (text_of e.before o) more c.text_length.result c.text_length-2.result c.text_at.ensures.value second c.text_length.ensures c.text_length-2.ensures in
     let units : List ℕ = text_of e.before o ++ more in
     let long : longest_text < length units = omega (arith, total, c.if-length-gt-LONGEST.true) in
     too_long c.args.program.now c.args.machine.now c.throw_error.new.machine c.args.texts.now c.args.call.now.called.thread n o units at (Ref o ∷ []) end c.args.out.now c.throw_error.new.out
-    (rewriting c.args.program.now c.args.machine.now c.args.texts.now c.args.call.now.called.thread n o units at (Ref o ∷ [])) refl c.requires.machine.silent long h)
+    (rewriting c.args.program.now c.args.machine.now c.args.texts.now c.args.call.now.called.thread n o units at (Ref o ∷ [])) refl c.requires.answers.machine.silent long h)
     c.throw_error.ensures.ok
 
 pub returns : goal.returns
@@ -37,13 +37,13 @@ returns c = λ kind named at same.
     let n = c.args.call.now.called.count in
     let o = c.args.call.now.object in
     let more : List ℕ = shown e.before kind (argument (arguments_of e n) 1) in
-    let second : units_in c.args.more ≡ more = named ∙ ap (shown e.before kind) c.requires.call.argument in
+    let second : units_in c.args.more ≡ more = named ∙ ap (shown e.before kind) c.requires.answers.call.argument in
     let total = both (units_in c.text_at.result) (units_in c.args.more) (text_of e.before o) more c.text_length.result c.text_length-2.result c.text_at.ensures.value second c.text_length.ensures c.text_length-2.ensures in
     let units : List ℕ = text_of e.before o ++ more in
     let pushed : c.push_text.new.units.items ≡ units = c.in_ok-push_text.ensures ∙ (ap (λ (u : List ℕ). u ++ units_in c.args.more) c.in_ok-units.ensures.value ∙ ap (λ (u : List ℕ). text_of e.before o ++ u) second) in
     let short : length units ≤ longest_text = omega (arith, total, c.if-length-gt-LONGEST.false) in
     let few : text_units (with_text o units c.args.texts.now) ≤ most_units = omega (arith, c.units_with.ensures units (sym total), c.if-units_with-gt-MOST.false) in
     rewritten c.args.program.now c.args.machine.now c.give.new.machine c.args.texts.now c.set.new.self c.args.call.now.called.thread n o units at (Ref o ∷ []) c.give.result c.args.out.now
-    (rewriting c.args.program.now c.args.machine.now c.args.texts.now c.args.call.now.called.thread n o units at (Ref o ∷ [])) refl c.requires.machine.silent c.requires.machine.fits short few
+    (rewriting c.args.program.now c.args.machine.now c.args.texts.now c.args.call.now.called.thread n o units at (Ref o ∷ [])) refl c.requires.answers.machine.silent c.requires.answers.machine.fits short few
     (c.in_ok-set.ensures ∙ (c.taken.ensures.given c.push_text.new.units.items ∙ ap (λ (u : List ℕ). with_text o u c.args.texts.now) pushed))
     (c.give.ensures c.args.program.now at c.args.out.now same)

@@ -28,11 +28,11 @@ pub returns-in_default : goal.returns-in_default
 returns-in_default c =
     let e = text_moment c.args.program.now c.args.machine.now c.args.texts.now c.args.call.now.called.thread in
     let arguments = arguments_of e c.args.call.now.called.count in
-    let none = ap referent_of (sym c.requires.call.argument) ∙ no_reference c.args.call.now.argument c.in_default.not-Ref in
+    let none = ap referent_of (sym c.requires.answers.call.argument) ∙ no_reference c.args.call.now.argument c.in_default.not-Ref in
     if_ok c.throw_error.result
     (λ end h at same. subst (λ (k : Outcome Kept). TextAnswers k end c.args.machine.now c.throw_error.new.machine c.args.texts.now c.args.texts.now c.args.out.now c.throw_error.new.out)
     (sym (begun-null e at (begins e) arguments c.args.call.now.object none))
-    (thrown-beside c.args.program.now c.args.machine.now c.throw_error.new.machine c.args.texts.now c.args.call.now.called.thread NullPointerException end c.args.out.now c.throw_error.new.out c.requires.machine.silent h))
+    (thrown-beside c.args.program.now c.args.machine.now c.throw_error.new.machine c.args.texts.now c.args.call.now.called.thread NullPointerException end c.args.out.now c.throw_error.new.out c.requires.answers.machine.silent h))
     c.throw_error.ensures.ok
 
 pub returns : goal.returns
@@ -42,8 +42,8 @@ returns c = λ at same.
     let units : List ℕ = c.in_ok-units.units.items in
     let text : units ≡ text_of e.before c.in-Ref.string = c.in_ok-units.ensures ∙ c.text_at.ensures.value in
     rewritten c.args.program.now c.args.machine.now c.give_nothing.new.machine c.args.texts.now c.set.new.self c.args.call.now.called.thread c.args.call.now.called.count o (text_of e.before c.in-Ref.string) at [] c.give_nothing.result c.args.out.now _
-    (begun-with e at (begins e) (arguments_of e c.args.call.now.called.count) o c.in-Ref.string (sym c.requires.call.argument ∙ c.in-Ref.is))
-    c.requires.machine.silent c.requires.machine.fits
+    (begun-with e at (begins e) (arguments_of e c.args.call.now.called.count) o c.in-Ref.string (sym c.requires.answers.call.argument ∙ c.in-Ref.is))
+    c.requires.answers.machine.silent c.requires.answers.machine.fits
     (omega (arith, c.text_at.ensures.short, ap length c.text_at.ensures.value))
     (omega (arith, c.units_with.ensures (text_of e.before c.in-Ref.string) (omega (arith, ap length text, c.len.ensures)), c.if-units_with-gt-MOST.false))
     (c.in_ok-set.ensures ∙ ap (λ (u : List ℕ). with_text o u c.args.texts.now) text)

@@ -19,7 +19,7 @@ returns-then-units-len-gt-MOST c = λ at same.
     let text : c.in_ok-units.units.items ≡ units = c.in_ok-units.ensures ∙ c.text_at.ensures.value in
     let n = length c.args.machine.now.heap in
     let many : most_units < text_units (with_text n units c.args.texts.now) =
-    omega (arith, c.units.ensures.given n units, c.units.ensures.value, ap length (none_newest c.args.machine.now.heap c.args.texts.now c.requires.texts.owned), c.len.ensures, ap length text, c.if-units-len-gt-MOST.true) in
+    omega (arith, c.units.ensures.given n units, c.units.ensures.value, ap length (none_newest c.args.machine.now.heap c.args.texts.now c.requires.answers.texts.owned), c.len.ensures, ap length text, c.if-units-len-gt-MOST.true) in
     string-limit c.args.program.now c.args.machine.now c.args.texts.now c.args.call.now.called.thread c.args.call.now.called.count at units c.args.out.now
     (omega (arith, c.text_at.ensures.short, ap length c.text_at.ensures.value)) many
 
@@ -38,8 +38,8 @@ returns c = λ at same.
     let text : c.in_ok-units.units.items ≡ units = c.in_ok-units.ensures ∙ c.text_at.ensures.value in
     let new = string_made p c.args.call.now.called.thread c.class_called-class.result (Some c.in-Some.string) c.in_ok-string.field-0 m c.make_instance.new.machine c.args.out.now c.make_instance.new.out c.class_called-class.ensures.value c.in-Some.is c.in_ok-string.ensures.made in
     let few : text_units (with_text (length m.heap) units c.args.texts.now) ≤ most_units =
-    omega (arith, c.units.ensures.given (length m.heap) units, c.units.ensures.value, ap length (none_newest m.heap c.args.texts.now c.requires.texts.owned), c.len.ensures, ap length text, c.if-units-len-gt-MOST.false) in
+    omega (arith, c.units.ensures.given (length m.heap) units, c.units.ensures.value, ap length (none_newest m.heap c.args.texts.now c.requires.answers.texts.owned), c.len.ensures, ap length text, c.if-units-len-gt-MOST.false) in
     string-given p m c.make_instance.new.machine c.give_made.new.machine c.args.texts.now c.set.new.self c.args.call.now.called.thread c.args.call.now.called.count c.in-Some.string c.args.call.now.called.next at units c.args.out.now c.make_instance.new.out
-    c.requires.machine.silent c.requires.call.operands same (omega (arith, c.text_at.ensures.short, ap length c.text_at.ensures.value)) few new
+    c.requires.answers.machine.silent c.requires.answers.call.operands same (omega (arith, c.text_at.ensures.short, ap length c.text_at.ensures.value)) few new
     (c.in_ok-set.ensures ∙ ap (λ (u : List ℕ). with_text c.in-Some.string u c.args.texts.now) text)
-    (c.give_made.ensures m (class_called p (codes "java/lang/String")) (class_at p (class_called p (codes "java/lang/String"))).info.slots c.requires.machine.sound new.2 new.1)
+    (c.give_made.ensures m (class_called p (codes "java/lang/String")) (class_at p (class_called p (codes "java/lang/String"))).info.slots c.requires.answers.machine.sound new.2 new.1)

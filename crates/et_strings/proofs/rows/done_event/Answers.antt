@@ -27,7 +27,7 @@ returns-in-Print-clause-event g c =
 pub returns-in-Print-clause-said : goal.returns-in-Print-clause-said
 returns-in-Print-clause-said g c =
     if_both c.print_event.result
-    (λ end h is. says-row c.args.program.now c.args.machine.now c.print_event.new.machine c.args.texts.now c.args.call.now (Print c.in-Print.kind) end c.args.out.now.records c.args.out.now.said.items c.print_event.new.said.items c.in-Print.is c.requires.call (h c.args.program.now c.args.out.now.records) is)
+    (λ end h is. says-row c.args.program.now c.args.machine.now c.print_event.new.machine c.args.texts.now c.args.call.now (Print c.in-Print.kind) end c.args.out.now.records c.args.out.now.said.items c.print_event.new.said.items c.in-Print.is c.requires.answers.call (h c.args.program.now c.args.out.now.records) is)
     c.print_event.ensures.event c.print_event.ensures.said
 
 pub returns-in-PrintLine-clause-event : goal.returns-in-PrintLine-clause-event
@@ -39,7 +39,7 @@ returns-in-PrintLine-clause-event g c =
 pub returns-in-PrintLine-clause-said : goal.returns-in-PrintLine-clause-said
 returns-in-PrintLine-clause-said g c =
     if_both c.print_line_event.result
-    (λ end h is. says-row c.args.program.now c.args.machine.now c.print_line_event.new.machine c.args.texts.now c.args.call.now (PrintLine c.in-PrintLine.kind) end c.args.out.now.records c.args.out.now.said.items c.print_line_event.new.said.items c.in-PrintLine.is c.requires.call (h c.args.program.now c.args.out.now.records) is)
+    (λ end h is. says-row c.args.program.now c.args.machine.now c.print_line_event.new.machine c.args.texts.now c.args.call.now (PrintLine c.in-PrintLine.kind) end c.args.out.now.records c.args.out.now.said.items c.print_line_event.new.said.items c.in-PrintLine.is c.requires.answers.call (h c.args.program.now c.args.out.now.records) is)
     c.print_line_event.ensures.event c.print_line_event.ensures.said
 
 pub returns-in-EndLine-clause-event : goal.returns-in-EndLine-clause-event
@@ -51,5 +51,5 @@ returns-in-EndLine-clause-event g c =
 pub returns-in-EndLine-clause-said : goal.returns-in-EndLine-clause-said
 returns-in-EndLine-clause-said g c =
     if_both c.end_line_event.result
-    (λ end h is. says-row c.args.program.now c.args.machine.now c.end_line_event.new.machine c.args.texts.now c.args.call.now (EndLine) end c.args.out.now.records c.args.out.now.said.items c.end_line_event.new.said.items c.in-EndLine.is c.requires.call (h c.args.program.now c.args.texts.now c.args.out.now.records) is)
+    (λ end h is. says-row c.args.program.now c.args.machine.now c.end_line_event.new.machine c.args.texts.now c.args.call.now (EndLine) end c.args.out.now.records c.args.out.now.said.items c.end_line_event.new.said.items c.in-EndLine.is c.requires.answers.call (h c.args.program.now c.args.texts.now c.args.out.now.records) is)
     c.end_line_event.ensures.event c.end_line_event.ensures.said

@@ -6,13 +6,20 @@ use Rattle.et_event.specs.Moments.{moment, begins}
 use Rattle.et_calls.proofs.FirstMethods.{answers_alike, code_is, entry_argument}
 use Rattle.et_calls.proofs.entry.mains.enter_main.Goals as goal
 
-pub enter_code-requires-clause-entered : goal.enter_code-requires-clause-entered
-enter_code-requires-clause-entered g c = record {
-  info = c.method-info.ensures.value;
-  class = c.method-info.ensures.class;
-  passed = (c.requires.fresh, entry_argument c.args.machine.now.guest c.args.thread c.entry_slot.result c.entry_slot.ensures);
-  classes = c.requires.classes;
-  ready = c.requires.ready;
+pub enter_code-requires : goal.enter_code-requires
+enter_code-requires g c = record {
+  enters = record {
+    order = c.requires.begins.order;
+    sound = c.requires.begins.sound;
+    clock = c.requires.begins.clock;
+    entered = record {
+      info = c.method-info.ensures.value;
+      class = c.method-info.ensures.class;
+      passed = (c.requires.begins.fresh, entry_argument c.args.machine.now.guest c.args.thread c.entry_slot.result c.entry_slot.ensures);
+      classes = c.requires.classes;
+      ready = c.requires.ready;
+    };
+  };
 }
 
 pub returns-clause-ok : goal.returns-clause-ok

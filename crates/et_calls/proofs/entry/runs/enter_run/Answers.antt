@@ -6,13 +6,20 @@ use Rattle.et_calls.proofs.CalledByCode.{none_within}
 use Rattle.et_calls.proofs.FirstMethods.{answers_alike, code_is, codeless_is, object_argument}
 use Rattle.et_calls.proofs.entry.runs.enter_run.Goals as goal
 
-pub enter_code-requires-clause-entered : goal.enter_code-requires-clause-entered
-enter_code-requires-clause-entered g c = record {
-  info = c.method-info.ensures.value;
-  class = c.method-info.ensures.class;
-  passed = (c.requires.fresh, object_argument c.args.machine.now.guest c.args.thread c.object_of.result (sym c.object_of.ensures));
-  classes = none_within (length c.args.program.now.classes);
-  ready = refl;
+pub enter_code-requires : goal.enter_code-requires
+enter_code-requires g c = record {
+  enters = record {
+    order = c.requires.begins.order;
+    sound = c.requires.begins.sound;
+    clock = c.requires.begins.clock;
+    entered = record {
+      info = c.method-info.ensures.value;
+      class = c.method-info.ensures.class;
+      passed = (c.requires.begins.fresh, object_argument c.args.machine.now.guest c.args.thread c.object_of.result (sym c.object_of.ensures));
+      classes = none_within (length c.args.program.now.classes);
+      ready = refl;
+    };
+  };
 }
 
 pub returns-in-Some-clause-ok : goal.returns-in-Some-clause-ok

@@ -1,6 +1,6 @@
 use Rattle.std.proofs.Common.{Some, None, sym, ap, ◌∙◌, arith}
 use Rattle.et_state.specs.Texts.{given_text, text_units}
-use Rattle.et_strings.proofs.Entries.{found, given-taken, size, spelled, units-remove, units-taken}
+use Rattle.et_strings.proofs.Entries.{found, given-taken, left-taken, size, spelled, units-remove, units-taken}
 use Rattle.et_strings.proofs.texts.Texts.take.Goals as goal
 
 pub overflow_sub-self : goal.overflow_sub-self
@@ -24,11 +24,17 @@ returns-in-None-clause-value c =
     found c.self.inside.own.entries c.args.self.now c.number.result None c.self.view_is (sym c.in-None.is ∙ c.remove.ensures.value)
     ∙ ap (given_text c.args.self.now) c.number.ensures.value
 
+pub returns-in-Some-clause-left : goal.returns-in-Some-clause-left
+returns-in-Some-clause-left c = left-taken c.args.o c.number.result c.self.inside.own.entries c.args.self.now c.remove.new.self.entries c.self.view_is c.self.invariant.ordered c.number.ensures.value c.remove.ensures.entries
+
 pub returns-in-Some-clause-given : goal.returns-in-Some-clause-given
 returns-in-Some-clause-given c = λ text. given-taken c.args.o c.number.result text c.self.inside.own.entries c.args.self.now c.remove.new.self.entries c.self.view_is c.self.invariant.ordered c.number.ensures.value c.remove.ensures.entries
 
 pub returns-in-Some-clause-units : goal.returns-in-Some-clause-units
 returns-in-Some-clause-units c = units-taken c.number.result c.self.inside.own.entries c.args.self.now c.remove.new.self.entries c.self.view_is c.remove.ensures.entries
+
+pub returns-in-None-clause-left : goal.returns-in-None-clause-left
+returns-in-None-clause-left c = left-taken c.args.o c.number.result c.self.inside.own.entries c.args.self.now c.remove.new.self.entries c.self.view_is c.self.invariant.ordered c.number.ensures.value c.remove.ensures.entries
 
 pub returns-in-None-clause-given : goal.returns-in-None-clause-given
 returns-in-None-clause-given c = λ text. given-taken c.args.o c.number.result text c.self.inside.own.entries c.args.self.now c.remove.new.self.entries c.self.view_is c.self.invariant.ordered c.number.ensures.value c.remove.ensures.entries
