@@ -44,7 +44,8 @@ use Rattle.et_event.proofs.Throwing.{ends_fit, ends_full}
 use Rattle.et_event.specs.InitializationOrder.{IsInOrder}
 use Rattle.et_initialize.proofs.Beginning.{strings_led}
 use Rattle.et_initialize.proofs.Preparing.{grown_prepared}
-use Rattle.et_initialize.proofs.Stepping.{after, base, base_threads, has_frame_on, made_after, monitors_after, threads_after, top_on}
+use Rattle.et_initialize.specs.Asked.{after}
+use Rattle.et_initialize.proofs.Stepping.{base, base_threads, has_frame_on, made_after, monitors_after, threads_after, top_on}
 use Rattle.et_builtins.specs.Arguments.{arguments_in}
 use Rattle.et_calls.specs.declared.new_frames.Entered.{Entered}
 use Rattle.et_calls.specs.declared.new_frames.Passed.{Passed}

@@ -38,16 +38,13 @@ use Rattle.et_event.specs.Initialization.{with_state, prepared, constants_set, b
 use Rattle.et_event.proofs.Throwing.{ends_fit, ends_full, framed}
 use Rattle.et_event.specs.InitializationOrder.{IsInOrder}
 use Rattle.et_initialize.specs.Under.{so_far, with_kept, InitializesTo, IsInitializing, HasMadeStrings}
+use Rattle.et_initialize.specs.Asked.{after}
 use Rattle.et_initialize.proofs.Setting.{fits_grown, follows_each}
 use Rattle.et_initialize.proofs.Running.{marked}
 use Rattle.et_initialize.proofs.Legal.{made_none, ready_first, made_constants}
 use Rattle.et_initialize.proofs.Records.{behind, behind_constants}
 use Rattle.et_initialize.proofs.Preparing.{ready_prepared, made_prepared, threads_prepared, behind_prepared, monitors_prepared}
 use Rattle.et_initialize.proofs.Beginning.{strings_led, few, begin_overflows}
-
--- what was done as the prerequisites were prepared
-abbrev pub after : Linked → MachineState → ℕ → List ℕ → Doing
-after p m t ks = prepared (moment p m t) ks (begins (moment p m t))
 
 -- the machine then
 abbrev pub base : Linked → MachineState → ℕ → List ℕ → MachineState

@@ -20,7 +20,7 @@ use Rattle.et_initialize.specs.declared.needs.Need.TheVariants.{Ready, Waits, Qu
 use Rattle.et_initialize.specs.Needs.{need_by, need_of, met}
 use Rattle.et_event.specs.InitializationOrder.{IsInOrder}
 use Rattle.et_initialize.proofs.Preparing.{true_false, blocked, blocker_state, turns_none, turns_prepared, all_pass, first_fails}
-use Rattle.et_initialize.proofs.Stepping.{after}
+use Rattle.et_initialize.specs.Asked.{after}
 
 -- an answer to the same outcome
 pub answers_alike : {E : Type 0} (r : Result EventEnd E) (x y : Outcome Kept) (m m' : MachineState) (out out' : List Record) → x ≡ y → IfOk r (λ end. EventAnswers y end m m' out out') → IfOk r (λ end. EventAnswers x end m m' out out')

@@ -1,3 +1,4 @@
 pub mod Needs
 pub mod Texts
 pub mod Under
+pub mod Asked

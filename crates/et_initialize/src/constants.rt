@@ -1,5 +1,5 @@
 //! The constant of a static field (JVMS 4.7.2).
-ghost use Rattle.std.specs.Prelude.{◌≡◌, ℕ, ◌+◌, ◌*◌, ◌<◌, ◌^◌, ◌++◌, ◌∷◌, [], true, None, List, Contains, IfOk, OnOk, length};
+ghost use Rattle.std.specs.Prelude.{◌≡◌, ℕ, ◌+◌, ◌*◌, ◌<◌, ◌^◌, ◌++◌, ◌∷◌, [], true, None, Contains, IfOk, OnOk, length};
 ghost use Rattle.et_base.specs.declared.value.Value.TheVariants.{Unset, Int, Long, Ref};
 ghost use Rattle.et_state.specs.Threads.{lost_room};
 ghost use Rattle.et_state.specs.Words.{static_at, with_static};
@@ -7,10 +7,10 @@ ghost use Rattle.et_state.specs.Interned.{object_of, interned_objects};
 ghost use Rattle.et_program.specs.Entries.{field_at};
 ghost use Rattle.et_event.specs.Kinds.{narrowed_int};
 ghost use Rattle.et_event.specs.Moments.{moment, fits_heap};
-ghost use Rattle.et_event.specs.Sites.{AString, constant_at, pool_of_class};
+ghost use Rattle.et_event.specs.Sites.{AString, constant_at};
 ghost use Rattle.et_event.specs.Strings.{interned, string_object};
 ghost use Rattle.et_event.specs.Initialization.{constant_set, field_set};
-ghost use Rattle.et_initialize.specs.Under.{so_far, with_kept, InitializesTo};
+ghost use Rattle.et_initialize.specs.Under.{so_far, InitializesTo};
 
 use et_base::{ClassId, FieldId, NoMemory, ObjectId, ThreadId, Value, to_byte, to_char, to_short};
 use et_event::{add_instance, class_called, tell_update};

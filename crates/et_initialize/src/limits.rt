@@ -1,5 +1,5 @@
 //! Whether what an event makes fits, with the strings that the constants of classes make.
-ghost use Rattle.std.specs.Prelude.{◌≡◌, ℕ, ◌<◌, ◌||◌, [], true, All, IfOk, OnOk, length, fold, option_map, is_some};
+ghost use Rattle.std.specs.Prelude.{◌≡◌, ℕ, ◌<◌, ◌||◌, true, All, IfOk, OnOk, length, fold, option_map, is_some};
 ghost use Rattle.std.specs.List.{list_all, list_any};
 ghost use Rattle.et_heap.specs.Objects.{has_room};
 ghost use Rattle.et_state.specs.declared.class_state.ClassState.{ClassState as State};
@@ -8,7 +8,6 @@ ghost use Rattle.et_state.specs.State.{Kept};
 ghost use Rattle.et_state.specs.Words.{class_state_at};
 ghost use Rattle.et_event.specs.InitializationOrder.{IsInOrder};
 ghost use Rattle.et_state.specs.Interned.{object_of};
-ghost use Rattle.et_program.specs.Entries.{class_at};
 ghost use Rattle.et_event.specs.Moments.{moment, Doing, begins, fits_heap as all_fit};
 ghost use Rattle.et_event.specs.Initialization.{state_of, field_set, constants_set, with_state, class_done, quietly_done, is_ready, prepared};
 ghost use Rattle.et_initialize.specs.Texts.{constant_text as text_in, has_text, string_slots as slots_of_string, has_room_for as room_for, Counted, CountedAll};

@@ -7,6 +7,7 @@ ghost use Rattle.et_state.specs.Words.{static_at};
 ghost use Rattle.et_event.specs.Moments.{moment, fits_heap};
 ghost use Rattle.et_event.specs.Initialization.{constants_set, class_done, quietly_done, state_of};
 ghost use Rattle.et_event.specs.InitializationOrder.{IsInOrder};
+ghost use Rattle.et_initialize.specs.Asked.{MaySet};
 ghost use Rattle.et_initialize.specs.Under.{so_far, InitializesTo, IsInitializing, class_of_slot};
 
 use crate::constants::set_field;
@@ -22,12 +23,10 @@ pub(crate) fn set_constants(
     class: ClassId,
     out: &mut Lines,
 ) -> Result<(), NoMemory>
-    requires program { IsInOrder program.now }
+    requires sets { MaySet program.now machine.old }
     requires class { class < length program.now.classes }
-    requires ready { IsInitializing program.now (kept_of machine.old) }
     requires unset { (i : ℕ) → i < length program.now.statics →
         class_of_slot program.now i ≡ class → static_at machine.old.guest i ≡ Unset }
-    requires lost { length machine.old.lost < lost_room }
     requires fits { fits_heap (constants_set (moment program.now machine.old thread) class
         (so_far machine.old out.old)).state.heap ≡ true }
     ensures { OnOk result (InitializesTo (constants_set (moment program.now machine.old thread)
@@ -49,10 +48,8 @@ fn set_done(
     class: ClassId,
     out: &mut Lines,
 ) -> Result<(), NoMemory>
-    requires program { IsInOrder program.now }
+    requires sets { MaySet program.now machine.old }
     requires class { class < length program.now.classes }
-    requires ready { IsInitializing program.now (kept_of machine.old) }
-    requires lost { length machine.old.lost < lost_room }
     requires fits { fits_heap (class_done (moment program.now machine.old thread) class
         (state_of
         (so_far machine.old out.old) class) (so_far machine.old out.old)).state.heap ≡ true }

@@ -1,7 +1,7 @@
 //! The turns of an initializer that has not entered `<clinit>` yet.
 ghost use Rattle.std.specs.Prelude.{◌≡◌, ◌<◌, ◌≤◌, ◌^◌, ◌++◌, true, false, None, All, IfOk, OnOk, length, take, slice_index_or};
 ghost use Rattle.std.specs.List.{list_all};
-ghost use Rattle.et_state.specs.Threads.{lost_room, most_frames};
+ghost use Rattle.et_state.specs.Threads.{most_frames};
 ghost use Rattle.et_state.specs.declared.class_state.ClassState.TheVariants as states;
 ghost use Rattle.et_state.specs.State.{kept_of};
 ghost use Rattle.et_state.specs.declared.stage.Stage.TheVariants as stages;
@@ -15,7 +15,8 @@ ghost use Rattle.et_event.specs.Sites.{present_body};
 ghost use Rattle.et_event.specs.Sound.{IsSoundFor};
 ghost use Rattle.et_event.specs.Initialization.{is_ready as ready, prepared, quietly_if_untouched, state_of, with_state, constants_set, begins_class, enters_clinit, initialized, initialization_step};
 ghost use Rattle.et_event.specs.InitializationOrder.{IsInOrder};
-ghost use Rattle.et_initialize.specs.Under.{so_far, InitializesTo, IsInitializing};
+ghost use Rattle.et_initialize.specs.Asked.{MayGoOn, MayPrepare, MaySet, after};
+ghost use Rattle.et_initialize.specs.Under.{so_far, InitializesTo};
 
 use crate::begins::{MOST_FRAMES, initializer};
 use crate::limits::{prepared_class_fits, prepared_fit};
@@ -35,10 +36,8 @@ fn prepare_class(
     class: ClassId,
     out: &mut Lines,
 ) -> Result<(), NoMemory>
-    requires program { IsInOrder program.now }
+    requires sets { MaySet program.now machine.old }
     requires class { class < length program.now.classes }
-    requires ready { IsInitializing program.now (kept_of machine.old) }
-    requires lost { length machine.old.lost < lost_room }
     requires fits { fits_heap (quietly_if_untouched (moment program.now machine.old thread)
         class
         (state_of (so_far machine.old out.old) class) (so_far machine.old out.old)).state.heap
@@ -61,10 +60,8 @@ pub(crate) fn prepare(
     classes: &[ClassId],
     out: &mut Lines,
 ) -> Result<(), NoMemory>
-    requires program { IsInOrder program.now }
+    requires sets { MaySet program.now machine.old }
     requires classes { All (λ c. c < length program.now.classes) classes.now }
-    requires ready { IsInitializing program.now (kept_of machine.old) }
-    requires lost { length machine.old.lost < lost_room }
     requires fits { fits_heap (prepared (moment program.now machine.old thread) classes.now
         (so_far machine.old out.old)).state.heap ≡ true }
     ensures { OnOk result (InitializesTo (prepared (moment program.now machine.old thread)
@@ -132,17 +129,12 @@ pub fn begin_prepared(
     classes: &[ClassId],
     out: &mut Lines,
 ) -> Result<(), NoMemory>
-    requires program { IsInOrder program.now }
-    requires classes { All (λ c. c < length program.now.classes) classes.now }
-    requires sound { IsSoundFor program.now (kept_of machine.old) }
-    requires clock { machine.old.guest.clock < 2 ^ 40 }
-    requires fits { fits_heap (prepared (moment program.now machine.old thread) classes.now
-        (begins (moment program.now machine.old thread))).state.heap ≡ true }
+    requires prepares { MayPrepare program.now machine.old classes.now }
+    requires fits { fits_heap (after program.now machine.old thread classes.now).state.heap
+        ≡ true }
     ensures { OnOk result (InitializesTo (record {
-      state = (prepared (moment program.now
-          machine.old thread) classes.now (begins (moment program.now machine.old thread))).state;
-      records = out.old ++ (prepared (moment program.now machine.old thread) classes.now
-          (begins (moment program.now machine.old thread))).records;
+      state = (after program.now machine.old thread classes.now).state;
+      records = out.old ++ (after program.now machine.old thread classes.now).records;
     })
         (begun machine.old) machine.new out.new) }
 {
@@ -159,17 +151,14 @@ fn finish(
     classes: &[ClassId],
     out: &mut Lines,
 ) -> Result<EventEnd, NoMemory>
-    requires program { IsInOrder program.now }
-    requires classes { All (λ c. c < length program.now.classes) classes.now }
-    requires sound { IsSoundFor program.now (kept_of machine.old) }
-    requires clock { machine.old.guest.clock < 2 ^ 40 }
+    requires prepares { MayPrepare program.now machine.old classes.now }
     requires frame { HasFrame machine.old.guest thread }
     requires stage { (top machine.old.guest thread).stage ≡ stages.Before class }
-    requires fits { fits_heap (prepared (moment program.now machine.old thread) classes.now
-        (begins (moment program.now machine.old thread))).state.heap ≡ true }
+    requires fits { fits_heap (after program.now machine.old thread classes.now).state.heap
+        ≡ true }
     ensures { IfOk result (λ end. EventAnswers (enters_clinit (moment program.now machine.old
-        thread) class None (prepared (moment program.now machine.old thread) classes.now (begins
-        (moment program.now machine.old thread)))) end machine.old machine.new out.old out.new) }
+        thread) class None (after program.now machine.old thread classes.now))
+        end machine.old machine.new out.old out.new) }
 {
     begin_prepared(program, machine, thread, classes, out)?;
     machine.set_class_state(class, ClassState::Done);
@@ -187,19 +176,16 @@ fn enter(
     classes: &[ClassId],
     out: &mut Lines,
 ) -> Result<EventEnd, NoMemory>
-    requires program { IsInOrder program.now }
+    requires prepares { MayPrepare program.now machine.old classes.now }
     requires clinit { clinit < length program.now.methods }
-    requires classes { All (λ c. c < length program.now.classes) classes.now }
-    requires sound { IsSoundFor program.now (kept_of machine.old) }
-    requires clock { machine.old.guest.clock < 2 ^ 40 }
     requires frame { HasFrame machine.old.guest thread }
     requires stage { (top machine.old.guest thread).stage ≡ stages.Before class }
-    requires fits { fits_heap (prepared (moment program.now machine.old thread) classes.now
-        (begins (moment program.now machine.old thread))).state.heap ≡ true }
+    requires fits { fits_heap (after program.now machine.old thread classes.now).state.heap
+        ≡ true }
     ensures { IfOk result
         (λ end. EventAnswers (enters_clinit (moment program.now machine.old thread) class
-        (Some clinit) (prepared (moment program.now machine.old thread) classes.now (begins
-        (moment program.now machine.old thread)))) end machine.old machine.new out.old out.new) }
+        (Some clinit) (after program.now machine.old thread classes.now))
+        end machine.old machine.new out.old out.new) }
 {
     let (max_stack, max_locals) = frame_size(program.method(clinit));
     begin_prepared(program, machine, thread, classes, out)?;
@@ -222,17 +208,13 @@ fn throw_prepared(
     error: GuestError,
     out: &mut Lines,
 ) -> Result<EventEnd, NoMemory>
-    requires program { IsInOrder program.now }
-    requires classes { All (λ c. c < length program.now.classes) classes.now }
-    requires sound { IsSoundFor program.now (kept_of machine.old) }
-    requires clock { machine.old.guest.clock < 2 ^ 40 }
+    requires prepares { MayPrepare program.now machine.old classes.now }
     requires frame { HasFrame machine.old.guest thread }
-    requires room { has_room (prepared (moment program.now machine.old thread) classes.now
-        (begins (moment program.now machine.old thread))).state.heap 1
+    requires room { has_room (after program.now machine.old thread classes.now).state.heap 1
         (class_at program.now (error_class program.now error)).info.slots ≡ true }
     ensures { IfOk result (λ end. EventAnswers (throws (moment program.now machine.old thread) error
-        (prepared (moment program.now machine.old thread) classes.now (begins
-        (moment program.now machine.old thread)))) end machine.old machine.new out.old out.new) }
+        (after program.now machine.old thread classes.now))
+        end machine.old machine.new out.old out.new) }
 {
     let class = class_called(program, error.class());
     begin_prepared(program, machine, thread, classes, out)?;
@@ -252,16 +234,10 @@ pub fn throw_after(
     error: GuestError,
     out: &mut Lines,
 ) -> Result<EventEnd, NoMemory>
-    requires program { IsInOrder program.now }
-    requires classes { All (λ c. c < length program.now.classes) classes.now }
-    requires sound { IsSoundFor program.now (kept_of machine.old) }
-    requires clock { machine.old.guest.clock < 2 ^ 40 }
-    requires frame { HasFrame machine.old.guest thread }
-    requires ready { list_all (ready (moment program.now machine.old thread)
-        (begins (moment program.now machine.old thread))) classes.now ≡ true }
+    requires goes { MayGoOn program.now machine.old thread classes.now }
     ensures { IfOk result (λ end. EventAnswers (throws (moment program.now machine.old thread) error
-        (prepared (moment program.now machine.old thread) classes.now (begins
-        (moment program.now machine.old thread)))) end machine.old machine.new out.old out.new) }
+        (after program.now machine.old thread classes.now))
+        end machine.old machine.new out.old out.new) }
 {
     let slots = slots_of(program, class_called(program, error.class()));
     if !prepared_fit(alloc, program, machine, classes, 1, slots)? {
@@ -280,21 +256,18 @@ fn begin_blocker(
     class: ClassId,
     out: &mut Lines,
 ) -> Result<EventEnd, NoMemory>
-    requires program { IsInOrder program.now }
-    requires class { class < length program.now.classes }
-    requires classes { All (λ c. c < length program.now.classes) classes.now }
-    requires sound { IsSoundFor program.now (kept_of machine.old) }
-    requires clock { machine.old.guest.clock < 2 ^ 40 }
+    requires prepares { MayPrepare program.now machine.old classes.now }
     requires frame { HasFrame machine.old.guest thread }
+    requires class { class < length program.now.classes }
     requires frames { length (thread_at machine.old.guest thread).frames < most_frames }
-    requires untouched { state_of (prepared (moment program.now machine.old thread) classes.now
-        (begins (moment program.now machine.old thread))) class ≡ states.Untouched }
+    requires untouched { state_of (after program.now machine.old thread classes.now) class
+        ≡ states.Untouched }
     requires fits { fits_heap (constants_set (moment program.now machine.old thread) class
-        (with_state class (states.Begun thread) (prepared (moment program.now machine.old thread)
-        classes.now (begins (moment program.now machine.old thread))))).state.heap ≡ true }
+        (with_state class (states.Begun thread)
+        (after program.now machine.old thread classes.now))).state.heap ≡ true }
     ensures { IfOk result (λ end. EventAnswers (begins_class (moment program.now machine.old thread)
-        class (prepared (moment program.now machine.old thread) classes.now (begins
-        (moment program.now machine.old thread)))) end machine.old machine.new out.old out.new) }
+        class (after program.now machine.old thread classes.now))
+        end machine.old machine.new out.old out.new) }
 {
     begin_prepared(program, machine, thread, classes, out)?;
     machine.set_class_state(class, ClassState::Begun(thread));
@@ -314,19 +287,13 @@ fn begin_after(
     class: ClassId,
     out: &mut Lines,
 ) -> Result<EventEnd, NoMemory>
-    requires program { IsInOrder program.now }
+    requires goes { MayGoOn program.now machine.old thread classes.now }
     requires class { class < length program.now.classes }
-    requires classes { All (λ c. c < length program.now.classes) classes.now }
-    requires sound { IsSoundFor program.now (kept_of machine.old) }
-    requires clock { machine.old.guest.clock < 2 ^ 40 }
-    requires frame { HasFrame machine.old.guest thread }
-    requires ready { list_all (ready (moment program.now machine.old thread)
-        (begins (moment program.now machine.old thread))) classes.now ≡ true }
-    requires untouched { state_of (prepared (moment program.now machine.old thread) classes.now
-        (begins (moment program.now machine.old thread))) class ≡ states.Untouched }
+    requires untouched { state_of (after program.now machine.old thread classes.now) class
+        ≡ states.Untouched }
     ensures { IfOk result (λ end. EventAnswers (begins_class (moment program.now machine.old thread)
-        class (prepared (moment program.now machine.old thread) classes.now (begins
-        (moment program.now machine.old thread)))) end machine.old machine.new out.old out.new) }
+        class (after program.now machine.old thread classes.now))
+        end machine.old machine.new out.old out.new) }
 {
     if machine.frames(thread) >= MOST_FRAMES {
         let error = GuestError::StackOverflowError;
@@ -348,19 +315,13 @@ fn blocked_event(
     blocker: ClassId,
     out: &mut Lines,
 ) -> Result<EventEnd, NoMemory>
-    requires program { IsInOrder program.now }
+    requires goes { MayGoOn program.now machine.old thread classes.now }
     requires class { blocker < length program.now.classes }
-    requires classes { All (λ c. c < length program.now.classes) classes.now }
-    requires sound { IsSoundFor program.now (kept_of machine.old) }
-    requires clock { machine.old.guest.clock < 2 ^ 40 }
-    requires frame { HasFrame machine.old.guest thread }
-    requires ready { list_all (ready (moment program.now machine.old thread)
-        (begins (moment program.now machine.old thread))) classes.now ≡ true }
     requires blocked { ready (moment program.now machine.old thread)
         (begins (moment program.now machine.old thread)) blocker ≡ false }
     ensures { IfOk result (λ end. EventAnswers (initialized (moment program.now machine.old thread)
-        (prepared (moment program.now machine.old thread) classes.now (begins (moment program.now
-        machine.old thread))) blocker ending) end machine.old machine.new out.old out.new) }
+        (after program.now machine.old thread classes.now) blocker ending)
+        end machine.old machine.new out.old out.new) }
 {
     match need_of(program, machine, thread, blocker) {
         Need::Begins => begin_after(alloc, program, machine, thread, classes, blocker, out),
@@ -383,19 +344,13 @@ fn enter_event(
     classes: &[ClassId],
     out: &mut Lines,
 ) -> Result<EventEnd, NoMemory>
-    requires program { IsInOrder program.now }
+    requires goes { MayGoOn program.now machine.old thread classes.now }
     requires class { class < length program.now.classes }
-    requires classes { All (λ c. c < length program.now.classes) classes.now }
-    requires sound { IsSoundFor program.now (kept_of machine.old) }
-    requires clock { machine.old.guest.clock < 2 ^ 40 }
-    requires frame { HasFrame machine.old.guest thread }
     requires stage { (top machine.old.guest thread).stage ≡ stages.Before class }
-    requires ready { list_all (ready (moment program.now machine.old thread)
-        (begins (moment program.now machine.old thread))) classes.now ≡ true }
     ensures { IfOk result (λ end. EventAnswers (enters_clinit
         (moment program.now machine.old thread) class (class_at program.now class).info.clinit
-        (prepared (moment program.now machine.old thread) classes.now (begins
-        (moment program.now machine.old thread)))) end machine.old machine.new out.old out.new) }
+        (after program.now machine.old thread classes.now))
+        end machine.old machine.new out.old out.new) }
 {
     if !prepared_fit(alloc, program, machine, classes, 0, 0)? {
         return Ok(EventEnd::ObjectLimit);

@@ -38,12 +38,18 @@ enter_code-requires g c =
       };
     }
 
-pub throw_after-requires-clause-ready : goal.throw_after-requires-clause-ready
-throw_after-requires-clause-ready g c =
+pub throw_after-requires : goal.throw_after-requires
+throw_after-requires g c =
     let p = c.args.program.now in
     let e = moment p c.args.machine.now c.args.thread in
     let class : c.method-info.result.now.class ≡ (method_at p c.args.call.method).class = ap (λ (i : MethodInfo). i.class) c.method-info.ensures.value in
-    ap (λ (k : ℕ). list_all (is_ready e (begins e)) (k ∷ [])) class ∙ one_ready e (method_at p c.args.call.method).class (begins e) c.requires.plan.2 c.requires.quiet
+    record {
+      goes = record {
+        prepares = record { order = c.requires.invoke.order; classes = one_within c.method-info.result.now.class (length p.classes) c.method-info.ensures.class; sound = c.requires.invoke.sound; clock = c.requires.invoke.clock };
+        frame = c.requires.invoke.frame;
+        ready = ap (λ (k : ℕ). list_all (is_ready e (begins e)) (k ∷ [])) class ∙ one_ready e (method_at p c.args.call.method).class (begins e) c.requires.plan.2 c.requires.quiet;
+      };
+    }
 
 pub returns-in-Some-clause-ok : goal.returns-in-Some-clause-ok
 returns-in-Some-clause-ok g c =

@@ -8,12 +8,18 @@ use Rattle.et_calls.specs.Entering.{pushed_event}
 use Rattle.et_calls.proofs.EnteredFrames.{fits_few, fits_full, full_frame, unfit}
 use Rattle.et_calls.proofs.entering.fitting_frame_event.Goals as goal
 
-pub throw_after-requires-clause-frame : goal.throw_after-requires-clause-frame
-throw_after-requires-clause-frame g c =
+pub throw_after-requires : goal.throw_after-requires
+throw_after-requires g c =
     let m = c.args.machine.now in
     let t = c.args.thread in
     let le : most_frames ≤ length (thread_at m.guest t).frames = omega (arith, c.if-frames-ge-MOST_FRAMES.true, c.frames.ensures.value) in
-    full_frame c.args.program.now t c.args.entered.now m c.requires.enters.entered le
+    record {
+      goes = record {
+        prepares = record { order = c.requires.enters.order; classes = c.requires.enters.entered.classes; sound = c.requires.enters.sound; clock = c.requires.enters.clock };
+        frame = full_frame c.args.program.now t c.args.entered.now m c.requires.enters.entered le;
+        ready = c.requires.enters.entered.ready;
+      };
+    }
 
 pub push_event-requires-clause-few : goal.push_event-requires-clause-few
 push_event-requires-clause-few g c = omega (arith, c.if-frames-ge-MOST_FRAMES.false, c.frames.ensures.value)

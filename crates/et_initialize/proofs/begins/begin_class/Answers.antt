@@ -1,17 +1,22 @@
 use Rattle.std.proofs.Common.{◌<◌, List, length, sym, subst}
-use Rattle.et_state.specs.Threads.{ThreadState, most_frames}
+use Rattle.et_state.specs.State.{MachineState}
+use Rattle.et_state.specs.Threads.{ThreadState, lost_room, most_frames}
 use Rattle.et_state.specs.declared.class_state.ClassState.TheVariants.{Begun}
 use Rattle.std.specs.Prelude.{slice_index_or}
 use Rattle.et_state.specs.Threads.{no_thread}
 use Rattle.et_initialize.proofs.Setting.{begun_untouched}
 use Rattle.et_initialize.proofs.Running.{marked_ready}
-use Rattle.et_initialize.proofs.Beginning.{begin_ready, begin_marked, begin_fits, begin_few, begin_led, begin_records}
+use Rattle.et_initialize.proofs.Beginning.{begin_ready, begin_lost, begin_marked, begin_fits, begin_few, begin_led, begin_records}
 use Rattle.et_initialize.proofs.begins.begin_class.Goals as goal
 
-pub set_constants-requires-clause-ready : goal.set_constants-requires-clause-ready
-set_constants-requires-clause-ready c =
-    marked_ready c.args.program.now c.args.class (Begun c.args.thread) c.begin_event.new.self c.set_class_state.new.self c.requires.class (begun_untouched c.args.thread)
-    (begin_ready c.args.program.now c.args.machine.now c.begin_event.new.self c.requires.sound c.begin_event.ensures) c.set_class_state.ensures
+pub set_constants-requires-clause-sets : goal.set_constants-requires-clause-sets
+set_constants-requires-clause-sets c = record {
+  order = c.requires.program;
+  ready =
+      marked_ready c.args.program.now c.args.class (Begun c.args.thread) c.begin_event.new.self c.set_class_state.new.self c.requires.class (begun_untouched c.args.thread)
+      (begin_ready c.args.program.now c.args.machine.now c.begin_event.new.self c.requires.sound c.begin_event.ensures) c.set_class_state.ensures;
+  lost = subst (λ (m : MachineState). length m.lost < lost_room) (sym c.set_class_state.ensures) (begin_lost c.args.machine.now c.begin_event.new.self c.begin_event.ensures);
+}
 
 pub set_constants-requires-clause-fits : goal.set_constants-requires-clause-fits
 set_constants-requires-clause-fits c =

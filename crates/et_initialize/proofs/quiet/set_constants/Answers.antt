@@ -13,22 +13,22 @@ pub set_field-requires-clause-slot : goal.set_field-requires-clause-slot
 set_field-requires-clause-slot c =
     let fs : c.as_slice-constants.result.now ≡ (class_at c.args.program.now c.args.class).info.constants = c.as_slice-constants.ensures.value ∙ ap (λ (i : ClassInfoOf). i.constants) c.class.ensures.value in
     (field_can c.args.program.now c.args.thread c.args.class c.args.machine.now c.loop-k.machine c.args.out.now c.loop-k.out c.as_slice-constants.result.now c.loop-k.k c.index-constants-k.result
-    c.requires.program c.requires.class c.requires.ready c.requires.unset fs c.loop-k-test.true c.index-constants-k.is c.loop-k.invariant).slot
+    c.requires.sets.order c.requires.class c.requires.sets.ready c.requires.unset fs c.loop-k-test.true c.index-constants-k.is c.loop-k.invariant).slot
 
 pub set_field-requires-clause-unset : goal.set_field-requires-clause-unset
 set_field-requires-clause-unset c =
     let fs : c.as_slice-constants.result.now ≡ (class_at c.args.program.now c.args.class).info.constants = c.as_slice-constants.ensures.value ∙ ap (λ (i : ClassInfoOf). i.constants) c.class.ensures.value in
     (field_can c.args.program.now c.args.thread c.args.class c.args.machine.now c.loop-k.machine c.args.out.now c.loop-k.out c.as_slice-constants.result.now c.loop-k.k c.index-constants-k.result
-    c.requires.program c.requires.class c.requires.ready c.requires.unset fs c.loop-k-test.true c.index-constants-k.is c.loop-k.invariant).unset
+    c.requires.sets.order c.requires.class c.requires.sets.ready c.requires.unset fs c.loop-k-test.true c.index-constants-k.is c.loop-k.invariant).unset
 
 pub set_field-requires-clause-lost : goal.set_field-requires-clause-lost
-set_field-requires-clause-lost c = subst (λ (m : MachineState). length m.lost < lost_room) (sym c.loop-k.invariant.0) c.requires.lost
+set_field-requires-clause-lost c = subst (λ (m : MachineState). length m.lost < lost_room) (sym c.loop-k.invariant.0) c.requires.sets.lost
 
 pub set_field-requires-clause-made : goal.set_field-requires-clause-made
 set_field-requires-clause-made c =
     let fs : c.as_slice-constants.result.now ≡ (class_at c.args.program.now c.args.class).info.constants = c.as_slice-constants.ensures.value ∙ ap (λ (i : ClassInfoOf). i.constants) c.class.ensures.value in
     (field_can c.args.program.now c.args.thread c.args.class c.args.machine.now c.loop-k.machine c.args.out.now c.loop-k.out c.as_slice-constants.result.now c.loop-k.k c.index-constants-k.result
-    c.requires.program c.requires.class c.requires.ready c.requires.unset fs c.loop-k-test.true c.index-constants-k.is c.loop-k.invariant).made
+    c.requires.sets.order c.requires.class c.requires.sets.ready c.requires.unset fs c.loop-k-test.true c.index-constants-k.is c.loop-k.invariant).made
 
 pub set_field-requires-clause-fits : goal.set_field-requires-clause-fits
 set_field-requires-clause-fits c =

@@ -8,12 +8,12 @@ use Rattle.et_initialize.proofs.Setting.{done_step}
 use Rattle.et_initialize.proofs.Running.{class_ready, class_has_room, class_came}
 use Rattle.et_initialize.proofs.quiet.set_quietly.Goals as goal
 
-pub set_done-requires-clause-ready : goal.set_done-requires-clause-ready
-set_done-requires-clause-ready c =
-    class_ready c.args.program.now c.args.thread c.args.machine.now c.loop-k.machine c.args.out.now c.loop-k.out c.init_order-order.result.now c.loop-k.k c.requires.program c.loop-k-test.true c.init_order-order.ensures.within c.requires.ready c.loop-k.invariant
-
-pub set_done-requires-clause-lost : goal.set_done-requires-clause-lost
-set_done-requires-clause-lost c = subst (λ (m : MachineState). length m.lost < lost_room) (sym c.loop-k.invariant.0) c.requires.lost
+pub set_done-requires-clause-sets : goal.set_done-requires-clause-sets
+set_done-requires-clause-sets c = record {
+  order = c.requires.program;
+  ready = class_ready c.args.program.now c.args.thread c.args.machine.now c.loop-k.machine c.args.out.now c.loop-k.out c.init_order-order.result.now c.loop-k.k c.requires.program c.loop-k-test.true c.init_order-order.ensures.within c.requires.ready c.loop-k.invariant;
+  lost = subst (λ (m : MachineState). length m.lost < lost_room) (sym c.loop-k.invariant.0) c.requires.lost;
+}
 
 pub set_done-requires-clause-fits : goal.set_done-requires-clause-fits
 set_done-requires-clause-fits c =

@@ -13,4 +13,4 @@ returns-then-frames-ge-MOST_FRAMES c =
 pub returns-then-not-branch : goal.returns-then-not-branch
 returns-then-not-branch c =
     began_full c.args.program.now c.args.thread c.args.class c.args.classes.now c.args.machine.now c.args.out.now (subst (λ n. n < most_frames) c.frames.ensures.value c.if-frames-ge-MOST_FRAMES.false)
-    (sym (c.in_ok-prepared_class_fits.ensures c.args.thread c.requires.ready (Begun c.args.thread)) ∙ c.if-not-branch.true)
+    (sym (c.in_ok-prepared_class_fits.ensures c.args.thread c.requires.goes.ready (Begun c.args.thread)) ∙ c.if-not-branch.true)

@@ -12,22 +12,22 @@ begin_prepared-requires-clause-fits c = begin_less c.args.program.now c.args.thr
 
 pub set_class_state-requires : goal.set_class_state-requires
 set_class_state-requires c =
-    base_classes c.args.program.now c.args.thread c.args.class c.args.classes.now c.args.machine.now c.begin_prepared.new.machine c.requires.program c.requires.classes c.requires.sound c.in_ok-begin_prepared.ensures.0 c.requires.class
+    base_classes c.args.program.now c.args.thread c.args.class c.args.classes.now c.args.machine.now c.begin_prepared.new.machine c.requires.prepares.order c.requires.prepares.classes c.requires.prepares.sound c.in_ok-begin_prepared.ensures.0 c.requires.class
 
-pub set_constants-requires-clause-ready : goal.set_constants-requires-clause-ready
-set_constants-requires-clause-ready c =
-    marked_ready c.args.program.now c.args.class (Begun c.args.thread) c.begin_prepared.new.machine c.set_class_state.new.self c.requires.class (begun_untouched c.args.thread)
-    (base_ready c.args.program.now c.args.thread c.args.classes.now c.args.machine.now c.begin_prepared.new.machine c.requires.program c.requires.classes c.requires.sound c.in_ok-begin_prepared.ensures.0) c.set_class_state.ensures
+pub set_constants-requires-clause-sets : goal.set_constants-requires-clause-sets
+set_constants-requires-clause-sets c = record {
+  order = c.requires.prepares.order;
+  ready =
+      marked_ready c.args.program.now c.args.class (Begun c.args.thread) c.begin_prepared.new.machine c.set_class_state.new.self c.requires.class (begun_untouched c.args.thread)
+      (base_ready c.args.program.now c.args.thread c.args.classes.now c.args.machine.now c.begin_prepared.new.machine c.requires.prepares.order c.requires.prepares.classes c.requires.prepares.sound c.in_ok-begin_prepared.ensures.0) c.set_class_state.ensures;
+  lost = base_lost c.args.program.now c.args.thread c.args.class (Begun c.args.thread) c.args.classes.now c.args.machine.now c.begin_prepared.new.machine c.set_class_state.new.self c.in_ok-begin_prepared.ensures.0 c.set_class_state.ensures;
+}
 
 pub set_constants-requires-clause-unset : goal.set_constants-requires-clause-unset
 set_constants-requires-clause-unset c =
     marked_unset c.args.program.now c.args.class (Begun c.args.thread) c.begin_prepared.new.machine c.set_class_state.new.self
-    (base_ready c.args.program.now c.args.thread c.args.classes.now c.args.machine.now c.begin_prepared.new.machine c.requires.program c.requires.classes c.requires.sound c.in_ok-begin_prepared.ensures.0)
+    (base_ready c.args.program.now c.args.thread c.args.classes.now c.args.machine.now c.begin_prepared.new.machine c.requires.prepares.order c.requires.prepares.classes c.requires.prepares.sound c.in_ok-begin_prepared.ensures.0)
     (base_state c.args.program.now c.args.thread c.args.class c.args.classes.now c.args.machine.now c.begin_prepared.new.machine c.in_ok-begin_prepared.ensures.0 c.requires.untouched) c.set_class_state.ensures
-
-pub set_constants-requires-clause-lost : goal.set_constants-requires-clause-lost
-set_constants-requires-clause-lost c =
-    base_lost c.args.program.now c.args.thread c.args.class (Begun c.args.thread) c.args.classes.now c.args.machine.now c.begin_prepared.new.machine c.set_class_state.new.self c.in_ok-begin_prepared.ensures.0 c.set_class_state.ensures
 
 pub set_constants-requires-clause-fits : goal.set_constants-requires-clause-fits
 set_constants-requires-clause-fits c =
@@ -47,4 +47,4 @@ pub returns : goal.returns
 returns c =
     began_done c.args.program.now c.args.thread c.args.class c.args.classes.now c.args.machine.now c.enter_frame.new.self c.args.out.now c.set_constants.new.out c.requires.frames c.requires.fits
     (began_led c.args.program.now c.args.thread c.args.class c.args.classes.now c.args.machine.now c.begin_prepared.new.machine c.set_class_state.new.self c.set_constants.new.machine c.enter_frame.new.self c.args.out.now c.begin_prepared.new.out c.set_constants.new.out _
-    c.requires.program c.requires.classes c.requires.class c.requires.sound c.requires.frame.thread c.requires.untouched c.in_ok-begin_prepared.ensures.0 c.in_ok-begin_prepared.ensures.1 c.set_class_state.ensures c.in_ok-set_constants.ensures c.initializer.ensures.frame c.in_ok-enter_frame.ensures.ok)
+    c.requires.prepares.order c.requires.prepares.classes c.requires.class c.requires.prepares.sound c.requires.frame.thread c.requires.untouched c.in_ok-begin_prepared.ensures.0 c.in_ok-begin_prepared.ensures.1 c.set_class_state.ensures c.in_ok-set_constants.ensures c.initializer.ensures.frame c.in_ok-enter_frame.ensures.ok)

@@ -4,8 +4,8 @@ use Rattle.et_initialize.proofs.steps.finish.Goals as goal
 
 pub set_class_state-requires : goal.set_class_state-requires
 set_class_state-requires c =
-    base_classes c.args.program.now c.args.thread c.args.class c.args.classes.now c.args.machine.now c.begin_prepared.new.machine c.requires.program c.requires.classes c.requires.sound c.in_ok-begin_prepared.ensures.0
-    (waiting c.args.program.now c.args.class c.args.thread c.args.machine.now c.requires.sound c.requires.frame c.requires.stage).class
+    base_classes c.args.program.now c.args.thread c.args.class c.args.classes.now c.args.machine.now c.begin_prepared.new.machine c.requires.prepares.order c.requires.prepares.classes c.requires.prepares.sound c.in_ok-begin_prepared.ensures.0
+    (waiting c.args.program.now c.args.class c.args.thread c.args.machine.now c.requires.prepares.sound c.requires.frame c.requires.stage).class
 
 pub drop_frame-requires-clause-frame : goal.drop_frame-requires-clause-frame
 drop_frame-requires-clause-frame c =
@@ -15,9 +15,9 @@ drop_frame-requires-clause-frame c =
 pub drop_frame-requires-clause-lost : goal.drop_frame-requires-clause-lost
 drop_frame-requires-clause-lost c =
     empty_lost c.args.program.now c.args.thread c.args.class Done c.args.classes.now c.args.machine.now c.begin_prepared.new.machine c.set_class_state.new.self c.in_ok-begin_prepared.ensures.0 c.set_class_state.ensures
-    (waiting c.args.program.now c.args.class c.args.thread c.args.machine.now c.requires.sound c.requires.frame c.requires.stage)
+    (waiting c.args.program.now c.args.class c.args.thread c.args.machine.now c.requires.prepares.sound c.requires.frame c.requires.stage)
 
 pub returns : goal.returns
 returns c =
-    finished c.args.program.now c.args.thread c.args.class c.args.classes.now c.args.machine.now c.begin_prepared.new.machine c.set_class_state.new.self c.drop_frame.new.self c.args.out.now c.begin_prepared.new.out c.requires.program c.requires.classes c.requires.sound c.requires.frame
-    (waiting c.args.program.now c.args.class c.args.thread c.args.machine.now c.requires.sound c.requires.frame c.requires.stage) c.requires.fits c.in_ok-begin_prepared.ensures.0 c.in_ok-begin_prepared.ensures.1 c.set_class_state.ensures c.drop_frame.ensures
+    finished c.args.program.now c.args.thread c.args.class c.args.classes.now c.args.machine.now c.begin_prepared.new.machine c.set_class_state.new.self c.drop_frame.new.self c.args.out.now c.begin_prepared.new.out c.requires.prepares.order c.requires.prepares.classes c.requires.prepares.sound c.requires.frame
+    (waiting c.args.program.now c.args.class c.args.thread c.args.machine.now c.requires.prepares.sound c.requires.frame c.requires.stage) c.requires.fits c.in_ok-begin_prepared.ensures.0 c.in_ok-begin_prepared.ensures.1 c.set_class_state.ensures c.drop_frame.ensures

@@ -15,12 +15,17 @@ ready_count-count-requires-clause-all c = all_within (length c.args.program.now.
 pub enter_event-requires-clause-class : goal.enter_event-requires-clause-class
 enter_event-requires-clause-class c = (waiting c.args.program.now c.args.class c.args.thread c.args.machine.now c.requires.sound c.requires.frame c.requires.stage).class
 
-pub enter_event-requires-clause-classes : goal.enter_event-requires-clause-classes
-enter_event-requires-clause-classes c = all_within (length c.args.program.now.classes) c.as_slice-classes.result.now _ c.as_slice-classes.ensures.value c.class.ensures.within.prerequisites
-
-pub enter_event-requires-clause-ready : goal.enter_event-requires-clause-ready
-enter_event-requires-clause-ready c =
-    all_ready (moment c.args.program.now c.args.machine.now c.args.thread) c.as_slice-classes.result.now c.ready_count-count.result c.if-count-classes.true c.ready_count-count.ensures.ready
+pub enter_event-requires-clause-goes : goal.enter_event-requires-clause-goes
+enter_event-requires-clause-goes c = record {
+  prepares = record {
+    order = c.requires.program;
+    classes = all_within (length c.args.program.now.classes) c.as_slice-classes.result.now _ c.as_slice-classes.ensures.value c.class.ensures.within.prerequisites;
+    sound = c.requires.sound;
+    clock = c.requires.clock;
+  };
+  frame = c.requires.frame;
+  ready = all_ready (moment c.args.program.now c.args.machine.now c.args.thread) c.as_slice-classes.result.now c.ready_count-count.result c.if-count-classes.true c.ready_count-count.ensures.ready;
+}
 
 pub returns-then-count-classes : goal.returns-then-count-classes
 returns-then-count-classes c =
@@ -34,13 +39,19 @@ blocked_event-requires-clause-class c =
     subst (λ (k : ℕ). k < length c.args.program.now.classes) (sym c.index-classes-count.is)
     (all_within (length c.args.program.now.classes) c.as_slice-classes.result.now _ c.as_slice-classes.ensures.value c.class.ensures.within.prerequisites c.ready_count-count.result c.index-classes-count.result lt)
 
-pub blocked_event-requires-clause-classes : goal.blocked_event-requires-clause-classes
-blocked_event-requires-clause-classes c =
-    All-take (λ k. k < length c.args.program.now.classes) c.ready_count-count.result c.as_slice-classes.result.now
-    (all_within (length c.args.program.now.classes) c.as_slice-classes.result.now _ c.as_slice-classes.ensures.value c.class.ensures.within.prerequisites)
-
-pub blocked_event-requires-clause-ready : goal.blocked_event-requires-clause-ready
-blocked_event-requires-clause-ready c = c.ready_count-count.ensures.ready
+pub blocked_event-requires-clause-goes : goal.blocked_event-requires-clause-goes
+blocked_event-requires-clause-goes c = record {
+  prepares = record {
+    order = c.requires.program;
+    classes =
+        All-take (λ k. k < length c.args.program.now.classes) c.ready_count-count.result c.as_slice-classes.result.now
+        (all_within (length c.args.program.now.classes) c.as_slice-classes.result.now _ c.as_slice-classes.ensures.value c.class.ensures.within.prerequisites);
+    sound = c.requires.sound;
+    clock = c.requires.clock;
+  };
+  frame = c.requires.frame;
+  ready = c.ready_count-count.ensures.ready;
+}
 
 pub blocked_event-requires-clause-blocked : goal.blocked_event-requires-clause-blocked
 blocked_event-requires-clause-blocked c =

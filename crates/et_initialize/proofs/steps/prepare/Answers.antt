@@ -4,12 +4,12 @@ use Rattle.et_state.specs.State.{MachineState}
 use Rattle.et_initialize.proofs.Preparing.{pre_ready, pre_has_room, pre_came}
 use Rattle.et_initialize.proofs.steps.prepare.Goals as goal
 
-pub prepare_class-requires-clause-ready : goal.prepare_class-requires-clause-ready
-prepare_class-requires-clause-ready c =
-    pre_ready c.args.program.now c.args.thread c.args.machine.now c.loop-k.machine c.args.out.now c.loop-k.out c.args.classes.now c.loop-k.k c.requires.program c.requires.classes c.requires.ready c.loop-k.invariant
-
-pub prepare_class-requires-clause-lost : goal.prepare_class-requires-clause-lost
-prepare_class-requires-clause-lost c = subst (λ (m : MachineState). length m.lost < lost_room) (sym c.loop-k.invariant.0) c.requires.lost
+pub prepare_class-requires-clause-sets : goal.prepare_class-requires-clause-sets
+prepare_class-requires-clause-sets c = record {
+  order = c.requires.sets.order;
+  ready = pre_ready c.args.program.now c.args.thread c.args.machine.now c.loop-k.machine c.args.out.now c.loop-k.out c.args.classes.now c.loop-k.k c.requires.sets.order c.requires.classes c.requires.sets.ready c.loop-k.invariant;
+  lost = subst (λ (m : MachineState). length m.lost < lost_room) (sym c.loop-k.invariant.0) c.requires.sets.lost;
+}
 
 pub prepare_class-requires-clause-fits : goal.prepare_class-requires-clause-fits
 prepare_class-requires-clause-fits c =

@@ -6,7 +6,8 @@ use Rattle.et_program.specs.BootNames.{built_in_class_name}
 use Rattle.et_program.specs.BootNamed.BuiltInClass.{BuiltInClass}
 use Rattle.et_program.specs.Entries.{class_at}
 use Rattle.et_event.specs.Errors.{error_class, class_called}
-use Rattle.et_initialize.proofs.Stepping.{after, fits_less, base_room, base_threads, made_alloc, error_thrown}
+use Rattle.et_initialize.specs.Asked.{after}
+use Rattle.et_initialize.proofs.Stepping.{fits_less, base_room, base_threads, made_alloc, error_thrown}
 use Rattle.et_initialize.proofs.steps.throw_prepared.Goals as goal
 
 pub begin_prepared-requires-clause-fits : goal.begin_prepared-requires-clause-fits
@@ -33,7 +34,7 @@ returns c =
     let m₂ = c.begin_prepared.new.machine in
     let name : class ≡ error_class p c.args.error = c.class_called-class.ensures.value ∙ ap (λ (k : BuiltInClass). class_called p (built_in_class_name k)) c.class.ensures in
     error_thrown p c.args.thread c.args.error c.args.classes.now c.args.machine.now m₂ c.add_instance.new.machine c.throw.new.self c.args.out.now c.begin_prepared.new.out c.add_instance.new.out class slots c.in_ok-object.object
-    c.requires.program c.requires.classes c.requires.sound c.requires.frame name refl
+    c.requires.prepares.order c.requires.prepares.classes c.requires.prepares.sound c.requires.frame name refl
     (subst (λ (k : ℕ). has_room (after p c.args.machine.now c.args.thread c.args.classes.now).state.heap 1 (class_at p k).info.slots ≡ true) (sym name) c.requires.room)
     c.in_ok-begin_prepared.ensures.0 c.in_ok-begin_prepared.ensures.1 c.in_ok-object.ensures.made.0 c.in_ok-object.ensures.object
     (made_alloc m₂ c.add_instance.new.machine c.begin_prepared.new.out c.add_instance.new.out c.args.thread class slots c.in_ok-object.object c.in_ok-object.ensures.made.0 c.in_ok-object.ensures.object c.in_ok-object.ensures.made.1) c.throw.ensures.new
