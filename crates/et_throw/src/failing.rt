@@ -3,9 +3,7 @@ ghost use Rattle.std.specs.Prelude.{◌≡◌, ◌+◌, ◌<◌, ◌≤◌, ◌^
 ghost use Rattle.et_base.specs.declared.value.Value.TheVariants.{Ref};
 ghost use Rattle.et_heap.specs.Objects.{IsHeld, object_at, slot_of, with_slot};
 ghost use Rattle.et_heap.specs.Refs.{refs_of_value};
-ghost use Rattle.et_state.specs.State.{kept_of};
 ghost use Rattle.et_state.specs.Words.{HasFrame, thread_at, top, steps_object};
-ghost use Rattle.et_state.specs.Sound.{IsSound};
 ghost use Rattle.et_state.specs.declared.class_state.ClassState.TheVariants as states;
 ghost use Rattle.et_program.specs.Entries.{Linked};
 ghost use Rattle.et_event.specs.Answered.{EventAnswers};
@@ -13,6 +11,7 @@ ghost use Rattle.et_event.specs.Errors.{error_class};
 ghost use Rattle.et_event.specs.Initialization.{with_state};
 ghost use Rattle.et_event.specs.Moments.{moment, fits_heap, ends_event};
 ghost use Rattle.et_event.specs.Throw.{failed, replaced};
+ghost use Rattle.et_throw.specs.Leaving.{MayLeave};
 ghost use Rattle.et_throw.specs.Unwinding.{Unwinds, IsThrowMade, initializer_left, initializer_dropped};
 
 use crate::records::{tell_error, tell_unwind};
@@ -62,12 +61,8 @@ fn fail_by_error(
     exception: ObjectId,
     out: &mut Lines,
 ) -> Result<EventEnd, NoMemory>
-    requires frame { HasFrame machine.old.guest thread }
-    requires sound { IsSound (kept_of machine.old) }
-    requires clock { machine.old.guest.clock < 2 ^ 40 }
+    requires leaves { MayLeave machine.old thread }
     requires fits { fits_heap machine.old.heap ≡ true }
-    requires small { length (top machine.old.guest thread).locals
-        + length (top machine.old.guest thread).operands < 2 ^ 17 }
     requires class { initializer.class < length machine.old.guest.classes }
     ensures ok { IfOk result (λ end. (p : Linked) →
         EventAnswers (ends_event (with_state initializer.class states.Failed
@@ -125,11 +120,7 @@ fn fail_by_exception<L: Ledger>(
     out: &mut Lines,
     visits: &mut Steps<L>,
 ) -> Result<EventEnd, NoMemory>
-    requires frame { HasFrame machine.old.guest thread }
-    requires sound { IsSound (kept_of machine.old) }
-    requires clock { machine.old.guest.clock < 2 ^ 40 }
-    requires small { length (top machine.old.guest thread).locals
-        + length (top machine.old.guest thread).operands < 2 ^ 17 }
+    requires leaves { MayLeave machine.old thread }
     requires class { initializer.class < length machine.old.guest.classes }
     requires pending { (thread_at machine.old.guest thread).pending ≡ Some exception }
     ensures ok { IfOk result (λ end. EventAnswers (ends_event

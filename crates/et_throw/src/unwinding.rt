@@ -6,7 +6,6 @@ ghost use Rattle.et_state.specs.declared.stage.Turn.TheVariants as turns;
 ghost use Rattle.et_state.specs.Threads.{turn_of};
 ghost use Rattle.et_state.specs.State.{kept_of};
 ghost use Rattle.et_state.specs.Words.{HasFrame, thread_at, top};
-ghost use Rattle.et_state.specs.Sound.{IsSound};
 ghost use Rattle.et_event.specs.Answered.{EventAnswers};
 ghost use Rattle.et_event.specs.Event.{event};
 ghost use Rattle.et_event.specs.Sites.{running_method as method_in};
@@ -17,6 +16,7 @@ ghost use Rattle.et_event.specs.Locks.{locks_of, HasSome};
 ghost use Rattle.et_event.specs.Places.{Runs};
 ghost use Rattle.et_event.specs.Interfaces.{KnowsInterfaces};
 ghost use Rattle.et_event.specs.Moments.{moment};
+ghost use Rattle.et_throw.specs.Leaving.{MayLeave};
 ghost use Rattle.et_throw.specs.Unwinding.{Unwinds, leaving_if_owned};
 
 use crate::catching::catch_event;
@@ -58,11 +58,7 @@ fn unwind_frame<L: Ledger>(
     out: &mut Lines,
     visits: &mut Steps<L>,
 ) -> Result<EventEnd, NoMemory>
-    requires frame { HasFrame machine.old.guest thread }
-    requires sound { IsSound (kept_of machine.old) }
-    requires clock { machine.old.guest.clock < 2 ^ 40 }
-    requires small { length (top machine.old.guest thread).locals
-        + length (top machine.old.guest thread).operands < 2 ^ 17 }
+    requires leaves { MayLeave machine.old thread }
     requires there { HasSome machine.old (locks_of lock.now) }
     requires lock { locks_of lock.now ≡ lock_in_frame (top machine.old.guest thread).stage
         (method_in program.now (top machine.old.guest thread)) (top machine.old.guest thread).lock }
