@@ -1,5 +1,5 @@
 -- THE TYPES AFTER AN INSTRUCTION, from those before it.
-use Rattle.std.specs.Prelude.{ℕ, ◌==◌, ◌&&◌, nat_le, Bool, true, false, if◌then◌else◌, List, [], ◌∷◌, ◌++◌, length, map, drop, slice_index_or, sum, Option, Some, None, option_map, option_and_then}
+use Rattle.std.specs.Prelude.{◌≡◌, ℕ, ◌==◌, ◌&&◌, nat_le, Bool, true, false, if◌then◌else◌, List, [], ◌∷◌, ◌++◌, length, map, drop, slice_index_or, sum, Option, Some, None, option_map, option_and_then}
 use Rattle.et_class.specs.PoolOperands.Operand.{Operand}
 use Rattle.et_class.specs.PoolOperands.Operand.TheVariants as operand
 use Rattle.et_event.specs.declared.rows.Local.TheVariants.{Named}
@@ -47,6 +47,11 @@ have_groups (size ∷ sizes) ops = (if size == 1 then is_one ops else is_pair op
 abbrev pub rearranged_types : Rearrangement → List EntryType → Option (List EntryType)
 rearranged_types r ops =
     if have_groups (groups_of r) ops then Some (map (λ k. slice_index_or ops k Free) (operand_places r) ++ drop (sum (groups_of r)) ops) else None
+
+-- the types after it, or whether it is refused; the local variables stay
+abbrev pub Rearranges : Rearrangement → TypesOf → TypesOf → Bool → Type 0
+Rearranges r old new done =
+    (done ≡ true → rearranged_types r old.operands ≡ Some new.operands) × (done ≡ false → rearranged_types r old.operands ≡ None) × (new.locals ≡ old.locals)
 
 abbrev pub moved_by : Effect → List EntryType → Option (List EntryType)
 moved_by x ops = option_map (with_given x.given) (below_taken x.taken ops)

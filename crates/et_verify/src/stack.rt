@@ -1,7 +1,7 @@
 //! Rearrangements of the topmost operands (JVMS 2.11.6), by their types.
 ghost use Rattle.std.specs.Prelude.{◌≡◌, [], ◌∷◌, true, false, Some, None, IfOk, OnOk, IfSome, IfNone};
 ghost use Rattle.et_event.specs.declared.rows.Rearrangement.TheVariants as stack;
-ghost use Rattle.et_verify.specs.Steps.{is_one, is_pair as pair_first, rearranged_types};
+ghost use Rattle.et_verify.specs.Steps.{is_one, is_pair as pair_first, Rearranges, rearranged_types};
 
 use et_base::NoMemory;
 use et_event::Rearrangement;
@@ -60,11 +60,7 @@ fn push_pair(types: &mut Types, pair: (EntryType, EntryType)) -> Result<(), NoMe
 
 /// `dup`.
 fn dup(types: &mut Types) -> Result<bool, NoMemory>
-    ensures done { IfOk result (λ b. b ≡ true →
-        rearranged_types stack.Dup types.old.operands ≡ Some types.new.operands) }
-    ensures refused { IfOk result (λ b. b ≡ false →
-        rearranged_types stack.Dup types.old.operands ≡ None) }
-    ensures locals { IfOk result (λ b. types.new.locals ≡ types.old.locals) }
+    ensures { IfOk result (Rearranges stack.Dup types.old types.new) }
 {
     let Some(first) = pop_one(types) else {
         return Ok(false);
@@ -76,11 +72,7 @@ fn dup(types: &mut Types) -> Result<bool, NoMemory>
 
 /// `dup_x1`.
 fn dup_x1(types: &mut Types) -> Result<bool, NoMemory>
-    ensures done { IfOk result (λ b. b ≡ true →
-        rearranged_types stack.DupX1 types.old.operands ≡ Some types.new.operands) }
-    ensures refused { IfOk result (λ b. b ≡ false →
-        rearranged_types stack.DupX1 types.old.operands ≡ None) }
-    ensures locals { IfOk result (λ b. types.new.locals ≡ types.old.locals) }
+    ensures { IfOk result (Rearranges stack.DupX1 types.old types.new) }
 {
     let Some(first) = pop_one(types) else {
         return Ok(false);
@@ -96,11 +88,7 @@ fn dup_x1(types: &mut Types) -> Result<bool, NoMemory>
 
 /// `dup_x2`.
 fn dup_x2(types: &mut Types) -> Result<bool, NoMemory>
-    ensures done { IfOk result (λ b. b ≡ true →
-        rearranged_types stack.DupX2 types.old.operands ≡ Some types.new.operands) }
-    ensures refused { IfOk result (λ b. b ≡ false →
-        rearranged_types stack.DupX2 types.old.operands ≡ None) }
-    ensures locals { IfOk result (λ b. types.new.locals ≡ types.old.locals) }
+    ensures { IfOk result (Rearranges stack.DupX2 types.old types.new) }
 {
     let Some(first) = pop_one(types) else {
         return Ok(false);
@@ -116,11 +104,7 @@ fn dup_x2(types: &mut Types) -> Result<bool, NoMemory>
 
 /// `dup2`.
 fn dup2(types: &mut Types) -> Result<bool, NoMemory>
-    ensures done { IfOk result (λ b. b ≡ true →
-        rearranged_types stack.Dup2 types.old.operands ≡ Some types.new.operands) }
-    ensures refused { IfOk result (λ b. b ≡ false →
-        rearranged_types stack.Dup2 types.old.operands ≡ None) }
-    ensures locals { IfOk result (λ b. types.new.locals ≡ types.old.locals) }
+    ensures { IfOk result (Rearranges stack.Dup2 types.old types.new) }
 {
     let Some(first) = pop_pair(types) else {
         return Ok(false);
@@ -132,11 +116,7 @@ fn dup2(types: &mut Types) -> Result<bool, NoMemory>
 
 /// `dup2_x1`.
 fn dup2_x1(types: &mut Types) -> Result<bool, NoMemory>
-    ensures done { IfOk result (λ b. b ≡ true →
-        rearranged_types stack.Dup2X1 types.old.operands ≡ Some types.new.operands) }
-    ensures refused { IfOk result (λ b. b ≡ false →
-        rearranged_types stack.Dup2X1 types.old.operands ≡ None) }
-    ensures locals { IfOk result (λ b. types.new.locals ≡ types.old.locals) }
+    ensures { IfOk result (Rearranges stack.Dup2X1 types.old types.new) }
 {
     let Some(first) = pop_pair(types) else {
         return Ok(false);
@@ -152,11 +132,7 @@ fn dup2_x1(types: &mut Types) -> Result<bool, NoMemory>
 
 /// `dup2_x2`.
 fn dup2_x2(types: &mut Types) -> Result<bool, NoMemory>
-    ensures done { IfOk result (λ b. b ≡ true →
-        rearranged_types stack.Dup2X2 types.old.operands ≡ Some types.new.operands) }
-    ensures refused { IfOk result (λ b. b ≡ false →
-        rearranged_types stack.Dup2X2 types.old.operands ≡ None) }
-    ensures locals { IfOk result (λ b. types.new.locals ≡ types.old.locals) }
+    ensures { IfOk result (Rearranges stack.Dup2X2 types.old types.new) }
 {
     let Some(first) = pop_pair(types) else {
         return Ok(false);
@@ -172,11 +148,7 @@ fn dup2_x2(types: &mut Types) -> Result<bool, NoMemory>
 
 /// `swap`.
 fn swap(types: &mut Types) -> Result<bool, NoMemory>
-    ensures done { IfOk result (λ b. b ≡ true →
-        rearranged_types stack.Swap types.old.operands ≡ Some types.new.operands) }
-    ensures refused { IfOk result (λ b. b ≡ false →
-        rearranged_types stack.Swap types.old.operands ≡ None) }
-    ensures locals { IfOk result (λ b. types.new.locals ≡ types.old.locals) }
+    ensures { IfOk result (Rearranges stack.Swap types.old types.new) }
 {
     let Some(first) = pop_one(types) else {
         return Ok(false);
