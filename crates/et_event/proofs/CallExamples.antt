@@ -1,144 +1,50 @@
 -- The table of events at small programs with calls: the records of their runs, computed by the definitions.
-use Rattle.std.proofs.Common.{◌≡◌, ℕ, false, ◌==◌, not, List, [], ◌∷◌, ◌++◌, Option, None, Some, refl, replicate, get_or, length, ◌%◌}
+use Rattle.std.proofs.Common.{◌≡◌, ℕ, ◌==◌, not, List, [], ◌∷◌, ◌++◌, None, Some, refl, replicate}
 use Rattle.std.specs.Prelude.{codes}
 use Rattle.std.specs.Int.{int_wrap}
 use Rattle.et_base.specs.declared.value.Value.TheVariants.{Unset}
-use Rattle.et_class.specs.Entries.{Item, Constants, slots_of, Text, Name, Pair}
+use Rattle.et_class.specs.Entries.{Text, Name, Pair}
 use Rattle.et_class.specs.PoolTags.TheConstants.{CLASS, FIELDREF, METHODREF, INTERFACE_METHODREF, NAME_AND_TYPE}
-use Rattle.et_code.specs.Bodies.{Body}
-use Rattle.et_code.specs.declared.body.TableRow.{TableRow}
 use Rattle.et_program.specs.BuiltIns.{text_method_in}
-use Rattle.et_program.specs.Entries.{Linked, ClassEntry}
-use Rattle.et_program.specs.declared.info.MethodInfo.{MethodInfo}
-use Rattle.et_program.specs.declared.info.FieldInfo.{FieldInfo}
-use Rattle.et_program.specs.declared.info.Element.{Element}
-use Rattle.et_program.specs.declared.kind.Leaf.{Leaf}
+use Rattle.et_program.specs.Entries.{Linked}
 use Rattle.et_program.specs.declared.info.Element.TheVariants as element
 use Rattle.et_program.specs.declared.kind.Leaf.TheVariants as leaf
 use Rattle.et_state.specs.declared.class_state.ClassState.TheVariants.{Untouched, Done}
 use Rattle.et_state.specs.State.{Kept, kept_of}
 use Rattle.et_state.specs.Words.{first_state}
-use Rattle.et_state.specs.Threads.{unended_of}
 use Rattle.et_state.specs.Past.{flushed_heap}
-use Rattle.et_state.specs.declared.records.Record.{Record}
 use Rattle.et_state.specs.declared.records.Record.TheVariants.{Alloc, Update, Enter, Exit, Unwind}
-use Rattle.et_state.specs.Outcome.{IllTyped, state_after, records_of}
+use Rattle.et_state.specs.Outcome.{IllTyped}
 use Rattle.et_code.specs.Forms.{form_of}
 use Rattle.et_code.specs.Decoding.{instruction_at}
 use Rattle.et_class.specs.Descriptors.{after_name, after_dimensions, types_of}
 use Rattle.et_event.specs.Table.{row_of}
 use Rattle.et_event.specs.Event.{event}
-
-abbrev class_of : List ℕ → ℕ → Element → ℕ → Option ℕ → List ℕ → List ℕ → List ℕ → List ℕ → List ℕ → List ℕ → ℕ → Leaf → Option ℕ → ClassEntry
-class_of name flags element slots clinit prerequisites constants supers superinterfaces field_order init_order dimensions leaf array = record {
-  info = record { name = name; flags = flags; element = element; slots = slots; clinit = clinit; prerequisites = prerequisites; constants = constants };
-  supers = supers;
-  superinterfaces = superinterfaces;
-  field_order = field_order;
-  init_order = init_order;
-  kind = record { dimensions = dimensions; leaf = leaf };
-  array = array;
-}
-
-abbrev method_of : ℕ → List ℕ → List ℕ → ℕ → Option Body → MethodInfo
-method_of class name descriptor flags code = record { class = class; name = name; descriptor = descriptor; flags = flags; code = code; deferred = false }
-
-abbrev code_of : ℕ → ℕ → List ℕ → List TableRow → Option Body
-code_of stack locals code table = Some (record { max_stack = stack; max_locals = locals; code = code; table = table })
-
-abbrev field_of : ℕ → List ℕ → List ℕ → ℕ → ℕ → ℕ → FieldInfo
-field_of class name descriptor flags slot constant = record { class = class; name = name; descriptor = descriptor; flags = flags; slot = slot; constant = constant }
-
-abbrev pool_of : List Item → Constants
-pool_of items = record { at = 0; slots = slots_of items }
-
--- of the threads that have not ended, the one that a pick chooses
-turn_by : ℕ → Kept → ℕ
-turn_by pick s = let u = unended_of s.guest.threads in get_or u (pick % length u) 0
-
--- the state after the events of these picks, and their records
-after_picks : Linked → List ℕ → Kept → Kept
-after_picks p [] s = s
-after_picks p (k ∷ ks) s = after_picks p ks (state_after s (event p s (turn_by k s)))
-
-records_by : Linked → List ℕ → Kept → List Record
-records_by p [] s = []
-records_by p (k ∷ ks) s = let o = event p s (turn_by k s) in records_of o ++ records_by p ks (state_after s o)
+use Rattle.et_event.proofs.ExamplePrograms.{array_class, base_classes, class_below, class_of, code_of, field_of, interface_class, method_of, no_pools, object_class, object_methods, pool_of, program_of, runtime_classes, thrown_class, thrown_methods, after_picks, records_by, turn_by}
 
 -- an initializer that throws: the class fails, and the next use of it throws too
 abbrev failing : Linked
-failing = record {
-  classes =
-      class_of (codes "java/lang/Object") 1 (element.NoArray) 0 None ([]) ([]) ([]) ([]) (0 ∷ []) (0 ∷ []) 0 (leaf.Class 0) None
-      ∷ class_of (codes "java/lang/Cloneable") 1537 (element.NoArray) 0 None ([]) ([]) (0 ∷ []) ([]) (1 ∷ 0 ∷ []) (1 ∷ []) 0 (leaf.Class 1) None
-      ∷ class_of (codes "java/io/Serializable") 1537 (element.NoArray) 0 None ([]) ([]) (0 ∷ []) ([]) (2 ∷ 0 ∷ []) (2 ∷ []) 0 (leaf.Class 2) None
-      ∷ class_of (codes "java/lang/String") 17 (element.NoArray) 0 None (0 ∷ []) ([]) (0 ∷ []) ([]) (3 ∷ 0 ∷ []) (0 ∷ 3 ∷ []) 0 (leaf.Class 3) (Some 14)
-      ∷ class_of (codes "java/lang/Throwable") 1 (element.NoArray) 2 None (0 ∷ []) ([]) (0 ∷ []) (2 ∷ []) (4 ∷ 2 ∷ 0 ∷ []) (0 ∷ 4 ∷ []) 0 (leaf.Class 4) None
-      ∷ class_of (codes "java/lang/Exception") 1 (element.NoArray) 2 None (4 ∷ []) ([]) (4 ∷ 0 ∷ []) (2 ∷ []) (5 ∷ 4 ∷ 2 ∷ 0 ∷ []) (0 ∷ 4 ∷ 5 ∷ []) 0 (leaf.Class 5) None
-      ∷ class_of (codes "java/lang/Error") 1 (element.NoArray) 2 None (4 ∷ []) ([]) (4 ∷ 0 ∷ []) (2 ∷ []) (6 ∷ 4 ∷ 2 ∷ 0 ∷ []) (0 ∷ 4 ∷ 6 ∷ []) 0 (leaf.Class 6) None
-      ∷ class_of (codes "java/lang/RuntimeException") 1 (element.NoArray) 2 None (5 ∷ []) ([]) (5 ∷ 4 ∷ 0 ∷ []) (2 ∷ []) (7 ∷ 5 ∷ 4 ∷ 2 ∷ 0 ∷ []) (0 ∷ 4 ∷ 5 ∷ 7 ∷ []) 0 (leaf.Class 7) None
-      ∷ class_of (codes "java/lang/ArithmeticException") 1 (element.NoArray) 2 None (7 ∷ []) ([]) (7 ∷ 5 ∷ 4 ∷ 0 ∷ []) (2 ∷ []) (8 ∷ 7 ∷ 5 ∷ 4 ∷ 2 ∷ 0 ∷ []) (0 ∷ 4 ∷ 5 ∷ 7 ∷ 8 ∷ []) 0 (leaf.Class 8) None
-      ∷ class_of (codes "java/lang/LinkageError") 1 (element.NoArray) 2 None (6 ∷ []) ([]) (6 ∷ 4 ∷ 0 ∷ []) (2 ∷ []) (9 ∷ 6 ∷ 4 ∷ 2 ∷ 0 ∷ []) (0 ∷ 4 ∷ 6 ∷ 9 ∷ []) 0 (leaf.Class 9) None
-      ∷ class_of (codes "java/lang/NoClassDefFoundError") 1 (element.NoArray) 2 None (9 ∷ []) ([]) (9 ∷ 6 ∷ 4 ∷ 0 ∷ []) (2 ∷ []) (10 ∷ 9 ∷ 6 ∷ 4 ∷ 2 ∷ 0 ∷ []) (0 ∷ 4 ∷ 6 ∷ 9 ∷ 10 ∷ []) 0 (leaf.Class 10) None
-      ∷ class_of (codes "java/lang/ExceptionInInitializerError") 1 (element.NoArray) 2 None (9 ∷ []) ([]) (9 ∷ 6 ∷ 4 ∷ 0 ∷ []) (2 ∷ []) (11 ∷ 9 ∷ 6 ∷ 4 ∷ 2 ∷ 0 ∷ []) (0 ∷ 4 ∷ 6 ∷ 9 ∷ 11 ∷ []) 0 (leaf.Class 11) None
-      ∷ class_of (codes "Use") 33 (element.NoArray) 0 None (0 ∷ []) ([]) (0 ∷ []) ([]) (12 ∷ 0 ∷ []) (0 ∷ 12 ∷ []) 0 (leaf.Class 12) None
-      ∷ class_of (codes "Bad") 33 (element.NoArray) 0 (Some 29) (0 ∷ []) ([]) (0 ∷ []) ([]) (13 ∷ 0 ∷ []) (0 ∷ 13 ∷ []) 0 (leaf.Class 13) None
-      ∷ class_of (codes "[Ljava/lang/String;") 1041 (element.Class 3) 0 None ([]) ([]) (0 ∷ []) (1 ∷ 2 ∷ []) (14 ∷ 1 ∷ 2 ∷ 0 ∷ []) (14 ∷ []) 1 (leaf.Class 3) None
-      ∷ [];
-  methods =
-      method_of 0 (codes "<init>") (codes "()V") 1 None
-      ∷ method_of 4 (codes "<init>") (codes "()V") 1 None
-      ∷ method_of 4 (codes "<init>") (codes "(Ljava/lang/String;)V") 1 None
-      ∷ method_of 4 (codes "<init>") (codes "(Ljava/lang/String;Ljava/lang/Throwable;)V") 1 None
-      ∷ method_of 4 (codes "getMessage") (codes "()Ljava/lang/String;") 1 None
-      ∷ method_of 4 (codes "getCause") (codes "()Ljava/lang/Throwable;") 1 None
-      ∷ method_of 4 (codes "addSuppressed") (codes "(Ljava/lang/Throwable;)V") 1 None
-      ∷ method_of 5 (codes "<init>") (codes "()V") 1 None
-      ∷ method_of 5 (codes "<init>") (codes "(Ljava/lang/String;)V") 1 None
-      ∷ method_of 5 (codes "<init>") (codes "(Ljava/lang/String;Ljava/lang/Throwable;)V") 1 None
-      ∷ method_of 6 (codes "<init>") (codes "()V") 1 None
-      ∷ method_of 6 (codes "<init>") (codes "(Ljava/lang/String;)V") 1 None
-      ∷ method_of 6 (codes "<init>") (codes "(Ljava/lang/String;Ljava/lang/Throwable;)V") 1 None
-      ∷ method_of 7 (codes "<init>") (codes "()V") 1 None
-      ∷ method_of 7 (codes "<init>") (codes "(Ljava/lang/String;)V") 1 None
-      ∷ method_of 7 (codes "<init>") (codes "(Ljava/lang/String;Ljava/lang/Throwable;)V") 1 None
-      ∷ method_of 8 (codes "<init>") (codes "()V") 1 None
-      ∷ method_of 8 (codes "<init>") (codes "(Ljava/lang/String;)V") 1 None
-      ∷ method_of 8 (codes "<init>") (codes "(Ljava/lang/String;Ljava/lang/Throwable;)V") 1 None
-      ∷ method_of 9 (codes "<init>") (codes "()V") 1 None
-      ∷ method_of 9 (codes "<init>") (codes "(Ljava/lang/String;)V") 1 None
-      ∷ method_of 9 (codes "<init>") (codes "(Ljava/lang/String;Ljava/lang/Throwable;)V") 1 None
-      ∷ method_of 10 (codes "<init>") (codes "()V") 1 None
-      ∷ method_of 10 (codes "<init>") (codes "(Ljava/lang/String;)V") 1 None
-      ∷ method_of 10 (codes "<init>") (codes "(Ljava/lang/String;Ljava/lang/Throwable;)V") 1 None
-      ∷ method_of 11 (codes "<init>") (codes "()V") 1 None
-      ∷ method_of 11 (codes "<init>") (codes "(Ljava/lang/String;)V") 1 None
-      ∷ method_of 11 (codes "<init>") (codes "(Ljava/lang/String;Ljava/lang/Throwable;)V") 1 None
-      ∷ method_of 12 (codes "main") (codes "([Ljava/lang/String;)V") 9 (code_of 1 1 (178 ∷ 0 ∷ 10 ∷ 87 ∷ 177 ∷ 87 ∷ 178 ∷ 0 ∷ 10 ∷ 87 ∷ 177 ∷ 87 ∷ 177 ∷ []) (record { start = 0; end = 3; handler = 5; catch = 0 } ∷ record { start = 6; end = 9; handler = 11; catch = 0 } ∷ []))
-      ∷ method_of 13 (codes "<clinit>") (codes "()V") 8 (code_of 2 0 (4 ∷ 3 ∷ 108 ∷ 87 ∷ 177 ∷ []) ([]))
-      ∷ [];
-  fields =
-      field_of 13 (codes "x") (codes "I") 8 0 0 ∷ [];
-  statics = 0 ∷ [];
-  file_methods = 28 ∷ 29 ∷ [];
-  main = 28;
-  pools =
-      pool_of ([])
-      ∷ pool_of ([])
-      ∷ pool_of ([])
-      ∷ pool_of ([])
-      ∷ pool_of ([])
-      ∷ pool_of ([])
-      ∷ pool_of ([])
-      ∷ pool_of ([])
-      ∷ pool_of ([])
-      ∷ pool_of ([])
-      ∷ pool_of ([])
-      ∷ pool_of ([])
-      ∷ pool_of (Text (codes "Use") ∷ Name CLASS 1 ∷ Text (codes "java/lang/Object") ∷ Name CLASS 3 ∷ Text (codes "Bad") ∷ Name CLASS 5 ∷ Text (codes "x") ∷ Text (codes "I") ∷ Pair NAME_AND_TYPE 7 8 ∷ Pair FIELDREF 6 9 ∷ [])
-      ∷ pool_of (Text (codes "Bad") ∷ Name CLASS 1 ∷ Text (codes "java/lang/Object") ∷ Name CLASS 3 ∷ [])
-      ∷ [];
-}
+failing =
+    program_of
+    (base_classes 14
+    ++ thrown_class (codes "java/lang/Throwable") 4 []
+    ∷ thrown_class (codes "java/lang/Exception") 5 (4 ∷ [])
+    ∷ thrown_class (codes "java/lang/Error") 6 (4 ∷ [])
+    ∷ thrown_class (codes "java/lang/RuntimeException") 7 (5 ∷ 4 ∷ [])
+    ∷ thrown_class (codes "java/lang/ArithmeticException") 8 (7 ∷ 5 ∷ 4 ∷ [])
+    ∷ thrown_class (codes "java/lang/LinkageError") 9 (6 ∷ 4 ∷ [])
+    ∷ thrown_class (codes "java/lang/NoClassDefFoundError") 10 (9 ∷ 6 ∷ 4 ∷ [])
+    ∷ thrown_class (codes "java/lang/ExceptionInInitializerError") 11 (9 ∷ 6 ∷ 4 ∷ [])
+    ∷ class_below [] (codes "Use") 33 12 0 None [] None
+    ∷ class_below [] (codes "Bad") 33 13 0 (Some 29) [] None
+    ∷ array_class (codes "[Ljava/lang/String;") 14 (element.Class 3) 1 (leaf.Class 3) None
+    ∷ [])
+    (thrown_methods (5 ∷ 6 ∷ 7 ∷ 8 ∷ 9 ∷ 10 ∷ 11 ∷ [])
+    ++ method_of 12 (codes "main") (codes "([Ljava/lang/String;)V") 9 (code_of 1 1 (178 ∷ 0 ∷ 10 ∷ 87 ∷ 177 ∷ 87 ∷ 178 ∷ 0 ∷ 10 ∷ 87 ∷ 177 ∷ 87 ∷ 177 ∷ []) (record { start = 0; end = 3; handler = 5; catch = 0 } ∷ record { start = 6; end = 9; handler = 11; catch = 0 } ∷ []))
+    ∷ method_of 13 (codes "<clinit>") (codes "()V") 8 (code_of 2 0 (4 ∷ 3 ∷ 108 ∷ 87 ∷ 177 ∷ []) ([]))
+    ∷ [])
+    (field_of 13 (codes "x") (codes "I") 8 0 0 ∷ []) (0 ∷ []) (28 ∷ 29 ∷ []) 28
+    (no_pools 12 ++ pool_of (Text (codes "Use") ∷ Name CLASS 1 ∷ Text (codes "java/lang/Object") ∷ Name CLASS 3 ∷ Text (codes "Bad") ∷ Name CLASS 5 ∷ Text (codes "x") ∷ Text (codes "I") ∷ Pair NAME_AND_TYPE 7 8 ∷ Pair FIELDREF 6 9 ∷ []) ∷ pool_of (Text (codes "Bad") ∷ Name CLASS 1 ∷ Text (codes "java/lang/Object") ∷ Name CLASS 3 ∷ []) ∷ [])
 
 abbrev failing_start : Kept
 failing_start = kept_of (first_state 14 (Done ∷ Done ∷ Done ∷ Done ∷ Done ∷ Done ∷ Done ∷ Done ∷ Done ∷ Done ∷ Done ∷ Done ∷ Untouched ∷ Untouched ∷ Done ∷ []) (replicate 1 Unset))
@@ -149,57 +55,21 @@ failing_records = refl
 
 -- synchronized methods that an exception leaves
 abbrev syn : Linked
-syn = record {
-  classes =
-      class_of (codes "java/lang/Object") 1 (element.NoArray) 0 None ([]) ([]) ([]) ([]) (0 ∷ []) (0 ∷ []) 0 (leaf.Class 0) None
-      ∷ class_of (codes "java/lang/Cloneable") 1537 (element.NoArray) 0 None ([]) ([]) (0 ∷ []) ([]) (1 ∷ 0 ∷ []) (1 ∷ []) 0 (leaf.Class 1) None
-      ∷ class_of (codes "java/io/Serializable") 1537 (element.NoArray) 0 None ([]) ([]) (0 ∷ []) ([]) (2 ∷ 0 ∷ []) (2 ∷ []) 0 (leaf.Class 2) None
-      ∷ class_of (codes "java/lang/String") 17 (element.NoArray) 0 None (0 ∷ []) ([]) (0 ∷ []) ([]) (3 ∷ 0 ∷ []) (0 ∷ 3 ∷ []) 0 (leaf.Class 3) (Some 9)
-      ∷ class_of (codes "java/lang/Throwable") 1 (element.NoArray) 2 None (0 ∷ []) ([]) (0 ∷ []) (2 ∷ []) (4 ∷ 2 ∷ 0 ∷ []) (0 ∷ 4 ∷ []) 0 (leaf.Class 4) None
-      ∷ class_of (codes "java/lang/Exception") 1 (element.NoArray) 2 None (4 ∷ []) ([]) (4 ∷ 0 ∷ []) (2 ∷ []) (5 ∷ 4 ∷ 2 ∷ 0 ∷ []) (0 ∷ 4 ∷ 5 ∷ []) 0 (leaf.Class 5) None
-      ∷ class_of (codes "java/lang/RuntimeException") 1 (element.NoArray) 2 None (5 ∷ []) ([]) (5 ∷ 4 ∷ 0 ∷ []) (2 ∷ []) (6 ∷ 5 ∷ 4 ∷ 2 ∷ 0 ∷ []) (0 ∷ 4 ∷ 5 ∷ 6 ∷ []) 0 (leaf.Class 6) None
-      ∷ class_of (codes "java/lang/NullPointerException") 1 (element.NoArray) 2 None (6 ∷ []) ([]) (6 ∷ 5 ∷ 4 ∷ 0 ∷ []) (2 ∷ []) (7 ∷ 6 ∷ 5 ∷ 4 ∷ 2 ∷ 0 ∷ []) (0 ∷ 4 ∷ 5 ∷ 6 ∷ 7 ∷ []) 0 (leaf.Class 7) None
-      ∷ class_of (codes "Syn") 33 (element.NoArray) 0 None (0 ∷ []) ([]) (0 ∷ []) ([]) (8 ∷ 0 ∷ []) (0 ∷ 8 ∷ []) 0 (leaf.Class 8) None
-      ∷ class_of (codes "[Ljava/lang/String;") 1041 (element.Class 3) 0 None ([]) ([]) (0 ∷ []) (1 ∷ 2 ∷ []) (9 ∷ 1 ∷ 2 ∷ 0 ∷ []) (9 ∷ []) 1 (leaf.Class 3) None
-      ∷ [];
-  methods =
-      method_of 0 (codes "<init>") (codes "()V") 1 None
-      ∷ method_of 4 (codes "<init>") (codes "()V") 1 None
-      ∷ method_of 4 (codes "<init>") (codes "(Ljava/lang/String;)V") 1 None
-      ∷ method_of 4 (codes "<init>") (codes "(Ljava/lang/String;Ljava/lang/Throwable;)V") 1 None
-      ∷ method_of 4 (codes "getMessage") (codes "()Ljava/lang/String;") 1 None
-      ∷ method_of 4 (codes "getCause") (codes "()Ljava/lang/Throwable;") 1 None
-      ∷ method_of 4 (codes "addSuppressed") (codes "(Ljava/lang/Throwable;)V") 1 None
-      ∷ method_of 5 (codes "<init>") (codes "()V") 1 None
-      ∷ method_of 5 (codes "<init>") (codes "(Ljava/lang/String;)V") 1 None
-      ∷ method_of 5 (codes "<init>") (codes "(Ljava/lang/String;Ljava/lang/Throwable;)V") 1 None
-      ∷ method_of 6 (codes "<init>") (codes "()V") 1 None
-      ∷ method_of 6 (codes "<init>") (codes "(Ljava/lang/String;)V") 1 None
-      ∷ method_of 6 (codes "<init>") (codes "(Ljava/lang/String;Ljava/lang/Throwable;)V") 1 None
-      ∷ method_of 7 (codes "<init>") (codes "()V") 1 None
-      ∷ method_of 7 (codes "<init>") (codes "(Ljava/lang/String;)V") 1 None
-      ∷ method_of 7 (codes "<init>") (codes "(Ljava/lang/String;Ljava/lang/Throwable;)V") 1 None
-      ∷ method_of 8 (codes "main") (codes "([Ljava/lang/String;)V") 9 (code_of 1 1 (184 ∷ 0 ∷ 8 ∷ 177 ∷ 87 ∷ 177 ∷ []) (record { start = 0; end = 3; handler = 4; catch = 0 } ∷ []))
-      ∷ method_of 8 (codes "f") (codes "()V") 41 (code_of 1 0 (184 ∷ 0 ∷ 11 ∷ 177 ∷ []) ([]))
-      ∷ method_of 8 (codes "g") (codes "()V") 41 (code_of 1 0 (184 ∷ 0 ∷ 14 ∷ 177 ∷ []) ([]))
-      ∷ method_of 8 (codes "k") (codes "()V") 41 (code_of 1 0 (1 ∷ 191 ∷ []) ([]))
-      ∷ [];
-  fields = [];
-  statics = [];
-  file_methods = 16 ∷ 17 ∷ 18 ∷ 19 ∷ [];
-  main = 16;
-  pools =
-      pool_of ([])
-      ∷ pool_of ([])
-      ∷ pool_of ([])
-      ∷ pool_of ([])
-      ∷ pool_of ([])
-      ∷ pool_of ([])
-      ∷ pool_of ([])
-      ∷ pool_of ([])
-      ∷ pool_of (Text (codes "Syn") ∷ Name CLASS 1 ∷ Text (codes "java/lang/Object") ∷ Name CLASS 3 ∷ Text (codes "f") ∷ Text (codes "()V") ∷ Pair NAME_AND_TYPE 5 6 ∷ Pair METHODREF 2 7 ∷ Text (codes "g") ∷ Pair NAME_AND_TYPE 9 6 ∷ Pair METHODREF 2 10 ∷ Text (codes "k") ∷ Pair NAME_AND_TYPE 12 6 ∷ Pair METHODREF 2 13 ∷ [])
-      ∷ [];
-}
+syn =
+    program_of
+    (runtime_classes 9
+    ++ thrown_class (codes "java/lang/NullPointerException") 7 (6 ∷ 5 ∷ 4 ∷ [])
+    ∷ class_below [] (codes "Syn") 33 8 0 None [] None
+    ∷ array_class (codes "[Ljava/lang/String;") 9 (element.Class 3) 1 (leaf.Class 3) None
+    ∷ [])
+    (thrown_methods (5 ∷ 6 ∷ 7 ∷ [])
+    ++ method_of 8 (codes "main") (codes "([Ljava/lang/String;)V") 9 (code_of 1 1 (184 ∷ 0 ∷ 8 ∷ 177 ∷ 87 ∷ 177 ∷ []) (record { start = 0; end = 3; handler = 4; catch = 0 } ∷ []))
+    ∷ method_of 8 (codes "f") (codes "()V") 41 (code_of 1 0 (184 ∷ 0 ∷ 11 ∷ 177 ∷ []) ([]))
+    ∷ method_of 8 (codes "g") (codes "()V") 41 (code_of 1 0 (184 ∷ 0 ∷ 14 ∷ 177 ∷ []) ([]))
+    ∷ method_of 8 (codes "k") (codes "()V") 41 (code_of 1 0 (1 ∷ 191 ∷ []) ([]))
+    ∷ [])
+    [] [] (16 ∷ 17 ∷ 18 ∷ 19 ∷ []) 16
+    (no_pools 8 ++ pool_of (Text (codes "Syn") ∷ Name CLASS 1 ∷ Text (codes "java/lang/Object") ∷ Name CLASS 3 ∷ Text (codes "f") ∷ Text (codes "()V") ∷ Pair NAME_AND_TYPE 5 6 ∷ Pair METHODREF 2 7 ∷ Text (codes "g") ∷ Pair NAME_AND_TYPE 9 6 ∷ Pair METHODREF 2 10 ∷ Text (codes "k") ∷ Pair NAME_AND_TYPE 12 6 ∷ Pair METHODREF 2 13 ∷ []) ∷ [])
 
 abbrev syn_start : Kept
 syn_start = kept_of (first_state 9 (Done ∷ Done ∷ Done ∷ Done ∷ Done ∷ Done ∷ Done ∷ Done ∷ Untouched ∷ Done ∷ []) (replicate 0 Unset))
@@ -210,46 +80,31 @@ syn_records = refl
 
 -- two threads that take turns, and the monitor of a class for which one of them waits
 abbrev wrk : Linked
-wrk = record {
-  classes =
-      class_of (codes "java/lang/Object") 1 (element.NoArray) 0 None ([]) ([]) ([]) ([]) (0 ∷ []) (0 ∷ []) 0 (leaf.Class 0) None
-      ∷ class_of (codes "java/lang/Runnable") 1537 (element.NoArray) 0 None ([]) ([]) (0 ∷ []) ([]) (1 ∷ 0 ∷ []) (1 ∷ []) 0 (leaf.Class 1) None
-      ∷ class_of (codes "java/lang/Cloneable") 1537 (element.NoArray) 0 None ([]) ([]) (0 ∷ []) ([]) (2 ∷ 0 ∷ []) (2 ∷ []) 0 (leaf.Class 2) None
-      ∷ class_of (codes "java/io/Serializable") 1537 (element.NoArray) 0 None ([]) ([]) (0 ∷ []) ([]) (3 ∷ 0 ∷ []) (3 ∷ []) 0 (leaf.Class 3) None
-      ∷ class_of (codes "java/lang/String") 17 (element.NoArray) 0 None (0 ∷ []) ([]) (0 ∷ []) ([]) (4 ∷ 0 ∷ []) (0 ∷ 4 ∷ []) 0 (leaf.Class 4) (Some 7)
-      ∷ class_of (codes "java/lang/Thread") 1 (element.NoArray) 1 None (0 ∷ []) ([]) (0 ∷ []) (1 ∷ []) (5 ∷ 1 ∷ 0 ∷ []) (0 ∷ 5 ∷ []) 0 (leaf.Class 5) None
-      ∷ class_of (codes "Wrk") 33 (element.NoArray) 1 None (5 ∷ []) ([]) (5 ∷ 0 ∷ []) (1 ∷ []) (6 ∷ 5 ∷ 1 ∷ 0 ∷ []) (0 ∷ 5 ∷ 6 ∷ []) 0 (leaf.Class 6) None
-      ∷ class_of (codes "[Ljava/lang/String;") 1041 (element.Class 4) 0 None ([]) ([]) (0 ∷ []) (2 ∷ 3 ∷ []) (7 ∷ 2 ∷ 3 ∷ 0 ∷ []) (7 ∷ []) 1 (leaf.Class 4) None
-      ∷ [];
-  methods =
-      method_of 0 (codes "<init>") (codes "()V") 1 None
-      ∷ method_of 1 (codes "run") (codes "()V") 1025 None
-      ∷ method_of 5 (codes "<init>") (codes "()V") 1 None
-      ∷ method_of 5 (codes "<init>") (codes "(Ljava/lang/Runnable;)V") 1 None
-      ∷ method_of 5 (codes "start") (codes "()V") 1 None
-      ∷ method_of 5 (codes "join") (codes "()V") 1 None
-      ∷ method_of 5 (codes "run") (codes "()V") 1 (code_of 1 1 (25 ∷ 0 ∷ 180 ∷ 0 ∷ 6 ∷ 198 ∷ 0 ∷ 13 ∷ 25 ∷ 0 ∷ 180 ∷ 0 ∷ 6 ∷ 185 ∷ 0 ∷ 12 ∷ 1 ∷ 0 ∷ 177 ∷ []) ([]))
-      ∷ method_of 6 (codes "<init>") (codes "()V") 1 (code_of 1 1 (25 ∷ 0 ∷ 183 ∷ 0 ∷ 8 ∷ 177 ∷ []) ([]))
-      ∷ method_of 6 (codes "run") (codes "()V") 1 (code_of 1 1 (184 ∷ 0 ∷ 11 ∷ 177 ∷ []) ([]))
-      ∷ method_of 6 (codes "add") (codes "()V") 41 (code_of 1 0 (187 ∷ 0 ∷ 13 ∷ 179 ∷ 0 ∷ 17 ∷ 177 ∷ []) ([]))
-      ∷ method_of 6 (codes "main") (codes "([Ljava/lang/String;)V") 9 (code_of 2 1 (187 ∷ 0 ∷ 2 ∷ 89 ∷ 183 ∷ 0 ∷ 18 ∷ 182 ∷ 0 ∷ 21 ∷ 184 ∷ 0 ∷ 11 ∷ 177 ∷ []) ([]))
-      ∷ [];
-  fields =
-      field_of 5 (codes "target") (codes "Ljava/lang/Runnable;") 1 0 0 ∷
-      field_of 6 (codes "top") (codes "Ljava/lang/Object;") 8 0 0 ∷ [];
-  statics = 1 ∷ [];
-  file_methods = 7 ∷ 8 ∷ 9 ∷ 10 ∷ [];
-  main = 10;
-  pools =
-      pool_of ([])
-      ∷ pool_of ([])
-      ∷ pool_of ([])
-      ∷ pool_of ([])
-      ∷ pool_of ([])
-      ∷ pool_of (Text (codes "java/lang/Thread") ∷ Name CLASS 1 ∷ Text (codes "target") ∷ Text (codes "Ljava/lang/Runnable;") ∷ Pair NAME_AND_TYPE 3 4 ∷ Pair FIELDREF 2 5 ∷ Text (codes "java/lang/Runnable") ∷ Name CLASS 7 ∷ Text (codes "run") ∷ Text (codes "()V") ∷ Pair NAME_AND_TYPE 9 10 ∷ Pair INTERFACE_METHODREF 8 11 ∷ [])
-      ∷ pool_of (Text (codes "Wrk") ∷ Name CLASS 1 ∷ Text (codes "java/lang/Thread") ∷ Name CLASS 3 ∷ Text (codes "<init>") ∷ Text (codes "()V") ∷ Pair NAME_AND_TYPE 5 6 ∷ Pair METHODREF 4 7 ∷ Text (codes "add") ∷ Pair NAME_AND_TYPE 9 6 ∷ Pair METHODREF 2 10 ∷ Text (codes "java/lang/Object") ∷ Name CLASS 12 ∷ Text (codes "top") ∷ Text (codes "Ljava/lang/Object;") ∷ Pair NAME_AND_TYPE 14 15 ∷ Pair FIELDREF 2 16 ∷ Pair METHODREF 2 7 ∷ Text (codes "start") ∷ Pair NAME_AND_TYPE 19 6 ∷ Pair METHODREF 2 20 ∷ [])
-      ∷ [];
-}
+wrk =
+    program_of
+    (object_class
+    ∷ interface_class (codes "java/lang/Runnable") 1
+    ∷ interface_class (codes "java/lang/Cloneable") 2
+    ∷ interface_class (codes "java/io/Serializable") 3
+    ∷ class_below [] (codes "java/lang/String") 17 4 0 None [] (Some 7)
+    ∷ class_of (codes "java/lang/Thread") 1 (element.NoArray) 1 None (0 ∷ []) ([]) (0 ∷ []) (1 ∷ []) (5 ∷ 1 ∷ 0 ∷ []) (0 ∷ 5 ∷ []) 0 (leaf.Class 5) None
+    ∷ class_of (codes "Wrk") 33 (element.NoArray) 1 None (5 ∷ []) ([]) (5 ∷ 0 ∷ []) (1 ∷ []) (6 ∷ 5 ∷ 1 ∷ 0 ∷ []) (0 ∷ 5 ∷ 6 ∷ []) 0 (leaf.Class 6) None
+    ∷ class_of (codes "[Ljava/lang/String;") 1041 (element.Class 4) 0 None ([]) ([]) (0 ∷ []) (2 ∷ 3 ∷ []) (7 ∷ 2 ∷ 3 ∷ 0 ∷ []) (7 ∷ []) 1 (leaf.Class 4) None
+    ∷ [])
+    (object_methods
+    ++ method_of 1 (codes "run") (codes "()V") 1025 None
+    ∷ method_of 5 (codes "<init>") (codes "()V") 1 None
+    ∷ method_of 5 (codes "<init>") (codes "(Ljava/lang/Runnable;)V") 1 None
+    ∷ method_of 5 (codes "start") (codes "()V") 1 None
+    ∷ method_of 5 (codes "join") (codes "()V") 1 None
+    ∷ method_of 5 (codes "run") (codes "()V") 1 (code_of 1 1 (25 ∷ 0 ∷ 180 ∷ 0 ∷ 6 ∷ 198 ∷ 0 ∷ 13 ∷ 25 ∷ 0 ∷ 180 ∷ 0 ∷ 6 ∷ 185 ∷ 0 ∷ 12 ∷ 1 ∷ 0 ∷ 177 ∷ []) ([]))
+    ∷ method_of 6 (codes "<init>") (codes "()V") 1 (code_of 1 1 (25 ∷ 0 ∷ 183 ∷ 0 ∷ 8 ∷ 177 ∷ []) ([]))
+    ∷ method_of 6 (codes "run") (codes "()V") 1 (code_of 1 1 (184 ∷ 0 ∷ 11 ∷ 177 ∷ []) ([]))
+    ∷ method_of 6 (codes "add") (codes "()V") 41 (code_of 1 0 (187 ∷ 0 ∷ 13 ∷ 179 ∷ 0 ∷ 17 ∷ 177 ∷ []) ([]))
+    ∷ method_of 6 (codes "main") (codes "([Ljava/lang/String;)V") 9 (code_of 2 1 (187 ∷ 0 ∷ 2 ∷ 89 ∷ 183 ∷ 0 ∷ 18 ∷ 182 ∷ 0 ∷ 21 ∷ 184 ∷ 0 ∷ 11 ∷ 177 ∷ []) ([]))
+    ∷ [])
+    (field_of 5 (codes "target") (codes "Ljava/lang/Runnable;") 1 0 0 ∷ field_of 6 (codes "top") (codes "Ljava/lang/Object;") 8 0 0 ∷ []) (1 ∷ []) (7 ∷ 8 ∷ 9 ∷ 10 ∷ []) 10
+    (no_pools 5 ++ pool_of (Text (codes "java/lang/Thread") ∷ Name CLASS 1 ∷ Text (codes "target") ∷ Text (codes "Ljava/lang/Runnable;") ∷ Pair NAME_AND_TYPE 3 4 ∷ Pair FIELDREF 2 5 ∷ Text (codes "java/lang/Runnable") ∷ Name CLASS 7 ∷ Text (codes "run") ∷ Text (codes "()V") ∷ Pair NAME_AND_TYPE 9 10 ∷ Pair INTERFACE_METHODREF 8 11 ∷ []) ∷ pool_of (Text (codes "Wrk") ∷ Name CLASS 1 ∷ Text (codes "java/lang/Thread") ∷ Name CLASS 3 ∷ Text (codes "<init>") ∷ Text (codes "()V") ∷ Pair NAME_AND_TYPE 5 6 ∷ Pair METHODREF 4 7 ∷ Text (codes "add") ∷ Pair NAME_AND_TYPE 9 6 ∷ Pair METHODREF 2 10 ∷ Text (codes "java/lang/Object") ∷ Name CLASS 12 ∷ Text (codes "top") ∷ Text (codes "Ljava/lang/Object;") ∷ Pair NAME_AND_TYPE 14 15 ∷ Pair FIELDREF 2 16 ∷ Pair METHODREF 2 7 ∷ Text (codes "start") ∷ Pair NAME_AND_TYPE 19 6 ∷ Pair METHODREF 2 20 ∷ []) ∷ [])
 
 abbrev wrk_start : Kept
 wrk_start = kept_of (first_state 7 (Done ∷ Done ∷ Done ∷ Done ∷ Done ∷ Done ∷ Untouched ∷ Done ∷ []) (replicate 1 Unset))
@@ -260,39 +115,22 @@ wrk_records = refl
 
 -- a weak reference whose object is got again
 abbrev reviving : Linked
-reviving = record {
-  classes =
-      class_of (codes "java/lang/Object") 1 (element.NoArray) 0 None ([]) ([]) ([]) ([]) (0 ∷ []) (0 ∷ []) 0 (leaf.Class 0) None
-      ∷ class_of (codes "java/lang/Cloneable") 1537 (element.NoArray) 0 None ([]) ([]) (0 ∷ []) ([]) (1 ∷ 0 ∷ []) (1 ∷ []) 0 (leaf.Class 1) None
-      ∷ class_of (codes "java/io/Serializable") 1537 (element.NoArray) 0 None ([]) ([]) (0 ∷ []) ([]) (2 ∷ 0 ∷ []) (2 ∷ []) 0 (leaf.Class 2) None
-      ∷ class_of (codes "java/lang/String") 17 (element.NoArray) 0 None (0 ∷ []) ([]) (0 ∷ []) ([]) (3 ∷ 0 ∷ []) (0 ∷ 3 ∷ []) 0 (leaf.Class 3) (Some 7)
-      ∷ class_of (codes "java/lang/ref/Reference") 1025 (element.NoArray) 0 None (0 ∷ []) ([]) (0 ∷ []) ([]) (4 ∷ 0 ∷ []) (0 ∷ 4 ∷ []) 0 (leaf.Class 4) None
-      ∷ class_of (codes "java/lang/ref/WeakReference") 1 (element.NoArray) 0 None (4 ∷ []) ([]) (4 ∷ 0 ∷ []) ([]) (5 ∷ 4 ∷ 0 ∷ []) (0 ∷ 4 ∷ 5 ∷ []) 0 (leaf.Class 5) None
-      ∷ class_of (codes "Rev") 33 (element.NoArray) 1 None (0 ∷ []) ([]) (0 ∷ []) ([]) (6 ∷ 0 ∷ []) (0 ∷ 6 ∷ []) 0 (leaf.Class 6) None
-      ∷ class_of (codes "[Ljava/lang/String;") 1041 (element.Class 3) 0 None ([]) ([]) (0 ∷ []) (1 ∷ 2 ∷ []) (7 ∷ 1 ∷ 2 ∷ 0 ∷ []) (7 ∷ []) 1 (leaf.Class 3) None
-      ∷ [];
-  methods =
-      method_of 0 (codes "<init>") (codes "()V") 1 None
-      ∷ method_of 4 (codes "get") (codes "()Ljava/lang/Object;") 1 None
-      ∷ method_of 4 (codes "clear") (codes "()V") 1 None
-      ∷ method_of 5 (codes "<init>") (codes "(Ljava/lang/Object;)V") 1 None
-      ∷ method_of 6 (codes "main") (codes "([Ljava/lang/String;)V") 9 (code_of 5 1 (187 ∷ 0 ∷ 6 ∷ 89 ∷ 187 ∷ 0 ∷ 2 ∷ 89 ∷ 187 ∷ 0 ∷ 2 ∷ 181 ∷ 0 ∷ 10 ∷ 183 ∷ 0 ∷ 14 ∷ 0 ∷ 0 ∷ 89 ∷ 182 ∷ 0 ∷ 18 ∷ 198 ∷ 0 ∷ 4 ∷ 0 ∷ 87 ∷ 177 ∷ []) ([]))
-      ∷ [];
-  fields =
-      field_of 6 (codes "next") (codes "LRev;") 0 0 0 ∷ [];
-  statics = [];
-  file_methods = 4 ∷ [];
-  main = 4;
-  pools =
-      pool_of ([])
-      ∷ pool_of ([])
-      ∷ pool_of ([])
-      ∷ pool_of ([])
-      ∷ pool_of ([])
-      ∷ pool_of ([])
-      ∷ pool_of (Text (codes "Rev") ∷ Name CLASS 1 ∷ Text (codes "java/lang/Object") ∷ Name CLASS 3 ∷ Text (codes "java/lang/ref/WeakReference") ∷ Name CLASS 5 ∷ Text (codes "next") ∷ Text (codes "LRev;") ∷ Pair NAME_AND_TYPE 7 8 ∷ Pair FIELDREF 2 9 ∷ Text (codes "<init>") ∷ Text (codes "(Ljava/lang/Object;)V") ∷ Pair NAME_AND_TYPE 11 12 ∷ Pair METHODREF 6 13 ∷ Text (codes "get") ∷ Text (codes "()Ljava/lang/Object;") ∷ Pair NAME_AND_TYPE 15 16 ∷ Pair METHODREF 6 17 ∷ [])
-      ∷ [];
-}
+reviving =
+    program_of
+    (base_classes 7
+    ++ class_below [] (codes "java/lang/ref/Reference") 1025 4 0 None [] None
+    ∷ class_below (4 ∷ []) (codes "java/lang/ref/WeakReference") 1 5 0 None [] None
+    ∷ class_below [] (codes "Rev") 33 6 1 None [] None
+    ∷ array_class (codes "[Ljava/lang/String;") 7 (element.Class 3) 1 (leaf.Class 3) None
+    ∷ [])
+    (object_methods
+    ++ method_of 4 (codes "get") (codes "()Ljava/lang/Object;") 1 None
+    ∷ method_of 4 (codes "clear") (codes "()V") 1 None
+    ∷ method_of 5 (codes "<init>") (codes "(Ljava/lang/Object;)V") 1 None
+    ∷ method_of 6 (codes "main") (codes "([Ljava/lang/String;)V") 9 (code_of 5 1 (187 ∷ 0 ∷ 6 ∷ 89 ∷ 187 ∷ 0 ∷ 2 ∷ 89 ∷ 187 ∷ 0 ∷ 2 ∷ 181 ∷ 0 ∷ 10 ∷ 183 ∷ 0 ∷ 14 ∷ 0 ∷ 0 ∷ 89 ∷ 182 ∷ 0 ∷ 18 ∷ 198 ∷ 0 ∷ 4 ∷ 0 ∷ 87 ∷ 177 ∷ []) ([]))
+    ∷ [])
+    (field_of 6 (codes "next") (codes "LRev;") 0 0 0 ∷ []) [] (4 ∷ []) 4
+    (no_pools 6 ++ pool_of (Text (codes "Rev") ∷ Name CLASS 1 ∷ Text (codes "java/lang/Object") ∷ Name CLASS 3 ∷ Text (codes "java/lang/ref/WeakReference") ∷ Name CLASS 5 ∷ Text (codes "next") ∷ Text (codes "LRev;") ∷ Pair NAME_AND_TYPE 7 8 ∷ Pair FIELDREF 2 9 ∷ Text (codes "<init>") ∷ Text (codes "(Ljava/lang/Object;)V") ∷ Pair NAME_AND_TYPE 11 12 ∷ Pair METHODREF 6 13 ∷ Text (codes "get") ∷ Text (codes "()Ljava/lang/Object;") ∷ Pair NAME_AND_TYPE 15 16 ∷ Pair METHODREF 6 17 ∷ []) ∷ [])
 
 abbrev reviving_start : Kept
 reviving_start = kept_of (first_state 7 (Done ∷ Done ∷ Done ∷ Done ∷ Done ∷ Done ∷ Untouched ∷ Done ∷ []) (replicate 0 Unset))
@@ -303,54 +141,16 @@ reviving_records = refl
 
 -- a monitor is left that the thread does not own
 abbrev owner : Linked
-owner = record {
-  classes =
-      class_of (codes "java/lang/Object") 1 (element.NoArray) 0 None ([]) ([]) ([]) ([]) (0 ∷ []) (0 ∷ []) 0 (leaf.Class 0) None
-      ∷ class_of (codes "java/lang/Cloneable") 1537 (element.NoArray) 0 None ([]) ([]) (0 ∷ []) ([]) (1 ∷ 0 ∷ []) (1 ∷ []) 0 (leaf.Class 1) None
-      ∷ class_of (codes "java/io/Serializable") 1537 (element.NoArray) 0 None ([]) ([]) (0 ∷ []) ([]) (2 ∷ 0 ∷ []) (2 ∷ []) 0 (leaf.Class 2) None
-      ∷ class_of (codes "java/lang/String") 17 (element.NoArray) 0 None (0 ∷ []) ([]) (0 ∷ []) ([]) (3 ∷ 0 ∷ []) (0 ∷ 3 ∷ []) 0 (leaf.Class 3) (Some 9)
-      ∷ class_of (codes "java/lang/Throwable") 1 (element.NoArray) 2 None (0 ∷ []) ([]) (0 ∷ []) (2 ∷ []) (4 ∷ 2 ∷ 0 ∷ []) (0 ∷ 4 ∷ []) 0 (leaf.Class 4) None
-      ∷ class_of (codes "java/lang/Exception") 1 (element.NoArray) 2 None (4 ∷ []) ([]) (4 ∷ 0 ∷ []) (2 ∷ []) (5 ∷ 4 ∷ 2 ∷ 0 ∷ []) (0 ∷ 4 ∷ 5 ∷ []) 0 (leaf.Class 5) None
-      ∷ class_of (codes "java/lang/RuntimeException") 1 (element.NoArray) 2 None (5 ∷ []) ([]) (5 ∷ 4 ∷ 0 ∷ []) (2 ∷ []) (6 ∷ 5 ∷ 4 ∷ 2 ∷ 0 ∷ []) (0 ∷ 4 ∷ 5 ∷ 6 ∷ []) 0 (leaf.Class 6) None
-      ∷ class_of (codes "java/lang/IllegalMonitorStateException") 1 (element.NoArray) 2 None (6 ∷ []) ([]) (6 ∷ 5 ∷ 4 ∷ 0 ∷ []) (2 ∷ []) (7 ∷ 6 ∷ 5 ∷ 4 ∷ 2 ∷ 0 ∷ []) (0 ∷ 4 ∷ 5 ∷ 6 ∷ 7 ∷ []) 0 (leaf.Class 7) None
-      ∷ class_of (codes "Mon") 33 (element.NoArray) 0 None (0 ∷ []) ([]) (0 ∷ []) ([]) (8 ∷ 0 ∷ []) (0 ∷ 8 ∷ []) 0 (leaf.Class 8) None
-      ∷ class_of (codes "[Ljava/lang/String;") 1041 (element.Class 3) 0 None ([]) ([]) (0 ∷ []) (1 ∷ 2 ∷ []) (9 ∷ 1 ∷ 2 ∷ 0 ∷ []) (9 ∷ []) 1 (leaf.Class 3) None
-      ∷ [];
-  methods =
-      method_of 0 (codes "<init>") (codes "()V") 1 None
-      ∷ method_of 4 (codes "<init>") (codes "()V") 1 None
-      ∷ method_of 4 (codes "<init>") (codes "(Ljava/lang/String;)V") 1 None
-      ∷ method_of 4 (codes "<init>") (codes "(Ljava/lang/String;Ljava/lang/Throwable;)V") 1 None
-      ∷ method_of 4 (codes "getMessage") (codes "()Ljava/lang/String;") 1 None
-      ∷ method_of 4 (codes "getCause") (codes "()Ljava/lang/Throwable;") 1 None
-      ∷ method_of 4 (codes "addSuppressed") (codes "(Ljava/lang/Throwable;)V") 1 None
-      ∷ method_of 5 (codes "<init>") (codes "()V") 1 None
-      ∷ method_of 5 (codes "<init>") (codes "(Ljava/lang/String;)V") 1 None
-      ∷ method_of 5 (codes "<init>") (codes "(Ljava/lang/String;Ljava/lang/Throwable;)V") 1 None
-      ∷ method_of 6 (codes "<init>") (codes "()V") 1 None
-      ∷ method_of 6 (codes "<init>") (codes "(Ljava/lang/String;)V") 1 None
-      ∷ method_of 6 (codes "<init>") (codes "(Ljava/lang/String;Ljava/lang/Throwable;)V") 1 None
-      ∷ method_of 7 (codes "<init>") (codes "()V") 1 None
-      ∷ method_of 7 (codes "<init>") (codes "(Ljava/lang/String;)V") 1 None
-      ∷ method_of 7 (codes "<init>") (codes "(Ljava/lang/String;Ljava/lang/Throwable;)V") 1 None
-      ∷ method_of 8 (codes "main") (codes "([Ljava/lang/String;)V") 9 (code_of 2 1 (187 ∷ 0 ∷ 2 ∷ 195 ∷ 177 ∷ []) ([]))
-      ∷ [];
-  fields = [];
-  statics = [];
-  file_methods = 16 ∷ [];
-  main = 16;
-  pools =
-      pool_of ([])
-      ∷ pool_of ([])
-      ∷ pool_of ([])
-      ∷ pool_of ([])
-      ∷ pool_of ([])
-      ∷ pool_of ([])
-      ∷ pool_of ([])
-      ∷ pool_of ([])
-      ∷ pool_of (Text (codes "Mon") ∷ Name CLASS 1 ∷ Text (codes "java/lang/Object") ∷ Name CLASS 3 ∷ [])
-      ∷ [];
-}
+owner =
+    program_of
+    (runtime_classes 9
+    ++ thrown_class (codes "java/lang/IllegalMonitorStateException") 7 (6 ∷ 5 ∷ 4 ∷ [])
+    ∷ class_below [] (codes "Mon") 33 8 0 None [] None
+    ∷ array_class (codes "[Ljava/lang/String;") 9 (element.Class 3) 1 (leaf.Class 3) None
+    ∷ [])
+    (thrown_methods (5 ∷ 6 ∷ 7 ∷ []) ++ method_of 8 (codes "main") (codes "([Ljava/lang/String;)V") 9 (code_of 2 1 (187 ∷ 0 ∷ 2 ∷ 195 ∷ 177 ∷ []) ([])) ∷ [])
+    [] [] (16 ∷ []) 16
+    (no_pools 8 ++ pool_of (Text (codes "Mon") ∷ Name CLASS 1 ∷ Text (codes "java/lang/Object") ∷ Name CLASS 3 ∷ []) ∷ [])
 
 abbrev owner_start : Kept
 owner_start = kept_of (first_state 9 (Done ∷ Done ∷ Done ∷ Done ∷ Done ∷ Done ∷ Done ∷ Done ∷ Untouched ∷ Done ∷ []) (replicate 0 Unset))
@@ -361,45 +161,27 @@ owner_records = refl
 
 -- a program with a reference queue, and a class below WeakReference that declares nothing, whose `main` has this code
 abbrev with_queues : List ℕ → Linked
-with_queues code = record {
-  classes =
-      class_of (codes "java/lang/Object") 1 (element.NoArray) 0 None ([]) ([]) ([]) ([]) (0 ∷ []) (0 ∷ []) 0 (leaf.Class 0) None
-      ∷ class_of (codes "java/lang/Cloneable") 1537 (element.NoArray) 0 None ([]) ([]) (0 ∷ []) ([]) (1 ∷ 0 ∷ []) (1 ∷ []) 0 (leaf.Class 1) None
-      ∷ class_of (codes "java/io/Serializable") 1537 (element.NoArray) 0 None ([]) ([]) (0 ∷ []) ([]) (2 ∷ 0 ∷ []) (2 ∷ []) 0 (leaf.Class 2) None
-      ∷ class_of (codes "java/lang/String") 17 (element.NoArray) 0 None (0 ∷ []) ([]) (0 ∷ []) ([]) (3 ∷ 0 ∷ []) (0 ∷ 3 ∷ []) 0 (leaf.Class 3) (Some 8)
-      ∷ class_of (codes "java/lang/ref/Reference") 1025 (element.NoArray) 0 None (0 ∷ []) ([]) (0 ∷ []) ([]) (4 ∷ 0 ∷ []) (0 ∷ 4 ∷ []) 0 (leaf.Class 4) None
-      ∷ class_of (codes "java/lang/ref/WeakReference") 1 (element.NoArray) 0 None (4 ∷ []) ([]) (4 ∷ 0 ∷ []) ([]) (5 ∷ 4 ∷ 0 ∷ []) (0 ∷ 4 ∷ 5 ∷ []) 0 (leaf.Class 5) None
-      ∷ class_of (codes "java/lang/ref/ReferenceQueue") 1 (element.NoArray) 0 None (0 ∷ []) ([]) (0 ∷ []) ([]) (6 ∷ 0 ∷ []) (0 ∷ 6 ∷ []) 0 (leaf.Class 6) None
-      ∷ class_of (codes "Que") 33 (element.NoArray) 0 None (0 ∷ []) ([]) (0 ∷ []) ([]) (7 ∷ 0 ∷ []) (0 ∷ 7 ∷ []) 0 (leaf.Class 7) None
-      ∷ class_of (codes "[Ljava/lang/String;") 1041 (element.Class 3) 0 None ([]) ([]) (0 ∷ []) (1 ∷ 2 ∷ []) (8 ∷ 1 ∷ 2 ∷ 0 ∷ []) (8 ∷ []) 1 (leaf.Class 3) None
-      ∷ class_of (codes "Weak") 33 (element.NoArray) 0 None (5 ∷ []) ([]) (5 ∷ 4 ∷ 0 ∷ []) ([]) (9 ∷ 5 ∷ 4 ∷ 0 ∷ []) (0 ∷ 4 ∷ 5 ∷ 9 ∷ []) 0 (leaf.Class 9) None
-      ∷ [];
-  methods =
-      method_of 0 (codes "<init>") (codes "()V") 1 None
-      ∷ method_of 4 (codes "get") (codes "()Ljava/lang/Object;") 1 None
-      ∷ method_of 4 (codes "clear") (codes "()V") 1 None
-      ∷ method_of 5 (codes "<init>") (codes "(Ljava/lang/Object;)V") 1 None
-      ∷ method_of 5 (codes "<init>") (codes "(Ljava/lang/Object;Ljava/lang/ref/ReferenceQueue;)V") 1 None
-      ∷ method_of 6 (codes "<init>") (codes "()V") 1 None
-      ∷ method_of 6 (codes "poll") (codes "()Ljava/lang/ref/Reference;") 1 None
-      ∷ method_of 7 (codes "main") (codes "([Ljava/lang/String;)V") 9 (code_of 6 2 code ([]))
-      ∷ [];
-  fields =
-      field_of 7 (codes "top") (codes "Ljava/lang/Object;") 8 0 0 ∷ [];
-  statics = 0 ∷ [];
-  file_methods = 7 ∷ [];
-  main = 7;
-  pools =
-      pool_of ([])
-      ∷ pool_of ([])
-      ∷ pool_of ([])
-      ∷ pool_of ([])
-      ∷ pool_of ([])
-      ∷ pool_of ([])
-      ∷ pool_of ([])
-      ∷ pool_of (Text (codes "Que") ∷ Name CLASS 1 ∷ Text (codes "java/lang/Object") ∷ Name CLASS 3 ∷ Text (codes "java/lang/ref/ReferenceQueue") ∷ Name CLASS 5 ∷ Text (codes "<init>") ∷ Text (codes "()V") ∷ Pair NAME_AND_TYPE 7 8 ∷ Pair METHODREF 6 9 ∷ Text (codes "java/lang/ref/WeakReference") ∷ Name CLASS 11 ∷ Text (codes "(Ljava/lang/Object;Ljava/lang/ref/ReferenceQueue;)V") ∷ Pair NAME_AND_TYPE 7 13 ∷ Pair METHODREF 12 14 ∷ Text (codes "poll") ∷ Text (codes "()Ljava/lang/ref/Reference;") ∷ Pair NAME_AND_TYPE 16 17 ∷ Pair METHODREF 6 18 ∷ Text (codes "top") ∷ Text (codes "Ljava/lang/Object;") ∷ Pair NAME_AND_TYPE 20 21 ∷ Pair FIELDREF 2 22 ∷ Text (codes "Weak") ∷ Name CLASS 24 ∷ Pair METHODREF 25 14 ∷ [])
-      ∷ [];
-}
+with_queues code =
+    program_of
+    (base_classes 8
+    ++ class_below [] (codes "java/lang/ref/Reference") 1025 4 0 None [] None
+    ∷ class_below (4 ∷ []) (codes "java/lang/ref/WeakReference") 1 5 0 None [] None
+    ∷ class_below [] (codes "java/lang/ref/ReferenceQueue") 1 6 0 None [] None
+    ∷ class_below [] (codes "Que") 33 7 0 None [] None
+    ∷ array_class (codes "[Ljava/lang/String;") 8 (element.Class 3) 1 (leaf.Class 3) None
+    ∷ class_below (5 ∷ 4 ∷ []) (codes "Weak") 33 9 0 None [] None
+    ∷ [])
+    (object_methods
+    ++ method_of 4 (codes "get") (codes "()Ljava/lang/Object;") 1 None
+    ∷ method_of 4 (codes "clear") (codes "()V") 1 None
+    ∷ method_of 5 (codes "<init>") (codes "(Ljava/lang/Object;)V") 1 None
+    ∷ method_of 5 (codes "<init>") (codes "(Ljava/lang/Object;Ljava/lang/ref/ReferenceQueue;)V") 1 None
+    ∷ method_of 6 (codes "<init>") (codes "()V") 1 None
+    ∷ method_of 6 (codes "poll") (codes "()Ljava/lang/ref/Reference;") 1 None
+    ∷ method_of 7 (codes "main") (codes "([Ljava/lang/String;)V") 9 (code_of 6 2 code ([]))
+    ∷ [])
+    (field_of 7 (codes "top") (codes "Ljava/lang/Object;") 8 0 0 ∷ []) (0 ∷ []) (7 ∷ []) 7
+    (no_pools 7 ++ pool_of (Text (codes "Que") ∷ Name CLASS 1 ∷ Text (codes "java/lang/Object") ∷ Name CLASS 3 ∷ Text (codes "java/lang/ref/ReferenceQueue") ∷ Name CLASS 5 ∷ Text (codes "<init>") ∷ Text (codes "()V") ∷ Pair NAME_AND_TYPE 7 8 ∷ Pair METHODREF 6 9 ∷ Text (codes "java/lang/ref/WeakReference") ∷ Name CLASS 11 ∷ Text (codes "(Ljava/lang/Object;Ljava/lang/ref/ReferenceQueue;)V") ∷ Pair NAME_AND_TYPE 7 13 ∷ Pair METHODREF 12 14 ∷ Text (codes "poll") ∷ Text (codes "()Ljava/lang/ref/Reference;") ∷ Pair NAME_AND_TYPE 16 17 ∷ Pair METHODREF 6 18 ∷ Text (codes "top") ∷ Text (codes "Ljava/lang/Object;") ∷ Pair NAME_AND_TYPE 20 21 ∷ Pair FIELDREF 2 22 ∷ Text (codes "Weak") ∷ Name CLASS 24 ∷ Pair METHODREF 25 14 ∷ []) ∷ [])
 
 abbrev queues_start : Kept
 queues_start = kept_of (first_state 8 (Done ∷ Done ∷ Done ∷ Done ∷ Done ∷ Done ∷ Done ∷ Untouched ∷ Done ∷ Done ∷ []) (replicate 1 Unset))

@@ -1,95 +1,33 @@
 -- The table of events at small programs: the records of their runs, computed by the definitions.
-use Rattle.std.proofs.Common.{◌≡◌, ℕ, false, List, [], ◌∷◌, ◌++◌, Option, None, Some, refl, replicate, get_or, length, ◌%◌}
+use Rattle.std.proofs.Common.{◌≡◌, [], ◌∷◌, ◌++◌, None, Some, refl, replicate}
 use Rattle.std.specs.Prelude.{codes}
 use Rattle.std.specs.Int.{int_wrap}
 use Rattle.et_base.specs.declared.value.Value.TheVariants.{Unset}
-use Rattle.et_class.specs.Entries.{Item, Constants, slots_of, Text, Word, Wide, Name, Pair}
+use Rattle.et_class.specs.Entries.{Text, Word, Wide, Name, Pair}
 use Rattle.et_class.specs.PoolTags.TheConstants.{CLASS, STRING, INTEGER, LONG, FIELDREF, METHODREF, NAME_AND_TYPE}
-use Rattle.et_code.specs.Bodies.{Body}
-use Rattle.et_code.specs.declared.body.TableRow.{TableRow}
-use Rattle.et_program.specs.Entries.{Linked, ClassEntry}
-use Rattle.et_program.specs.declared.info.MethodInfo.{MethodInfo}
-use Rattle.et_program.specs.declared.info.FieldInfo.{FieldInfo}
-use Rattle.et_program.specs.declared.info.Element.{Element}
-use Rattle.et_program.specs.declared.kind.Leaf.{Leaf}
+use Rattle.et_program.specs.Entries.{Linked}
 use Rattle.et_program.specs.declared.info.Element.TheVariants as element
 use Rattle.et_program.specs.declared.kind.Leaf.TheVariants as leaf
 use Rattle.et_state.specs.declared.class_state.ClassState.TheVariants.{Untouched, Done}
 use Rattle.et_state.specs.State.{Kept, kept_of}
 use Rattle.et_state.specs.Words.{first_state}
-use Rattle.et_state.specs.Threads.{unended_of}
-use Rattle.et_state.specs.declared.records.Record.{Record}
 use Rattle.et_state.specs.declared.records.Record.TheVariants.{Alloc, Update, Enter, Exit}
-use Rattle.et_state.specs.Outcome.{IllTyped, state_after, records_of}
+use Rattle.et_state.specs.Outcome.{IllTyped}
 use Rattle.et_code.specs.Forms.{form_of}
 use Rattle.et_code.specs.Decoding.{instruction_at}
 use Rattle.et_class.specs.Descriptors.{after_name, after_dimensions, types_of}
 use Rattle.et_event.specs.Table.{row_of}
 use Rattle.et_event.specs.Event.{event}
-
-abbrev class_of : List ℕ → ℕ → Element → ℕ → Option ℕ → List ℕ → List ℕ → List ℕ → List ℕ → List ℕ → List ℕ → ℕ → Leaf → Option ℕ → ClassEntry
-class_of name flags element slots clinit prerequisites constants supers superinterfaces field_order init_order dimensions leaf array = record {
-  info = record { name = name; flags = flags; element = element; slots = slots; clinit = clinit; prerequisites = prerequisites; constants = constants };
-  supers = supers;
-  superinterfaces = superinterfaces;
-  field_order = field_order;
-  init_order = init_order;
-  kind = record { dimensions = dimensions; leaf = leaf };
-  array = array;
-}
-
-abbrev method_of : ℕ → List ℕ → List ℕ → ℕ → Option Body → MethodInfo
-method_of class name descriptor flags code = record { class = class; name = name; descriptor = descriptor; flags = flags; code = code; deferred = false }
-
-abbrev code_of : ℕ → ℕ → List ℕ → List TableRow → Option Body
-code_of stack locals code table = Some (record { max_stack = stack; max_locals = locals; code = code; table = table })
-
-abbrev field_of : ℕ → List ℕ → List ℕ → ℕ → ℕ → ℕ → FieldInfo
-field_of class name descriptor flags slot constant = record { class = class; name = name; descriptor = descriptor; flags = flags; slot = slot; constant = constant }
-
-abbrev pool_of : List Item → Constants
-pool_of items = record { at = 0; slots = slots_of items }
-
--- of the threads that have not ended, the one that a pick chooses
-turn_by : ℕ → Kept → ℕ
-turn_by pick s = let u = unended_of s.guest.threads in get_or u (pick % length u) 0
-
--- the state after the events of these picks, and their records
-after_picks : Linked → List ℕ → Kept → Kept
-after_picks p [] s = s
-after_picks p (k ∷ ks) s = after_picks p ks (state_after s (event p s (turn_by k s)))
-
-records_by : Linked → List ℕ → Kept → List Record
-records_by p [] s = []
-records_by p (k ∷ ks) s = let o = event p s (turn_by k s) in records_of o ++ records_by p ks (state_after s o)
+use Rattle.et_event.proofs.ExamplePrograms.{array_class, base_classes, class_below, code_of, field_of, method_of, no_pools, object_methods, pool_of, program_of, runtime_classes, thrown_class, thrown_methods, after_picks, records_by, turn_by}
 
 -- `new Box; pop; return`
 abbrev box : Linked
-box = record {
-  classes =
-      class_of (codes "java/lang/Object") 1 (element.NoArray) 0 None ([]) ([]) ([]) ([]) (0 ∷ []) (0 ∷ []) 0 (leaf.Class 0) None
-      ∷ class_of (codes "java/lang/Cloneable") 1537 (element.NoArray) 0 None ([]) ([]) (0 ∷ []) ([]) (1 ∷ 0 ∷ []) (1 ∷ []) 0 (leaf.Class 1) None
-      ∷ class_of (codes "java/io/Serializable") 1537 (element.NoArray) 0 None ([]) ([]) (0 ∷ []) ([]) (2 ∷ 0 ∷ []) (2 ∷ []) 0 (leaf.Class 2) None
-      ∷ class_of (codes "java/lang/String") 17 (element.NoArray) 0 None (0 ∷ []) ([]) (0 ∷ []) ([]) (3 ∷ 0 ∷ []) (0 ∷ 3 ∷ []) 0 (leaf.Class 3) (Some 5)
-      ∷ class_of (codes "Box") 33 (element.NoArray) 0 None (0 ∷ []) ([]) (0 ∷ []) ([]) (4 ∷ 0 ∷ []) (0 ∷ 4 ∷ []) 0 (leaf.Class 4) None
-      ∷ class_of (codes "[Ljava/lang/String;") 1041 (element.Class 3) 0 None ([]) ([]) (0 ∷ []) (1 ∷ 2 ∷ []) (5 ∷ 1 ∷ 2 ∷ 0 ∷ []) (5 ∷ []) 1 (leaf.Class 3) None
-      ∷ [];
-  methods =
-      method_of 0 (codes "<init>") (codes "()V") 1 None
-      ∷ method_of 4 (codes "main") (codes "([Ljava/lang/String;)V") 9 (code_of 1 1 (187 ∷ 0 ∷ 2 ∷ 87 ∷ 177 ∷ []) ([]))
-      ∷ [];
-  fields = [];
-  statics = [];
-  file_methods = 1 ∷ [];
-  main = 1;
-  pools =
-      pool_of ([])
-      ∷ pool_of ([])
-      ∷ pool_of ([])
-      ∷ pool_of ([])
-      ∷ pool_of (Text (codes "Box") ∷ Name CLASS 1 ∷ Text (codes "java/lang/Object") ∷ Name CLASS 3 ∷ [])
-      ∷ [];
-}
+box =
+    program_of
+    (base_classes 5 ++ class_below [] (codes "Box") 33 4 0 None [] None ∷ array_class (codes "[Ljava/lang/String;") 5 (element.Class 3) 1 (leaf.Class 3) None ∷ [])
+    (object_methods ++ method_of 4 (codes "main") (codes "([Ljava/lang/String;)V") 9 (code_of 1 1 (187 ∷ 0 ∷ 2 ∷ 87 ∷ 177 ∷ []) ([])) ∷ [])
+    [] [] (1 ∷ []) 1
+    (no_pools 4 ++ pool_of (Text (codes "Box") ∷ Name CLASS 1 ∷ Text (codes "java/lang/Object") ∷ Name CLASS 3 ∷ []) ∷ [])
 
 abbrev box_start : Kept
 box_start = kept_of (first_state 5 (Done ∷ Done ∷ Done ∷ Done ∷ Untouched ∷ Done ∷ []) (replicate 0 Unset))
@@ -100,32 +38,12 @@ box_records = refl
 
 -- two objects that refer to each other
 abbrev node : Linked
-node = record {
-  classes =
-      class_of (codes "java/lang/Object") 1 (element.NoArray) 0 None ([]) ([]) ([]) ([]) (0 ∷ []) (0 ∷ []) 0 (leaf.Class 0) None
-      ∷ class_of (codes "java/lang/Cloneable") 1537 (element.NoArray) 0 None ([]) ([]) (0 ∷ []) ([]) (1 ∷ 0 ∷ []) (1 ∷ []) 0 (leaf.Class 1) None
-      ∷ class_of (codes "java/io/Serializable") 1537 (element.NoArray) 0 None ([]) ([]) (0 ∷ []) ([]) (2 ∷ 0 ∷ []) (2 ∷ []) 0 (leaf.Class 2) None
-      ∷ class_of (codes "java/lang/String") 17 (element.NoArray) 0 None (0 ∷ []) ([]) (0 ∷ []) ([]) (3 ∷ 0 ∷ []) (0 ∷ 3 ∷ []) 0 (leaf.Class 3) (Some 5)
-      ∷ class_of (codes "Node") 33 (element.NoArray) 1 None (0 ∷ []) ([]) (0 ∷ []) ([]) (4 ∷ 0 ∷ []) (0 ∷ 4 ∷ []) 0 (leaf.Class 4) None
-      ∷ class_of (codes "[Ljava/lang/String;") 1041 (element.Class 3) 0 None ([]) ([]) (0 ∷ []) (1 ∷ 2 ∷ []) (5 ∷ 1 ∷ 2 ∷ 0 ∷ []) (5 ∷ []) 1 (leaf.Class 3) None
-      ∷ [];
-  methods =
-      method_of 0 (codes "<init>") (codes "()V") 1 None
-      ∷ method_of 4 (codes "main") (codes "([Ljava/lang/String;)V") 9 (code_of 4 1 (187 ∷ 0 ∷ 2 ∷ 187 ∷ 0 ∷ 2 ∷ 92 ∷ 181 ∷ 0 ∷ 8 ∷ 95 ∷ 181 ∷ 0 ∷ 8 ∷ 177 ∷ []) ([]))
-      ∷ [];
-  fields =
-      field_of 4 (codes "next") (codes "LNode;") 0 0 0 ∷ [];
-  statics = [];
-  file_methods = 1 ∷ [];
-  main = 1;
-  pools =
-      pool_of ([])
-      ∷ pool_of ([])
-      ∷ pool_of ([])
-      ∷ pool_of ([])
-      ∷ pool_of (Text (codes "Node") ∷ Name CLASS 1 ∷ Text (codes "java/lang/Object") ∷ Name CLASS 3 ∷ Text (codes "next") ∷ Text (codes "LNode;") ∷ Pair NAME_AND_TYPE 5 6 ∷ Pair FIELDREF 2 7 ∷ [])
-      ∷ [];
-}
+node =
+    program_of
+    (base_classes 5 ++ class_below [] (codes "Node") 33 4 1 None [] None ∷ array_class (codes "[Ljava/lang/String;") 5 (element.Class 3) 1 (leaf.Class 3) None ∷ [])
+    (object_methods ++ method_of 4 (codes "main") (codes "([Ljava/lang/String;)V") 9 (code_of 4 1 (187 ∷ 0 ∷ 2 ∷ 187 ∷ 0 ∷ 2 ∷ 92 ∷ 181 ∷ 0 ∷ 8 ∷ 95 ∷ 181 ∷ 0 ∷ 8 ∷ 177 ∷ []) ([])) ∷ [])
+    (field_of 4 (codes "next") (codes "LNode;") 0 0 0 ∷ []) [] (1 ∷ []) 1
+    (no_pools 4 ++ pool_of (Text (codes "Node") ∷ Name CLASS 1 ∷ Text (codes "java/lang/Object") ∷ Name CLASS 3 ∷ Text (codes "next") ∷ Text (codes "LNode;") ∷ Pair NAME_AND_TYPE 5 6 ∷ Pair FIELDREF 2 7 ∷ []) ∷ [])
 
 abbrev node_start : Kept
 node_start = kept_of (first_state 5 (Done ∷ Done ∷ Done ∷ Done ∷ Untouched ∷ Done ∷ []) (replicate 0 Unset))
@@ -136,54 +54,18 @@ node_records = refl
 
 -- a division by zero, and its handler
 abbrev div : Linked
-div = record {
-  classes =
-      class_of (codes "java/lang/Object") 1 (element.NoArray) 0 None ([]) ([]) ([]) ([]) (0 ∷ []) (0 ∷ []) 0 (leaf.Class 0) None
-      ∷ class_of (codes "java/lang/Cloneable") 1537 (element.NoArray) 0 None ([]) ([]) (0 ∷ []) ([]) (1 ∷ 0 ∷ []) (1 ∷ []) 0 (leaf.Class 1) None
-      ∷ class_of (codes "java/io/Serializable") 1537 (element.NoArray) 0 None ([]) ([]) (0 ∷ []) ([]) (2 ∷ 0 ∷ []) (2 ∷ []) 0 (leaf.Class 2) None
-      ∷ class_of (codes "java/lang/String") 17 (element.NoArray) 0 None (0 ∷ []) ([]) (0 ∷ []) ([]) (3 ∷ 0 ∷ []) (0 ∷ 3 ∷ []) 0 (leaf.Class 3) (Some 9)
-      ∷ class_of (codes "java/lang/Throwable") 1 (element.NoArray) 2 None (0 ∷ []) ([]) (0 ∷ []) (2 ∷ []) (4 ∷ 2 ∷ 0 ∷ []) (0 ∷ 4 ∷ []) 0 (leaf.Class 4) None
-      ∷ class_of (codes "java/lang/Exception") 1 (element.NoArray) 2 None (4 ∷ []) ([]) (4 ∷ 0 ∷ []) (2 ∷ []) (5 ∷ 4 ∷ 2 ∷ 0 ∷ []) (0 ∷ 4 ∷ 5 ∷ []) 0 (leaf.Class 5) None
-      ∷ class_of (codes "java/lang/RuntimeException") 1 (element.NoArray) 2 None (5 ∷ []) ([]) (5 ∷ 4 ∷ 0 ∷ []) (2 ∷ []) (6 ∷ 5 ∷ 4 ∷ 2 ∷ 0 ∷ []) (0 ∷ 4 ∷ 5 ∷ 6 ∷ []) 0 (leaf.Class 6) None
-      ∷ class_of (codes "java/lang/ArithmeticException") 1 (element.NoArray) 2 None (6 ∷ []) ([]) (6 ∷ 5 ∷ 4 ∷ 0 ∷ []) (2 ∷ []) (7 ∷ 6 ∷ 5 ∷ 4 ∷ 2 ∷ 0 ∷ []) (0 ∷ 4 ∷ 5 ∷ 6 ∷ 7 ∷ []) 0 (leaf.Class 7) None
-      ∷ class_of (codes "Div") 33 (element.NoArray) 0 None (0 ∷ []) ([]) (0 ∷ []) ([]) (8 ∷ 0 ∷ []) (0 ∷ 8 ∷ []) 0 (leaf.Class 8) None
-      ∷ class_of (codes "[Ljava/lang/String;") 1041 (element.Class 3) 0 None ([]) ([]) (0 ∷ []) (1 ∷ 2 ∷ []) (9 ∷ 1 ∷ 2 ∷ 0 ∷ []) (9 ∷ []) 1 (leaf.Class 3) None
-      ∷ [];
-  methods =
-      method_of 0 (codes "<init>") (codes "()V") 1 None
-      ∷ method_of 4 (codes "<init>") (codes "()V") 1 None
-      ∷ method_of 4 (codes "<init>") (codes "(Ljava/lang/String;)V") 1 None
-      ∷ method_of 4 (codes "<init>") (codes "(Ljava/lang/String;Ljava/lang/Throwable;)V") 1 None
-      ∷ method_of 4 (codes "getMessage") (codes "()Ljava/lang/String;") 1 None
-      ∷ method_of 4 (codes "getCause") (codes "()Ljava/lang/Throwable;") 1 None
-      ∷ method_of 4 (codes "addSuppressed") (codes "(Ljava/lang/Throwable;)V") 1 None
-      ∷ method_of 5 (codes "<init>") (codes "()V") 1 None
-      ∷ method_of 5 (codes "<init>") (codes "(Ljava/lang/String;)V") 1 None
-      ∷ method_of 5 (codes "<init>") (codes "(Ljava/lang/String;Ljava/lang/Throwable;)V") 1 None
-      ∷ method_of 6 (codes "<init>") (codes "()V") 1 None
-      ∷ method_of 6 (codes "<init>") (codes "(Ljava/lang/String;)V") 1 None
-      ∷ method_of 6 (codes "<init>") (codes "(Ljava/lang/String;Ljava/lang/Throwable;)V") 1 None
-      ∷ method_of 7 (codes "<init>") (codes "()V") 1 None
-      ∷ method_of 7 (codes "<init>") (codes "(Ljava/lang/String;)V") 1 None
-      ∷ method_of 7 (codes "<init>") (codes "(Ljava/lang/String;Ljava/lang/Throwable;)V") 1 None
-      ∷ method_of 8 (codes "main") (codes "([Ljava/lang/String;)V") 9 (code_of 4 1 (187 ∷ 0 ∷ 2 ∷ 187 ∷ 0 ∷ 2 ∷ 4 ∷ 3 ∷ 108 ∷ 87 ∷ 177 ∷ []) (record { start = 0; end = 9; handler = 9; catch = 6 } ∷ []))
-      ∷ [];
-  fields = [];
-  statics = [];
-  file_methods = 16 ∷ [];
-  main = 16;
-  pools =
-      pool_of ([])
-      ∷ pool_of ([])
-      ∷ pool_of ([])
-      ∷ pool_of ([])
-      ∷ pool_of ([])
-      ∷ pool_of ([])
-      ∷ pool_of ([])
-      ∷ pool_of ([])
-      ∷ pool_of (Text (codes "Div") ∷ Name CLASS 1 ∷ Text (codes "java/lang/Object") ∷ Name CLASS 3 ∷ Text (codes "java/lang/ArithmeticException") ∷ Name CLASS 5 ∷ [])
-      ∷ [];
-}
+div =
+    program_of
+    (runtime_classes 9
+    ++ thrown_class (codes "java/lang/ArithmeticException") 7 (6 ∷ 5 ∷ 4 ∷ [])
+    ∷ class_below [] (codes "Div") 33 8 0 None [] None
+    ∷ array_class (codes "[Ljava/lang/String;") 9 (element.Class 3) 1 (leaf.Class 3) None
+    ∷ [])
+    (thrown_methods (5 ∷ 6 ∷ 7 ∷ [])
+    ++ method_of 8 (codes "main") (codes "([Ljava/lang/String;)V") 9 (code_of 4 1 (187 ∷ 0 ∷ 2 ∷ 187 ∷ 0 ∷ 2 ∷ 4 ∷ 3 ∷ 108 ∷ 87 ∷ 177 ∷ []) (record { start = 0; end = 9; handler = 9; catch = 6 } ∷ []))
+    ∷ [])
+    [] [] (16 ∷ []) 16
+    (no_pools 8 ++ pool_of (Text (codes "Div") ∷ Name CLASS 1 ∷ Text (codes "java/lang/Object") ∷ Name CLASS 3 ∷ Text (codes "java/lang/ArithmeticException") ∷ Name CLASS 5 ∷ []) ∷ [])
 
 abbrev div_start : Kept
 div_start = kept_of (first_state 9 (Done ∷ Done ∷ Done ∷ Done ∷ Done ∷ Done ∷ Done ∷ Done ∷ Untouched ∷ Done ∷ []) (replicate 0 Unset))
@@ -194,31 +76,12 @@ div_records = refl
 
 -- `iadd` on no operands: its event has no meaning
 abbrev ill : Linked
-ill = record {
-  classes =
-      class_of (codes "java/lang/Object") 1 (element.NoArray) 0 None ([]) ([]) ([]) ([]) (0 ∷ []) (0 ∷ []) 0 (leaf.Class 0) None
-      ∷ class_of (codes "java/lang/Cloneable") 1537 (element.NoArray) 0 None ([]) ([]) (0 ∷ []) ([]) (1 ∷ 0 ∷ []) (1 ∷ []) 0 (leaf.Class 1) None
-      ∷ class_of (codes "java/io/Serializable") 1537 (element.NoArray) 0 None ([]) ([]) (0 ∷ []) ([]) (2 ∷ 0 ∷ []) (2 ∷ []) 0 (leaf.Class 2) None
-      ∷ class_of (codes "java/lang/String") 17 (element.NoArray) 0 None (0 ∷ []) ([]) (0 ∷ []) ([]) (3 ∷ 0 ∷ []) (0 ∷ 3 ∷ []) 0 (leaf.Class 3) (Some 5)
-      ∷ class_of (codes "Ill") 33 (element.NoArray) 0 None (0 ∷ []) ([]) (0 ∷ []) ([]) (4 ∷ 0 ∷ []) (0 ∷ 4 ∷ []) 0 (leaf.Class 4) None
-      ∷ class_of (codes "[Ljava/lang/String;") 1041 (element.Class 3) 0 None ([]) ([]) (0 ∷ []) (1 ∷ 2 ∷ []) (5 ∷ 1 ∷ 2 ∷ 0 ∷ []) (5 ∷ []) 1 (leaf.Class 3) None
-      ∷ [];
-  methods =
-      method_of 0 (codes "<init>") (codes "()V") 1 None
-      ∷ method_of 4 (codes "main") (codes "([Ljava/lang/String;)V") 9 (code_of 2 1 (96 ∷ 177 ∷ []) ([]))
-      ∷ [];
-  fields = [];
-  statics = [];
-  file_methods = 1 ∷ [];
-  main = 1;
-  pools =
-      pool_of ([])
-      ∷ pool_of ([])
-      ∷ pool_of ([])
-      ∷ pool_of ([])
-      ∷ pool_of (Text (codes "Ill") ∷ Name CLASS 1 ∷ Text (codes "java/lang/Object") ∷ Name CLASS 3 ∷ [])
-      ∷ [];
-}
+ill =
+    program_of
+    (base_classes 5 ++ class_below [] (codes "Ill") 33 4 0 None [] None ∷ array_class (codes "[Ljava/lang/String;") 5 (element.Class 3) 1 (leaf.Class 3) None ∷ [])
+    (object_methods ++ method_of 4 (codes "main") (codes "([Ljava/lang/String;)V") 9 (code_of 2 1 (96 ∷ 177 ∷ []) ([])) ∷ [])
+    [] [] (1 ∷ []) 1
+    (no_pools 4 ++ pool_of (Text (codes "Ill") ∷ Name CLASS 1 ∷ Text (codes "java/lang/Object") ∷ Name CLASS 3 ∷ []) ∷ [])
 
 abbrev ill_start : Kept
 ill_start = kept_of (first_state 5 (Done ∷ Done ∷ Done ∷ Done ∷ Untouched ∷ Done ∷ []) (replicate 0 Unset))
@@ -229,31 +92,12 @@ ill_ends = refl
 
 -- two equal strings of constants are one object
 abbrev strings : Linked
-strings = record {
-  classes =
-      class_of (codes "java/lang/Object") 1 (element.NoArray) 0 None ([]) ([]) ([]) ([]) (0 ∷ []) (0 ∷ []) 0 (leaf.Class 0) None
-      ∷ class_of (codes "java/lang/Cloneable") 1537 (element.NoArray) 0 None ([]) ([]) (0 ∷ []) ([]) (1 ∷ 0 ∷ []) (1 ∷ []) 0 (leaf.Class 1) None
-      ∷ class_of (codes "java/io/Serializable") 1537 (element.NoArray) 0 None ([]) ([]) (0 ∷ []) ([]) (2 ∷ 0 ∷ []) (2 ∷ []) 0 (leaf.Class 2) None
-      ∷ class_of (codes "java/lang/String") 17 (element.NoArray) 0 None (0 ∷ []) ([]) (0 ∷ []) ([]) (3 ∷ 0 ∷ []) (0 ∷ 3 ∷ []) 0 (leaf.Class 3) (Some 5)
-      ∷ class_of (codes "Str") 33 (element.NoArray) 0 None (0 ∷ []) ([]) (0 ∷ []) ([]) (4 ∷ 0 ∷ []) (0 ∷ 4 ∷ []) 0 (leaf.Class 4) None
-      ∷ class_of (codes "[Ljava/lang/String;") 1041 (element.Class 3) 0 None ([]) ([]) (0 ∷ []) (1 ∷ 2 ∷ []) (5 ∷ 1 ∷ 2 ∷ 0 ∷ []) (5 ∷ []) 1 (leaf.Class 3) None
-      ∷ [];
-  methods =
-      method_of 0 (codes "<init>") (codes "()V") 1 None
-      ∷ method_of 4 (codes "main") (codes "([Ljava/lang/String;)V") 9 (code_of 2 1 (18 ∷ 6 ∷ 18 ∷ 6 ∷ 165 ∷ 0 ∷ 4 ∷ 0 ∷ 177 ∷ []) ([]))
-      ∷ [];
-  fields = [];
-  statics = [];
-  file_methods = 1 ∷ [];
-  main = 1;
-  pools =
-      pool_of ([])
-      ∷ pool_of ([])
-      ∷ pool_of ([])
-      ∷ pool_of ([])
-      ∷ pool_of (Text (codes "Str") ∷ Name CLASS 1 ∷ Text (codes "java/lang/Object") ∷ Name CLASS 3 ∷ Text (codes "a") ∷ Name STRING 5 ∷ [])
-      ∷ [];
-}
+strings =
+    program_of
+    (base_classes 5 ++ class_below [] (codes "Str") 33 4 0 None [] None ∷ array_class (codes "[Ljava/lang/String;") 5 (element.Class 3) 1 (leaf.Class 3) None ∷ [])
+    (object_methods ++ method_of 4 (codes "main") (codes "([Ljava/lang/String;)V") 9 (code_of 2 1 (18 ∷ 6 ∷ 18 ∷ 6 ∷ 165 ∷ 0 ∷ 4 ∷ 0 ∷ 177 ∷ []) ([])) ∷ [])
+    [] [] (1 ∷ []) 1
+    (no_pools 4 ++ pool_of (Text (codes "Str") ∷ Name CLASS 1 ∷ Text (codes "java/lang/Object") ∷ Name CLASS 3 ∷ Text (codes "a") ∷ Name STRING 5 ∷ []) ∷ [])
 
 abbrev strings_start : Kept
 strings_start = kept_of (first_state 5 (Done ∷ Done ∷ Done ∷ Done ∷ Untouched ∷ Done ∷ []) (replicate 0 Unset))
@@ -264,33 +108,17 @@ strings_records = refl
 
 -- an array of arrays
 abbrev arrays : Linked
-arrays = record {
-  classes =
-      class_of (codes "java/lang/Object") 1 (element.NoArray) 0 None ([]) ([]) ([]) ([]) (0 ∷ []) (0 ∷ []) 0 (leaf.Class 0) None
-      ∷ class_of (codes "java/lang/Cloneable") 1537 (element.NoArray) 0 None ([]) ([]) (0 ∷ []) ([]) (1 ∷ 0 ∷ []) (1 ∷ []) 0 (leaf.Class 1) None
-      ∷ class_of (codes "java/io/Serializable") 1537 (element.NoArray) 0 None ([]) ([]) (0 ∷ []) ([]) (2 ∷ 0 ∷ []) (2 ∷ []) 0 (leaf.Class 2) None
-      ∷ class_of (codes "java/lang/String") 17 (element.NoArray) 0 None (0 ∷ []) ([]) (0 ∷ []) ([]) (3 ∷ 0 ∷ []) (0 ∷ 3 ∷ []) 0 (leaf.Class 3) (Some 7)
-      ∷ class_of (codes "Mul") 33 (element.NoArray) 0 None (0 ∷ []) ([]) (0 ∷ []) ([]) (4 ∷ 0 ∷ []) (0 ∷ 4 ∷ []) 0 (leaf.Class 4) None
-      ∷ class_of (codes "[I") 1041 (element.Base 10) 0 None ([]) ([]) (0 ∷ []) (1 ∷ 2 ∷ []) (5 ∷ 1 ∷ 2 ∷ 0 ∷ []) (5 ∷ []) 1 (leaf.Base 10) (Some 6)
-      ∷ class_of (codes "[[I") 1041 (element.Class 5) 0 None ([]) ([]) (0 ∷ []) (1 ∷ 2 ∷ []) (6 ∷ 1 ∷ 2 ∷ 0 ∷ []) (6 ∷ []) 2 (leaf.Base 10) None
-      ∷ class_of (codes "[Ljava/lang/String;") 1041 (element.Class 3) 0 None ([]) ([]) (0 ∷ []) (1 ∷ 2 ∷ []) (7 ∷ 1 ∷ 2 ∷ 0 ∷ []) (7 ∷ []) 1 (leaf.Class 3) None
-      ∷ [];
-  methods =
-      method_of 0 (codes "<init>") (codes "()V") 1 None
-      ∷ method_of 4 (codes "main") (codes "([Ljava/lang/String;)V") 9 (code_of 2 1 (5 ∷ 4 ∷ 197 ∷ 0 ∷ 6 ∷ 2 ∷ 87 ∷ 177 ∷ []) ([]))
-      ∷ [];
-  fields = [];
-  statics = [];
-  file_methods = 1 ∷ [];
-  main = 1;
-  pools =
-      pool_of ([])
-      ∷ pool_of ([])
-      ∷ pool_of ([])
-      ∷ pool_of ([])
-      ∷ pool_of (Text (codes "Mul") ∷ Name CLASS 1 ∷ Text (codes "java/lang/Object") ∷ Name CLASS 3 ∷ Text (codes "[[I") ∷ Name CLASS 5 ∷ [])
-      ∷ [];
-}
+arrays =
+    program_of
+    (base_classes 7
+    ++ class_below [] (codes "Mul") 33 4 0 None [] None
+    ∷ array_class (codes "[I") 5 (element.Base 10) 1 (leaf.Base 10) (Some 6)
+    ∷ array_class (codes "[[I") 6 (element.Class 5) 2 (leaf.Base 10) None
+    ∷ array_class (codes "[Ljava/lang/String;") 7 (element.Class 3) 1 (leaf.Class 3) None
+    ∷ [])
+    (object_methods ++ method_of 4 (codes "main") (codes "([Ljava/lang/String;)V") 9 (code_of 2 1 (5 ∷ 4 ∷ 197 ∷ 0 ∷ 6 ∷ 2 ∷ 87 ∷ 177 ∷ []) ([])) ∷ [])
+    [] [] (1 ∷ []) 1
+    (no_pools 4 ++ pool_of (Text (codes "Mul") ∷ Name CLASS 1 ∷ Text (codes "java/lang/Object") ∷ Name CLASS 3 ∷ Text (codes "[[I") ∷ Name CLASS 5 ∷ []) ∷ [])
 
 abbrev arrays_start : Kept
 arrays_start = kept_of (first_state 7 (Done ∷ Done ∷ Done ∷ Done ∷ Untouched ∷ Done ∷ Done ∷ Done ∷ []) (replicate 0 Unset))
@@ -301,33 +129,15 @@ arrays_records = refl
 
 -- a call with a long and an int that returns a long, and a field that keeps one
 abbrev longs : Linked
-longs = record {
-  classes =
-      class_of (codes "java/lang/Object") 1 (element.NoArray) 0 None ([]) ([]) ([]) ([]) (0 ∷ []) (0 ∷ []) 0 (leaf.Class 0) None
-      ∷ class_of (codes "java/lang/Cloneable") 1537 (element.NoArray) 0 None ([]) ([]) (0 ∷ []) ([]) (1 ∷ 0 ∷ []) (1 ∷ []) 0 (leaf.Class 1) None
-      ∷ class_of (codes "java/io/Serializable") 1537 (element.NoArray) 0 None ([]) ([]) (0 ∷ []) ([]) (2 ∷ 0 ∷ []) (2 ∷ []) 0 (leaf.Class 2) None
-      ∷ class_of (codes "java/lang/String") 17 (element.NoArray) 0 None (0 ∷ []) ([]) (0 ∷ []) ([]) (3 ∷ 0 ∷ []) (0 ∷ 3 ∷ []) 0 (leaf.Class 3) (Some 5)
-      ∷ class_of (codes "G") 33 (element.NoArray) 1 None (0 ∷ []) ([]) (0 ∷ []) ([]) (4 ∷ 0 ∷ []) (0 ∷ 4 ∷ []) 0 (leaf.Class 4) None
-      ∷ class_of (codes "[Ljava/lang/String;") 1041 (element.Class 3) 0 None ([]) ([]) (0 ∷ []) (1 ∷ 2 ∷ []) (5 ∷ 1 ∷ 2 ∷ 0 ∷ []) (5 ∷ []) 1 (leaf.Class 3) None
-      ∷ [];
-  methods =
-      method_of 0 (codes "<init>") (codes "()V") 1 None
-      ∷ method_of 4 (codes "main") (codes "([Ljava/lang/String;)V") 9 (code_of 6 4 (187 ∷ 0 ∷ 2 ∷ 58 ∷ 1 ∷ 25 ∷ 1 ∷ 10 ∷ 5 ∷ 182 ∷ 0 ∷ 8 ∷ 55 ∷ 2 ∷ 25 ∷ 1 ∷ 22 ∷ 2 ∷ 181 ∷ 0 ∷ 12 ∷ 25 ∷ 1 ∷ 180 ∷ 0 ∷ 12 ∷ 136 ∷ 6 ∷ 159 ∷ 0 ∷ 7 ∷ 187 ∷ 0 ∷ 2 ∷ 87 ∷ 177 ∷ []) ([]))
-      ∷ method_of 4 (codes "m") (codes "(JI)J") 1 (code_of 4 4 (22 ∷ 1 ∷ 21 ∷ 3 ∷ 133 ∷ 97 ∷ 173 ∷ []) ([]))
-      ∷ [];
-  fields =
-      field_of 4 (codes "a") (codes "J") 0 0 0 ∷ [];
-  statics = [];
-  file_methods = 1 ∷ 2 ∷ [];
-  main = 1;
-  pools =
-      pool_of ([])
-      ∷ pool_of ([])
-      ∷ pool_of ([])
-      ∷ pool_of ([])
-      ∷ pool_of (Text (codes "G") ∷ Name CLASS 1 ∷ Text (codes "java/lang/Object") ∷ Name CLASS 3 ∷ Text (codes "m") ∷ Text (codes "(JI)J") ∷ Pair NAME_AND_TYPE 5 6 ∷ Pair METHODREF 2 7 ∷ Text (codes "a") ∷ Text (codes "J") ∷ Pair NAME_AND_TYPE 9 10 ∷ Pair FIELDREF 2 11 ∷ [])
-      ∷ [];
-}
+longs =
+    program_of
+    (base_classes 5 ++ class_below [] (codes "G") 33 4 1 None [] None ∷ array_class (codes "[Ljava/lang/String;") 5 (element.Class 3) 1 (leaf.Class 3) None ∷ [])
+    (object_methods
+    ++ method_of 4 (codes "main") (codes "([Ljava/lang/String;)V") 9 (code_of 6 4 (187 ∷ 0 ∷ 2 ∷ 58 ∷ 1 ∷ 25 ∷ 1 ∷ 10 ∷ 5 ∷ 182 ∷ 0 ∷ 8 ∷ 55 ∷ 2 ∷ 25 ∷ 1 ∷ 22 ∷ 2 ∷ 181 ∷ 0 ∷ 12 ∷ 25 ∷ 1 ∷ 180 ∷ 0 ∷ 12 ∷ 136 ∷ 6 ∷ 159 ∷ 0 ∷ 7 ∷ 187 ∷ 0 ∷ 2 ∷ 87 ∷ 177 ∷ []) ([]))
+    ∷ method_of 4 (codes "m") (codes "(JI)J") 1 (code_of 4 4 (22 ∷ 1 ∷ 21 ∷ 3 ∷ 133 ∷ 97 ∷ 173 ∷ []) ([]))
+    ∷ [])
+    (field_of 4 (codes "a") (codes "J") 0 0 0 ∷ []) [] (1 ∷ 2 ∷ []) 1
+    (no_pools 4 ++ pool_of (Text (codes "G") ∷ Name CLASS 1 ∷ Text (codes "java/lang/Object") ∷ Name CLASS 3 ∷ Text (codes "m") ∷ Text (codes "(JI)J") ∷ Pair NAME_AND_TYPE 5 6 ∷ Pair METHODREF 2 7 ∷ Text (codes "a") ∷ Text (codes "J") ∷ Pair NAME_AND_TYPE 9 10 ∷ Pair FIELDREF 2 11 ∷ []) ∷ [])
 
 abbrev longs_start : Kept
 longs_start = kept_of (first_state 5 (Done ∷ Done ∷ Done ∷ Done ∷ Untouched ∷ Done ∷ []) (replicate 0 Unset))
@@ -338,39 +148,17 @@ longs_records = refl
 
 -- a class without <clinit> and one above it get their constants, a string each and a byte of 8 bits, at their first use
 abbrev quiet : Linked
-quiet = record {
-  classes =
-      class_of (codes "java/lang/Object") 1 (element.NoArray) 0 None ([]) ([]) ([]) ([]) (0 ∷ []) (0 ∷ []) 0 (leaf.Class 0) None
-      ∷ class_of (codes "java/lang/Cloneable") 1537 (element.NoArray) 0 None ([]) ([]) (0 ∷ []) ([]) (1 ∷ 0 ∷ []) (1 ∷ []) 0 (leaf.Class 1) None
-      ∷ class_of (codes "java/io/Serializable") 1537 (element.NoArray) 0 None ([]) ([]) (0 ∷ []) ([]) (2 ∷ 0 ∷ []) (2 ∷ []) 0 (leaf.Class 2) None
-      ∷ class_of (codes "java/lang/String") 17 (element.NoArray) 0 None (0 ∷ []) ([]) (0 ∷ []) ([]) (3 ∷ 0 ∷ []) (0 ∷ 3 ∷ []) 0 (leaf.Class 3) (Some 7)
-      ∷ class_of (codes "Q") 33 (element.NoArray) 0 None (0 ∷ []) ([]) (0 ∷ []) ([]) (4 ∷ 0 ∷ []) (0 ∷ 4 ∷ []) 0 (leaf.Class 4) None
-      ∷ class_of (codes "K") 33 (element.NoArray) 0 None (6 ∷ []) (0 ∷ 1 ∷ 2 ∷ []) (6 ∷ 0 ∷ []) ([]) (5 ∷ 6 ∷ 0 ∷ []) (0 ∷ 6 ∷ 5 ∷ []) 0 (leaf.Class 5) None
-      ∷ class_of (codes "P") 33 (element.NoArray) 0 None (0 ∷ []) (3 ∷ []) (0 ∷ []) ([]) (6 ∷ 0 ∷ []) (0 ∷ 6 ∷ []) 0 (leaf.Class 6) None
-      ∷ class_of (codes "[Ljava/lang/String;") 1041 (element.Class 3) 0 None ([]) ([]) (0 ∷ []) (1 ∷ 2 ∷ []) (7 ∷ 1 ∷ 2 ∷ 0 ∷ []) (7 ∷ []) 1 (leaf.Class 3) None
-      ∷ [];
-  methods =
-      method_of 0 (codes "<init>") (codes "()V") 1 None
-      ∷ method_of 4 (codes "main") (codes "([Ljava/lang/String;)V") 9 (code_of 4 1 (178 ∷ 0 ∷ 10 ∷ 87 ∷ 18 ∷ 12 ∷ 87 ∷ 178 ∷ 0 ∷ 16 ∷ 87 ∷ 177 ∷ []) ([]))
-      ∷ [];
-  fields =
-      field_of 5 (codes "s") (codes "Ljava/lang/String;") 9 0 6 ∷
-      field_of 5 (codes "b") (codes "B") 9 1 7 ∷
-      field_of 5 (codes "j") (codes "J") 9 2 8 ∷
-      field_of 6 (codes "t") (codes "Ljava/lang/String;") 9 3 6 ∷ [];
-  statics = 0 ∷ 1 ∷ 2 ∷ 3 ∷ [];
-  file_methods = 1 ∷ [];
-  main = 1;
-  pools =
-      pool_of ([])
-      ∷ pool_of ([])
-      ∷ pool_of ([])
-      ∷ pool_of ([])
-      ∷ pool_of (Text (codes "Q") ∷ Name CLASS 1 ∷ Text (codes "java/lang/Object") ∷ Name CLASS 3 ∷ Text (codes "K") ∷ Name CLASS 5 ∷ Text (codes "s") ∷ Text (codes "Ljava/lang/String;") ∷ Pair NAME_AND_TYPE 7 8 ∷ Pair FIELDREF 6 9 ∷ Text (codes "hi") ∷ Name STRING 11 ∷ Text (codes "b") ∷ Text (codes "B") ∷ Pair NAME_AND_TYPE 13 14 ∷ Pair FIELDREF 6 15 ∷ [])
-      ∷ pool_of (Text (codes "K") ∷ Name CLASS 1 ∷ Text (codes "P") ∷ Name CLASS 3 ∷ Text (codes "hi") ∷ Name STRING 5 ∷ Word INTEGER 200 ∷ Wide LONG 7 ∷ [])
-      ∷ pool_of (Text (codes "P") ∷ Name CLASS 1 ∷ Text (codes "java/lang/Object") ∷ Name CLASS 3 ∷ Text (codes "lo") ∷ Name STRING 5 ∷ [])
-      ∷ [];
-}
+quiet =
+    program_of
+    (base_classes 7
+    ++ class_below [] (codes "Q") 33 4 0 None [] None
+    ∷ class_below (6 ∷ []) (codes "K") 33 5 0 None (0 ∷ 1 ∷ 2 ∷ []) None
+    ∷ class_below [] (codes "P") 33 6 0 None (3 ∷ []) None
+    ∷ array_class (codes "[Ljava/lang/String;") 7 (element.Class 3) 1 (leaf.Class 3) None
+    ∷ [])
+    (object_methods ++ method_of 4 (codes "main") (codes "([Ljava/lang/String;)V") 9 (code_of 4 1 (178 ∷ 0 ∷ 10 ∷ 87 ∷ 18 ∷ 12 ∷ 87 ∷ 178 ∷ 0 ∷ 16 ∷ 87 ∷ 177 ∷ []) ([])) ∷ [])
+    (field_of 5 (codes "s") (codes "Ljava/lang/String;") 9 0 6 ∷ field_of 5 (codes "b") (codes "B") 9 1 7 ∷ field_of 5 (codes "j") (codes "J") 9 2 8 ∷ field_of 6 (codes "t") (codes "Ljava/lang/String;") 9 3 6 ∷ []) (0 ∷ 1 ∷ 2 ∷ 3 ∷ []) (1 ∷ []) 1
+    (no_pools 4 ++ pool_of (Text (codes "Q") ∷ Name CLASS 1 ∷ Text (codes "java/lang/Object") ∷ Name CLASS 3 ∷ Text (codes "K") ∷ Name CLASS 5 ∷ Text (codes "s") ∷ Text (codes "Ljava/lang/String;") ∷ Pair NAME_AND_TYPE 7 8 ∷ Pair FIELDREF 6 9 ∷ Text (codes "hi") ∷ Name STRING 11 ∷ Text (codes "b") ∷ Text (codes "B") ∷ Pair NAME_AND_TYPE 13 14 ∷ Pair FIELDREF 6 15 ∷ []) ∷ pool_of (Text (codes "K") ∷ Name CLASS 1 ∷ Text (codes "P") ∷ Name CLASS 3 ∷ Text (codes "hi") ∷ Name STRING 5 ∷ Word INTEGER 200 ∷ Wide LONG 7 ∷ []) ∷ pool_of (Text (codes "P") ∷ Name CLASS 1 ∷ Text (codes "java/lang/Object") ∷ Name CLASS 3 ∷ Text (codes "lo") ∷ Name STRING 5 ∷ []) ∷ [])
 
 abbrev quiet_start : Kept
 quiet_start = kept_of (first_state 7 (Done ∷ Done ∷ Done ∷ Done ∷ Untouched ∷ Untouched ∷ Untouched ∷ Done ∷ []) (replicate 4 Unset))

@@ -1,4 +1,5 @@
 mod AllRows
+mod ExamplePrograms
 mod Examples
 mod CallExamples
 mod CheckExamples
