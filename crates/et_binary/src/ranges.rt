@@ -125,6 +125,7 @@ fn is_finish_in_range(event: u64, how: u8) -> bool
 }
 
 /// Of a line that tells of the trace, and of no thread.
+#[inline(always)]
 fn is_other_in_range(line: &TraceLine) -> bool
     requires packed { IsPacked line.now (packing line.now) }
     requires other { is_of_thread line.now ≡ false }
@@ -147,6 +148,7 @@ fn is_other_in_range(line: &TraceLine) -> bool
 }
 
 /// Whether the fields of a line that was read from a record are in their ranges.
+#[inline(always)]
 pub fn is_in_range(line: &TraceLine) -> bool
     requires { IsPacked line.now (packing line.now) }
     ensures { IsTrue result ↔ IsInRange 2 line.now }

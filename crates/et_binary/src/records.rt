@@ -41,6 +41,7 @@ fn in_range<'a>(
 /// letter is none of the table, or that the record is whole and one of its numbers is out of its range or a name is empty. It
 /// takes no memory where no record is whole.
 #[tactic(auto, unfolding(crate::specs::Fronts::record_front))]
+#[inline(always)]
 pub fn read_record(alloc: Global, bytes: &[u8]) -> Result<Option<(TraceLine, &[u8])>, LineError>
     ensures found { IfOk result (λ found. IfSome found (λ x. IsFront x.0 x.1.now bytes.now)) }
     ensures none { IfOk result (λ found. IfNone found (IsUnfinished bytes.now)) }

@@ -56,6 +56,7 @@ fn stands_at(s: &Standing, event: u64) -> bool
 }
 
 /// Order, but for the lives of objects.
+#[inline(always)]
 fn keeps_order(s: &Standing, line: &TraceLine) -> bool
     ensures { result ≡ order_in s.now line.now }
 {

@@ -400,6 +400,7 @@ fn finish_at(bytes: &[u8]) -> Result<(TraceLine, &[u8]), LineError>
 
 /// The line at the front, and the bytes behind its fields.
 #[tactic(auto, unfolding(crate::specs::Reading::front_at))]
+#[inline(always)]
 fn front_at(alloc: Global, bytes: &[u8]) -> Result<(TraceLine, &[u8]), LineError>
     ensures { GivesWhereRead (λ x. (x.0, x.1.now)) result (front_at bytes.now) }
 {
