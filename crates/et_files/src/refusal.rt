@@ -1,6 +1,8 @@
 //! What the program says on standard error: a line for each refusal.
-ghost use Rattle.std.specs.Prelude.{◌≡◌};
+ghost use Rattle.std.specs.Prelude.{◌≡◌, false};
 ghost use Rattle.et_files.specs.Refusals.{status_of};
+ghost use Rattle.et_files.specs.Status.{is_read_status, is_write_status};
+ghost use Rattle.et_files.specs.Told.{IsFileRefusal, cause_of, is_read_cause};
 
 use crate::status::Status;
 use et_base::Name;
@@ -132,7 +134,9 @@ fn say<E: Sink>(alloc: Global, err: &mut E, refusal: &Refusal<'_>) {
 
 /// Says the refusal on err, and answers its status.
 pub fn refuse<E: Sink>(alloc: Global, err: &mut E, refusal: &Refusal<'_>) -> Status
-    ensures { result ≡ status_of refusal.now }
+    ensures status { result ≡ status_of refusal.now }
+    ensures reads { is_read_status result ≡ is_read_cause (cause_of refusal.now) }
+    ensures writes { IsFileRefusal (cause_of refusal.now) → is_write_status result ≡ false }
 {
     say(alloc, err, refusal);
     refusal.status()

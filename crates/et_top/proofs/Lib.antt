@@ -9,3 +9,4 @@ mod BenchHistory
 mod ConvertLemmas
 mod OneThing
 mod BehindLemmas
+pub use Rattle.et_loop.proofs.Dates as RunDates

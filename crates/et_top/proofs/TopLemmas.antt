@@ -220,6 +220,14 @@ module _ (reached : Graph → ℕ → Bool) (taken : Log) (old new : ℕ) (read 
   cause_other : {A : Type 0} (found : Result A Fault) (cause : Cause) → IsCause read found cause → cause ≡ Other → ⊥
   cause_other found cause is e = subst (IsCause read found) e is
 
+  -- where what is defined is given by what was found, and a fault of a file is refused as that
+  refused_by : {A : Type 0} (give : Result A Fault → Defined) (found : Result A Fault) (r : Refusal) (d : Defined) (answer : Status) → ((fault : Fault) → give (Err fault) ≡ Refused fault)
+      → IsLoaded read (give found) → IsStill old new (give found) → d ≡ give found → IsCause read found (cause_of r) → answer ≡ status_of r → GivesDefined reached taken taken old new read written d answer
+  refused_by give found r d answer refuses loaded none e is how =
+      subst (GivesDefined reached taken taken old new read written d) (sym how)
+      (by_cause d r (subst (IsLoaded read) (sym e) loaded) (subst (IsStill old new) (sym e) none) (λ fault c. e ∙ (ap give (cause_file found (cause_of r) fault is c) ∙ refuses fault))
+      (cause_reads found (cause_of r) is) (cause_other found (cause_of r) is))
+
   writes_loaded : {A : Type 0} (text : (Graph → ℕ → Bool) → A → List ℕ) (found : Result A Fault) → IsLoaded read (defined_text text found)
   writes_loaded text (Err fault) = tt
   writes_loaded text (Ok a) = tt
@@ -237,16 +245,10 @@ module _ (reached : Graph → ℕ → Bool) (taken : Log) (old new : ℕ) (read 
   traces_loaded options (Ok program) = tt
 
   pub refused_text : {A : Type 0} (text : (Graph → ℕ → Bool) → A → List ℕ) (found : Result A Fault) (r : Refusal) (d : Defined) (answer : Status) → d ≡ defined_text text found → IsCause read found (cause_of r) → answer ≡ status_of r → GivesDefined reached taken taken old new read written d answer
-  refused_text text found r d answer e is how =
-      subst (GivesDefined reached taken taken old new read written d) (sym how)
-      (by_cause d r (subst (IsLoaded read) (sym e) (writes_loaded text found)) (subst (IsStill old new) (sym e) (writes_still text found)) (λ fault c. e ∙ ap (defined_text text) (cause_file found (cause_of r) fault is c))
-      (cause_reads found (cause_of r) is) (cause_other found (cause_of r) is))
+  refused_text text found r d answer e is how = refused_by (defined_text text) found r d answer (λ fault. refl) (writes_loaded text found) (writes_still text found) e is how
 
   pub refused_trace : (options : Options) (found : Result Linked Fault) (r : Refusal) (d : Defined) (answer : Status) → d ≡ traces options found → IsCause read found (cause_of r) → answer ≡ status_of r → new ≡ old → GivesDefined reached taken taken old new read written d answer
-  refused_trace options found r d answer e is how none =
-      subst (GivesDefined reached taken taken old new read written d) (sym how)
-      (by_cause d r (subst (IsLoaded read) (sym e) (traces_loaded options found)) (subst (IsStill old new) (sym e) (traces_still options found none)) (λ fault c. e ∙ ap (traces options) (cause_file found (cause_of r) fault is c))
-      (cause_reads found (cause_of r) is) (cause_other found (cause_of r) is))
+  refused_trace options found r d answer e is how none = refused_by (traces options) found r d answer (λ fault. refl) (traces_loaded options found) (traces_still options found none) e is how
 
   prints_still : (options : Options) (found : Result Linked Fault) → new ≡ old → IsStill old new (prints options found)
   prints_still options (Err fault) none = tt
@@ -257,10 +259,7 @@ module _ (reached : Graph → ℕ → Bool) (taken : Log) (old new : ℕ) (read 
   prints_loaded options (Ok program) = tt
 
   pub refused_print : (options : Options) (found : Result Linked Fault) (r : Refusal) (d : Defined) (answer : Status) → d ≡ prints options found → IsCause read found (cause_of r) → answer ≡ status_of r → new ≡ old → GivesDefined reached taken taken old new read written d answer
-  refused_print options found r d answer e is how none =
-      subst (GivesDefined reached taken taken old new read written d) (sym how)
-      (by_cause d r (subst (IsLoaded read) (sym e) (prints_loaded options found)) (subst (IsStill old new) (sym e) (prints_still options found none)) (λ fault c. e ∙ ap (prints options) (cause_file found (cause_of r) fault is c))
-      (cause_reads found (cause_of r) is) (cause_other found (cause_of r) is))
+  refused_print options found r d answer e is how none = refused_by (prints options) found r d answer (λ fault. refl) (prints_loaded options found) (prints_still options found none) e is how
 
   verifies_loaded : (found : Result Linked Fault) → IsLoaded read (verifies found)
   verifies_loaded (Err fault) = tt
@@ -271,10 +270,7 @@ module _ (reached : Graph → ℕ → Bool) (taken : Log) (old new : ℕ) (read 
   verifies_still (Ok program) = tt
 
   pub refused_verdict : (found : Result Linked Fault) (r : Refusal) (d : Defined) (answer : Status) → d ≡ verifies found → IsCause read found (cause_of r) → answer ≡ status_of r → GivesDefined reached taken taken old new read written d answer
-  refused_verdict found r d answer e is how =
-      subst (GivesDefined reached taken taken old new read written d) (sym how)
-      (by_cause d r (subst (IsLoaded read) (sym e) (verifies_loaded found)) (subst (IsStill old new) (sym e) (verifies_still found)) (λ fault c. e ∙ ap verifies (cause_file found (cause_of r) fault is c))
-      (cause_reads found (cause_of r) is) (cause_other found (cause_of r) is))
+  refused_verdict found r d answer e is how = refused_by verifies found r d answer (λ fault. refl) (verifies_loaded found) (verifies_still found) e is how
 
   benches_loaded : (found : Result Linked Fault) → (read → ⊥) → IsLoaded read (benches found)
   benches_loaded (Err fault) none = tt
@@ -285,10 +281,7 @@ module _ (reached : Graph → ℕ → Bool) (taken : Log) (old new : ℕ) (read 
   benches_still (Ok program) none = none
 
   pub refused_bench : (found : Result Linked Fault) (r : Refusal) (answer : Status) → IsCause read found (cause_of r) → answer ≡ status_of r → new ≡ old → (read → ⊥) → GivesDefined reached taken taken old new read written (benches found) answer
-  refused_bench found r answer is how none unread =
-      subst (GivesDefined reached taken taken old new read written (benches found)) (sym how)
-      (by_cause (benches found) r (benches_loaded found unread) (benches_still found none) (λ fault c. ap benches (cause_file found (cause_of r) fault is c))
-      (cause_reads found (cause_of r) is) (cause_other found (cause_of r) is))
+  refused_bench found r answer is how none unread = refused_by benches found r (benches found) answer (λ fault. refl) (benches_loaded found unread) (benches_still found none) refl is how
 
   pub usage_gives : (answer : Status) → answer ≡ status.Usage → GivesDefined reached taken taken old new read written Usage answer
   usage_gives answer is = (refl, inl is)

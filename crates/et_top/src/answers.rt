@@ -1,13 +1,17 @@
 //! What the program answers of a fault of a run, and of a text that was written.
-ghost use Rattle.std.specs.Prelude.{◌≡◌};
+ghost use Rattle.std.specs.Prelude.{◌≡◌, false};
+ghost use Rattle.et_io.specs.Faults.{is_write_fault};
+ghost use Rattle.et_files.specs.Refusals.{status_of};
+ghost use Rattle.et_files.specs.Status.{is_read_status, is_write_status};
 ghost use Rattle.et_top.specs.Told.{refusal_of, status_of_writing};
+ghost use Rattle.et_top.specs.Visits.{IsBeforeRun};
 
 use et_files::{Refusal, Status, refuse};
 use et_io::{RunFault, Sink};
 use std::alloc::Global;
 
 /// What the program says of a fault of a run.
-pub fn of_fault<'a>(fault: RunFault) -> Refusal<'a>
+fn of_fault<'a>(fault: RunFault) -> Refusal<'a>
     ensures { result ≡ refusal_of fault }
 {
     match fault {
@@ -16,12 +20,23 @@ pub fn of_fault<'a>(fault: RunFault) -> Refusal<'a>
     }
 }
 
+/// The status of a fault of a run, of which err is told.
+pub fn answer_fault<E: Sink>(alloc: Global, fault: RunFault, err: &mut E) -> Status
+    ensures status { result ≡ status_of (refusal_of fault) }
+    ensures no_read { is_read_status result ≡ false }
+    ensures of_run { IsBeforeRun result → ⊥ }
+{
+    refuse(alloc, err, &of_fault(fault))
+}
+
 /// The status of a text that was written, or was not.
 pub fn written<E: Sink>(alloc: Global, wrote: Result<(), RunFault>, err: &mut E) -> Status
-    ensures { result ≡ status_of_writing wrote }
+    ensures status { result ≡ status_of_writing wrote }
+    ensures no_read { is_read_status result ≡ false }
+    ensures writes { is_write_status result ≡ is_write_fault wrote }
 {
     match wrote {
         Ok(()) => Status::Done,
-        Err(fault) => refuse(alloc, err, &of_fault(fault)),
+        Err(fault) => answer_fault(alloc, fault, err),
     }
 }

@@ -14,7 +14,7 @@ ghost use Rattle.et_files.specs.Told.{Tells, IsOfBytes, cause_of};
 ghost use Rattle.et_top.specs.Top.{benches, GivesBench, GivesDefined};
 ghost use Rattle.et_top.specs.Visits.{IsBeforeBench, IsNoTrace};
 
-use crate::answers::of_fault;
+use crate::answers::answer_fault;
 use crate::discard::Discard;
 use crate::programs::answer_end;
 use et_base::{End, Format, Steps};
@@ -146,7 +146,7 @@ fn put_summary<O: Sink, E: Sink>(
 {
     match put_all(out, summary.text.as_bytes()) {
         Ok(()) => answer_end(alloc, program, summary.end, err),
-        Err(fault) => refuse(alloc, err, &of_fault(fault)),
+        Err(fault) => answer_fault(alloc, fault, err),
     }
 }
 

@@ -7,11 +7,11 @@ ghost use Rattle.et_files.specs.Status.{is_read_status, is_write_status};
 ghost use Rattle.et_top.specs.Top.{Prints, GivesDefined};
 ghost use Rattle.et_top.specs.Visits.{IsBeforeRun};
 
-use crate::answers::of_fault;
+use crate::answers::answer_fault;
 use crate::discard::Discard;
 use crate::programs::answer_end;
 use et_base::Steps;
-use et_files::{Status, refuse};
+use et_files::Status;
 use et_io::Sink;
 use et_program::Program;
 use et_state::Options;
@@ -41,6 +41,6 @@ pub fn run<O: Sink, E: Sink, L: Ledger>(
 {
     match et_run::run(alloc, program, options, &mut Discard, out, visits) {
         Ok(ran) => answer_end(alloc, program, ran.end, err),
-        Err(fault) => refuse(alloc, err, &of_fault(fault)),
+        Err(fault) => answer_fault(alloc, fault, err),
     }
 }

@@ -9,7 +9,7 @@ ghost use Rattle.et_files.specs.Told.{status_of_result};
 ghost use Rattle.et_top.specs.Top.{Traces, GivesDefined, status_of_end};
 ghost use Rattle.et_top.specs.Visits.{IsBeforeRun};
 
-use crate::answers::of_fault;
+use crate::answers::answer_fault;
 use crate::discard::Discard;
 use et_base::{End, MethodId, Steps};
 use et_files::{Escaped, Refusal, Status, refuse};
@@ -55,7 +55,10 @@ fn ended(program: &Program, end: End) -> Result<(), Refusal<'_>>
 /// The status of a history that ended so. Where the next event has no meaning, or there is no room for an object, err is
 /// told so.
 pub fn answer_end<E: Sink>(alloc: Global, program: &Program, end: End, err: &mut E) -> Status
-    ensures { result ≡ status_of_end end }
+    ensures status { result ≡ status_of_end end }
+    ensures no_read { is_read_status result ≡ false }
+    ensures no_write { is_write_status result ≡ false }
+    ensures of_run { IsBeforeRun result → ⊥ }
 {
     match ended(program, end) {
         Ok(()) => Status::Done,
@@ -86,6 +89,6 @@ pub fn run<O: Sink, E: Sink, L: Ledger>(
 {
     match et_run::run(alloc, program, options, out, &mut Discard, visits) {
         Ok(ran) => answer_end(alloc, program, ran.end, err),
-        Err(fault) => refuse(alloc, err, &of_fault(fault)),
+        Err(fault) => answer_fault(alloc, fault, err),
     }
 }

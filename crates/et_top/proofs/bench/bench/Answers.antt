@@ -16,7 +16,7 @@ returns-in-Ok-clause-gives g c p linked reached decides =
 
 pub returns-in-Err-clause-gives : goal.returns-in-Err-clause-gives
 returns-in-Err-clause-gives g c p linked reached decides =
-    refused_bench reached (g.O.Sink.taken c.args.out.now) c.args.visits.now c.args.visits.now ⊥ (Rose (g.O.Sink.faults c.args.out.now) (g.O.Sink.faults c.args.out.now)) p c.in-Err.refusal c.refuse.result (c.in-Err.ensures.tells p linked) c.refuse.ensures refl (λ never. never)
+    refused_bench reached (g.O.Sink.taken c.args.out.now) c.args.visits.now c.args.visits.now ⊥ (Rose (g.O.Sink.faults c.args.out.now) (g.O.Sink.faults c.args.out.now)) p c.in-Err.refusal c.refuse.result (c.in-Err.ensures.tells p linked) c.refuse.ensures.status refl (λ never. never)
 
 pub returns-in-Ok-clause-no_visits : goal.returns-in-Ok-clause-no_visits
 returns-in-Ok-clause-no_visits g c early = absurd (c.sum_up.ensures.of_run early)
@@ -25,7 +25,7 @@ pub returns-in-Ok-clause-no_trace : goal.returns-in-Ok-clause-no_trace
 returns-in-Ok-clause-no_trace g c p linked none = absurd (subst IsNoTrace (ap benches (c.in-Ok.ensures.tells p linked)) none)
 
 pub returns-in-Err-clause-write_fault : goal.returns-in-Err-clause-write_fault
-returns-in-Err-clause-write_fault g c = same_count (is_write_status c.refuse.result) _ _ refl (ap is_write_status c.refuse.ensures ∙ no_write_status c.in-Err.refusal (of_file (cause_of c.in-Err.refusal) c.in-Err.ensures.bytes))
+returns-in-Err-clause-write_fault g c = same_count (is_write_status c.refuse.result) _ _ refl (ap is_write_status c.refuse.ensures.status ∙ no_write_status c.in-Err.refusal (of_file (cause_of c.in-Err.refusal) c.in-Err.ensures.bytes))
 
 pub returns-in-Err-clause-no_read : goal.returns-in-Err-clause-no_read
-returns-in-Err-clause-no_read g c = ap is_read_status c.refuse.ensures ∙ (read_status c.in-Err.refusal ∙ no_read_cause (cause_of c.in-Err.refusal) c.in-Err.ensures.bytes)
+returns-in-Err-clause-no_read g c = ap is_read_status c.refuse.ensures.status ∙ (read_status c.in-Err.refusal ∙ no_read_cause (cause_of c.in-Err.refusal) c.in-Err.ensures.bytes)

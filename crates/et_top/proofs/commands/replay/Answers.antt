@@ -9,30 +9,14 @@ use Rattle.et_top.proofs.commands.replay.Goals as goal
 
 pub returns-in-Ok-clause-gives : goal.returns-in-Ok-clause-gives
 returns-in-Ok-clause-gives g c held told d defined reached decides old new =
-    let before = g.O.Sink.taken c.args.out.now in
-    let after = g.O.Sink.taken c.replay_trace.new.out in
-    let read = Rose (g.F.Files.faults c.args.files.now) (g.F.Files.faults c.follow_file.new.files) in
-    let written = Rose (g.O.Sink.faults c.args.out.now) (g.O.Sink.faults c.replay_trace.new.out) in
     let t = c.in-Ok.ensures.tells held told defined.0 defined.1 in
-    text_gives reached before after old new read written _ defined.0 t.0 d c.replay_trace.result c.written.result defined.2 t.1 c.written.ensures
+    text_gives reached (g.O.Sink.taken c.args.out.now) (g.O.Sink.taken c.replay_trace.new.out) old new (Rose (g.F.Files.faults c.args.files.now) (g.F.Files.faults c.follow_file.new.files)) (Rose (g.O.Sink.faults c.args.out.now) (g.O.Sink.faults c.replay_trace.new.out)) _ defined.0 t.0 d c.replay_trace.result c.written.result defined.2 t.1 c.written.ensures.status
     (c.replay_trace.ensures.ok t.0 t.2.good t.2.followed reached decides) (c.replay_trace.ensures.err t.0 t.2.good t.2.followed reached decides) (rose_writing c.replay_trace.result _ _ c.replay_trace.ensures.write)
 
 pub returns-in-Err-clause-gives : goal.returns-in-Err-clause-gives
 returns-in-Err-clause-gives g c held told d defined reached decides old new =
     refused_text reached (g.O.Sink.taken c.args.out.now) old new (Rose (g.F.Files.faults c.args.files.now) (g.F.Files.faults c.follow_file.new.files)) (Rose (g.O.Sink.faults c.args.out.now) (g.O.Sink.faults c.args.out.now))
-    _ defined.0 c.in-Err.refusal d c.refuse.result defined.2 (c.in-Err.ensures.tells held told defined.0 defined.1) c.refuse.ensures
-
-pub returns-in-Ok-clause-read_fault : goal.returns-in-Ok-clause-read_fault
-returns-in-Ok-clause-read_fault g c = same_count (is_read_status c.written.result) _ _ c.in-Ok.ensures.faults (ap is_read_status c.written.ensures ∙ no_read_writing c.replay_trace.result)
-
-pub returns-in-Ok-clause-write_fault : goal.returns-in-Ok-clause-write_fault
-returns-in-Ok-clause-write_fault g c = counted_as (is_write_fault c.replay_trace.result) (is_write_status c.written.result) _ _ c.replay_trace.ensures.write (ap is_write_status c.written.ensures ∙ write_status c.replay_trace.result)
-
-pub returns-in-Err-clause-read_fault : goal.returns-in-Err-clause-read_fault
-returns-in-Err-clause-read_fault g c = counted_as (is_read_cause (cause_of c.in-Err.refusal)) (is_read_status c.refuse.result) _ _ c.in-Err.ensures.faults (ap is_read_status c.refuse.ensures ∙ read_status c.in-Err.refusal)
-
-pub returns-in-Err-clause-write_fault : goal.returns-in-Err-clause-write_fault
-returns-in-Err-clause-write_fault g c = same_count (is_write_status c.refuse.result) _ _ refl (ap is_write_status c.refuse.ensures ∙ no_write_status c.in-Err.refusal c.in-Err.ensures.file)
+    _ defined.0 c.in-Err.refusal d c.refuse.result defined.2 (c.in-Err.ensures.tells held told defined.0 defined.1) c.refuse.ensures.status
 
 pub replay_trace-requires-clause-lines : goal.replay_trace-requires-clause-lines
 replay_trace-requires-clause-lines g c = let t = c.in-Ok.ensures.trace in (t.0, t.1.good, t.1.followed)

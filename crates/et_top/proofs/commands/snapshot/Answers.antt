@@ -10,26 +10,10 @@ use Rattle.et_top.proofs.commands.snapshot.Goals as goal
 
 pub returns-in-Ok-clause-gives : goal.returns-in-Ok-clause-gives
 returns-in-Ok-clause-gives g c held told kinds d defined reached decides old new =
-    let before = g.O.Sink.taken c.args.out.now in
-    let after = g.O.Sink.taken c.snapshot_lines.new.sink in
-    let read = Rose (g.F.Files.faults c.args.files.now) (g.F.Files.faults c.load_trace_to.new.files) in
-    let written = Rose (g.O.Sink.faults c.args.out.now) (g.O.Sink.faults c.snapshot_lines.new.sink) in
-    text_gives reached before after old new read written _ (reaching c.args.event defined.0) c.in-Ok.trace d c.snapshot_lines.result c.written.result defined.2 (c.in-Ok.ensures.tells held told defined.0 defined.1) c.written.ensures
+    text_gives reached (g.O.Sink.taken c.args.out.now) (g.O.Sink.taken c.snapshot_lines.new.sink) old new (Rose (g.F.Files.faults c.args.files.now) (g.F.Files.faults c.load_trace_to.new.files)) (Rose (g.O.Sink.faults c.args.out.now) (g.O.Sink.faults c.snapshot_lines.new.sink)) _ (reaching c.args.event defined.0) c.in-Ok.trace d c.snapshot_lines.result c.written.result defined.2 (c.in-Ok.ensures.tells held told defined.0 defined.1) c.written.ensures.status
     c.snapshot_lines.ensures.ok c.snapshot_lines.ensures.err (rose_writing c.snapshot_lines.result _ _ c.snapshot_lines.ensures.write)
 
 pub returns-in-Err-clause-gives : goal.returns-in-Err-clause-gives
 returns-in-Err-clause-gives g c held told kinds d defined reached decides old new =
     refused_text reached (g.O.Sink.taken c.args.out.now) old new (Rose (g.F.Files.faults c.args.files.now) (g.F.Files.faults c.load_trace_to.new.files)) (Rose (g.O.Sink.faults c.args.out.now) (g.O.Sink.faults c.args.out.now))
-    _ (reaching c.args.event defined.0) c.in-Err.refusal d c.refuse.result defined.2 (c.in-Err.ensures.tells held told defined.0 defined.1) c.refuse.ensures
-
-pub returns-in-Ok-clause-read_fault : goal.returns-in-Ok-clause-read_fault
-returns-in-Ok-clause-read_fault g c = same_count (is_read_status c.written.result) _ _ c.in-Ok.ensures.faults (ap is_read_status c.written.ensures ∙ no_read_writing c.snapshot_lines.result)
-
-pub returns-in-Ok-clause-write_fault : goal.returns-in-Ok-clause-write_fault
-returns-in-Ok-clause-write_fault g c = counted_as (is_write_fault c.snapshot_lines.result) (is_write_status c.written.result) _ _ c.snapshot_lines.ensures.write (ap is_write_status c.written.ensures ∙ write_status c.snapshot_lines.result)
-
-pub returns-in-Err-clause-read_fault : goal.returns-in-Err-clause-read_fault
-returns-in-Err-clause-read_fault g c = counted_as (is_read_cause (cause_of c.in-Err.refusal)) (is_read_status c.refuse.result) _ _ c.in-Err.ensures.faults (ap is_read_status c.refuse.ensures ∙ read_status c.in-Err.refusal)
-
-pub returns-in-Err-clause-write_fault : goal.returns-in-Err-clause-write_fault
-returns-in-Err-clause-write_fault g c = same_count (is_write_status c.refuse.result) _ _ refl (ap is_write_status c.refuse.ensures ∙ no_write_status c.in-Err.refusal c.in-Err.ensures.file)
+    _ (reaching c.args.event defined.0) c.in-Err.refusal d c.refuse.result defined.2 (c.in-Err.ensures.tells held told defined.0 defined.1) c.refuse.ensures.status

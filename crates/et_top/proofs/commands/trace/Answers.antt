@@ -16,20 +16,14 @@ use Rattle.et_top.proofs.commands.trace.Goals as goal
 
 pub returns-in-Ok-clause-gives : goal.returns-in-Ok-clause-gives
 returns-in-Ok-clause-gives g c held told kinds d defined reached decides =
-    let before = g.O.Sink.taken c.args.out.now in
-    let after = g.O.Sink.taken c.run.new.out in
-    let old = c.args.visits.now in
-    let new = c.run.new.visits in
-    let read = Rose (g.F.Files.faults c.args.files.now) (g.F.Files.faults c.load_program.new.files) in
-    let written = Rose (g.O.Sink.faults c.args.out.now) (g.O.Sink.faults c.run.new.out) in
     let is = defined.2 ∙ ap (traces c.args.options.now) (c.in-Ok.ensures.tells held told defined.0 defined.1) in
-    subst (λ x. GivesDefined reached before after old new read written x c.run.result) (sym is)
-    (history_more reached before after old new read written c.in-Ok.program c.args.options.now c.run.result (c.run.ensures.gives reached decides))
+    subst (λ x. GivesDefined reached (g.O.Sink.taken c.args.out.now) (g.O.Sink.taken c.run.new.out) c.args.visits.now c.run.new.visits (Rose (g.F.Files.faults c.args.files.now) (g.F.Files.faults c.load_program.new.files)) (Rose (g.O.Sink.faults c.args.out.now) (g.O.Sink.faults c.run.new.out)) x c.run.result) (sym is)
+    (history_more reached (g.O.Sink.taken c.args.out.now) (g.O.Sink.taken c.run.new.out) c.args.visits.now c.run.new.visits (Rose (g.F.Files.faults c.args.files.now) (g.F.Files.faults c.load_program.new.files)) (Rose (g.O.Sink.faults c.args.out.now) (g.O.Sink.faults c.run.new.out)) c.in-Ok.program c.args.options.now c.run.result (c.run.ensures.gives reached decides))
 
 pub returns-in-Err-clause-gives : goal.returns-in-Err-clause-gives
 returns-in-Err-clause-gives g c held told kinds d defined reached decides =
     refused_trace reached (g.O.Sink.taken c.args.out.now) c.args.visits.now c.args.visits.now (Rose (g.F.Files.faults c.args.files.now) (g.F.Files.faults c.load_program.new.files)) (Rose (g.O.Sink.faults c.args.out.now) (g.O.Sink.faults c.args.out.now))
-    c.args.options.now defined.0 c.in-Err.refusal d c.refuse.result defined.2 (c.in-Err.ensures.tells held told defined.0 defined.1) c.refuse.ensures refl
+    c.args.options.now defined.0 c.in-Err.refusal d c.refuse.result defined.2 (c.in-Err.ensures.tells held told defined.0 defined.1) c.refuse.ensures.status refl
 
 pub returns-in-Ok-clause-no_visits : goal.returns-in-Ok-clause-no_visits
 returns-in-Ok-clause-no_visits g c before = absurd (c.run.ensures.of_run before)
@@ -41,17 +35,8 @@ returns-in-Ok-clause-no_trace g c held told kinds d defined none =
 pub returns-in-Ok-clause-unread : goal.returns-in-Ok-clause-unread
 returns-in-Ok-clause-unread g c few = absurd (none_unread _ _ _ _ _ c.in-Ok.ensures.reads few)
 
-pub returns-in-Ok-clause-read_fault : goal.returns-in-Ok-clause-read_fault
-returns-in-Ok-clause-read_fault g c = same_count (is_read_status c.run.result) _ _ c.in-Ok.ensures.faults c.run.ensures.no_read
-
 pub returns-in-Ok-clause-reads : goal.returns-in-Ok-clause-reads
 returns-in-Ok-clause-reads g c = reads_whole _ _ _ _ _ status.Done _ refl c.in-Ok.ensures.reads
 
 pub returns-in-Err-clause-reads : goal.returns-in-Err-clause-reads
-returns-in-Err-clause-reads g c = subst (λ (s : Status). ReadsInOrder (g.F.Files.agrees c.load_program.new.files (g.F.Files.asked c.args.files.now)) (g.F.Files.asked c.args.files.now) (g.F.Files.asked c.load_program.new.files) most_of_class (map string_bytes c.args.paths.now) s) (sym c.refuse.ensures) c.in-Err.ensures.reads
-
-pub returns-in-Err-clause-read_fault : goal.returns-in-Err-clause-read_fault
-returns-in-Err-clause-read_fault g c = counted_as (is_read_cause (cause_of c.in-Err.refusal)) (is_read_status c.refuse.result) _ _ c.in-Err.ensures.faults (ap is_read_status c.refuse.ensures ∙ read_status c.in-Err.refusal)
-
-pub returns-in-Err-clause-write_fault : goal.returns-in-Err-clause-write_fault
-returns-in-Err-clause-write_fault g c = same_count (is_write_status c.refuse.result) _ _ refl (ap is_write_status c.refuse.ensures ∙ no_write_status c.in-Err.refusal c.in-Err.ensures.file)
+returns-in-Err-clause-reads g c = subst (λ (s : Status). ReadsInOrder (g.F.Files.agrees c.load_program.new.files (g.F.Files.asked c.args.files.now)) (g.F.Files.asked c.args.files.now) (g.F.Files.asked c.load_program.new.files) most_of_class (map string_bytes c.args.paths.now) s) (sym c.refuse.ensures.status) c.in-Err.ensures.reads

@@ -14,30 +14,17 @@ use Rattle.et_top.proofs.commands.verify.Goals as goal
 
 pub returns-in-Ok-clause-gives : goal.returns-in-Ok-clause-gives
 returns-in-Ok-clause-gives g c held told kinds d defined reached decides old new =
-    let before = g.O.Sink.taken c.args.out.now in
-    let after = g.O.Sink.taken c.tell_verdict.new.out in
-    let read = Rose (g.F.Files.faults c.args.files.now) (g.F.Files.faults c.load_program.new.files) in
-    let written = Rose (g.O.Sink.faults c.args.out.now) (g.O.Sink.faults c.tell_verdict.new.out) in
     let is = defined.2 ∙ ap verifies (c.in-Ok.ensures.tells held told defined.0 defined.1) in
-    subst (λ x. GivesDefined reached before after old new read written x c.tell_verdict.result) (sym is)
-    (verdict_more reached before after old new read written c.in-Ok.program c.tell_verdict.result (c.tell_verdict.ensures.gives reached old new))
+    subst (λ x. GivesDefined reached (g.O.Sink.taken c.args.out.now) (g.O.Sink.taken c.tell_verdict.new.out) old new (Rose (g.F.Files.faults c.args.files.now) (g.F.Files.faults c.load_program.new.files)) (Rose (g.O.Sink.faults c.args.out.now) (g.O.Sink.faults c.tell_verdict.new.out)) x c.tell_verdict.result) (sym is)
+    (verdict_more reached (g.O.Sink.taken c.args.out.now) (g.O.Sink.taken c.tell_verdict.new.out) old new (Rose (g.F.Files.faults c.args.files.now) (g.F.Files.faults c.load_program.new.files)) (Rose (g.O.Sink.faults c.args.out.now) (g.O.Sink.faults c.tell_verdict.new.out)) c.in-Ok.program c.tell_verdict.result (c.tell_verdict.ensures.gives reached old new))
 
 pub returns-in-Err-clause-gives : goal.returns-in-Err-clause-gives
 returns-in-Err-clause-gives g c held told kinds d defined reached decides old new =
     refused_verdict reached (g.O.Sink.taken c.args.out.now) old new (Rose (g.F.Files.faults c.args.files.now) (g.F.Files.faults c.load_program.new.files)) (Rose (g.O.Sink.faults c.args.out.now) (g.O.Sink.faults c.args.out.now))
-    defined.0 c.in-Err.refusal d c.refuse.result defined.2 (c.in-Err.ensures.tells held told defined.0 defined.1) c.refuse.ensures
-
-pub returns-in-Ok-clause-read_fault : goal.returns-in-Ok-clause-read_fault
-returns-in-Ok-clause-read_fault g c = same_count (is_read_status c.tell_verdict.result) _ _ c.in-Ok.ensures.faults c.tell_verdict.ensures.no_read
+    defined.0 c.in-Err.refusal d c.refuse.result defined.2 (c.in-Err.ensures.tells held told defined.0 defined.1) c.refuse.ensures.status
 
 pub returns-in-Ok-clause-reads : goal.returns-in-Ok-clause-reads
 returns-in-Ok-clause-reads g c = reads_whole _ _ _ _ _ status.Done _ refl c.in-Ok.ensures.reads
 
 pub returns-in-Err-clause-reads : goal.returns-in-Err-clause-reads
-returns-in-Err-clause-reads g c = subst (λ (s : Status). ReadsInOrder (g.F.Files.agrees c.load_program.new.files (g.F.Files.asked c.args.files.now)) (g.F.Files.asked c.args.files.now) (g.F.Files.asked c.load_program.new.files) most_of_class (map string_bytes c.args.paths.now) s) (sym c.refuse.ensures) c.in-Err.ensures.reads
-
-pub returns-in-Err-clause-read_fault : goal.returns-in-Err-clause-read_fault
-returns-in-Err-clause-read_fault g c = counted_as (is_read_cause (cause_of c.in-Err.refusal)) (is_read_status c.refuse.result) _ _ c.in-Err.ensures.faults (ap is_read_status c.refuse.ensures ∙ read_status c.in-Err.refusal)
-
-pub returns-in-Err-clause-write_fault : goal.returns-in-Err-clause-write_fault
-returns-in-Err-clause-write_fault g c = same_count (is_write_status c.refuse.result) _ _ refl (ap is_write_status c.refuse.ensures ∙ no_write_status c.in-Err.refusal c.in-Err.ensures.file)
+returns-in-Err-clause-reads g c = subst (λ (s : Status). ReadsInOrder (g.F.Files.agrees c.load_program.new.files (g.F.Files.asked c.args.files.now)) (g.F.Files.asked c.args.files.now) (g.F.Files.asked c.load_program.new.files) most_of_class (map string_bytes c.args.paths.now) s) (sym c.refuse.ensures.status) c.in-Err.ensures.reads

@@ -12,28 +12,16 @@ use Rattle.et_top.proofs.prints.run.Goals as goal
 
 pub returns-in-Ok-clause-gives : goal.returns-in-Ok-clause-gives
 returns-in-Ok-clause-gives g c reached decides =
-    print_gives reached (g.O.Sink.taken c.args.out.now) (g.O.Sink.taken c.run.new.guest) c.args.visits.now c.run.new.visits ⊥ (Rose (g.O.Sink.faults c.args.out.now) (g.O.Sink.faults c.run.new.guest)) c.args.program.now c.args.options.now c.in-Ok.ran c.answer_end.result c.answer_end.ensures (c.in-Ok.ensures.said reached decides) (c.in-Ok.ensures.visits reached decides)
+    print_gives reached (g.O.Sink.taken c.args.out.now) (g.O.Sink.taken c.run.new.guest) c.args.visits.now c.run.new.visits ⊥ (Rose (g.O.Sink.faults c.args.out.now) (g.O.Sink.faults c.run.new.guest)) c.args.program.now c.args.options.now c.in-Ok.ran c.answer_end.result c.answer_end.ensures.status (c.in-Ok.ensures.said reached decides) (c.in-Ok.ensures.visits reached decides)
 
 pub returns-in-Err-clause-gives : goal.returns-in-Err-clause-gives
 returns-in-Err-clause-gives g c reached decides =
-    print_front reached (g.O.Sink.taken c.args.out.now) (g.O.Sink.taken c.run.new.guest) c.args.visits.now c.run.new.visits ⊥ (Rose (g.O.Sink.faults c.args.out.now) (g.O.Sink.faults c.run.new.guest)) c.args.program.now c.args.options.now c.in-Err.fault c.refuse.result (c.refuse.ensures ∙ ap status_of c.of_fault.ensures) (c.in-Err.ensures.said_prefix reached decides) (c.in-Err.ensures.said_cut reached decides) (rose_fault Ran c.in-Err.fault _ _ (counted_beside (is_write_fault {A = Ran} (Err c.in-Err.fault)) _ _ c.in-Err.ensures.write))
-
-pub returns-in-Ok-clause-of_run : goal.returns-in-Ok-clause-of_run
-returns-in-Ok-clause-of_run g c before = end_of_run c.in-Ok.ran.end (subst IsBeforeRun c.answer_end.ensures before)
-
-pub returns-in-Err-clause-of_run : goal.returns-in-Err-clause-of_run
-returns-in-Err-clause-of_run g c before = fault_of_run c.in-Err.fault (subst IsBeforeRun (c.refuse.ensures ∙ ap status_of c.of_fault.ensures) before)
+    print_front reached (g.O.Sink.taken c.args.out.now) (g.O.Sink.taken c.run.new.guest) c.args.visits.now c.run.new.visits ⊥ (Rose (g.O.Sink.faults c.args.out.now) (g.O.Sink.faults c.run.new.guest)) c.args.program.now c.args.options.now c.in-Err.fault c.answer_fault.result c.answer_fault.ensures.status (c.in-Err.ensures.said_prefix reached decides) (c.in-Err.ensures.said_cut reached decides) (rose_fault Ran c.in-Err.fault _ _ (counted_beside (is_write_fault {A = Ran} (Err c.in-Err.fault)) _ _ c.in-Err.ensures.write))
 
 pub returns-in-Ok-clause-write_fault : goal.returns-in-Ok-clause-write_fault
-returns-in-Ok-clause-write_fault g c = same_count (is_write_status c.answer_end.result) _ _ (counted_beside false _ _ c.in-Ok.ensures.write) (ap is_write_status c.answer_end.ensures ∙ end_no_write c.in-Ok.ran.end)
-
-pub returns-in-Ok-clause-no_read : goal.returns-in-Ok-clause-no_read
-returns-in-Ok-clause-no_read g c = ap is_read_status c.answer_end.ensures ∙ end_no_read c.in-Ok.ran.end
+returns-in-Ok-clause-write_fault g c = same_count (is_write_status c.answer_end.result) _ _ (counted_beside false _ _ c.in-Ok.ensures.write) c.answer_end.ensures.no_write
 
 pub returns-in-Err-clause-write_fault : goal.returns-in-Err-clause-write_fault
 returns-in-Err-clause-write_fault g c =
-    counted_as (is_write_fault {A = Ran} (Err c.in-Err.fault)) (is_write_status c.refuse.result) _ _ (counted_beside (is_write_fault {A = Ran} (Err c.in-Err.fault)) _ _ c.in-Err.ensures.write)
-    (ap is_write_status (c.refuse.ensures ∙ ap status_of c.of_fault.ensures) ∙ fault_write_status Ran c.in-Err.fault)
-
-pub returns-in-Err-clause-no_read : goal.returns-in-Err-clause-no_read
-returns-in-Err-clause-no_read g c = ap is_read_status (c.refuse.ensures ∙ ap status_of c.of_fault.ensures) ∙ fault_no_read c.in-Err.fault
+    counted_as (is_write_fault {A = Ran} (Err c.in-Err.fault)) (is_write_status c.answer_fault.result) _ _ (counted_beside (is_write_fault {A = Ran} (Err c.in-Err.fault)) _ _ c.in-Err.ensures.write)
+    (ap is_write_status c.answer_fault.ensures.status ∙ fault_write_status Ran c.in-Err.fault)

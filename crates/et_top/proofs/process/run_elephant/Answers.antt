@@ -21,7 +21,7 @@ returns-in-Ok-with_models-clause-no_command g c =
 
 pub returns-in-Ok-clause-answers : goal.returns-in-Ok-clause-answers
 returns-in-Ok-clause-answers g c =
-    rw c.in-Ok.is (λ held told d defined reached decides. (0, rw (c.in-Err.ensures.out, c.in-Err.ensures.files, c.refuse.ensures) (memory_gives reached (g.O.Sink.taken c.args.out.now) 0 0 _ _ d (still 0 d))))
+    rw c.in-Ok.is (λ held told d defined reached decides. (0, rw (c.in-Err.ensures.out, c.in-Err.ensures.files, c.refuse.ensures.status) (memory_gives reached (g.O.Sink.taken c.args.out.now) 0 0 _ _ d (still 0 d))))
 
 pub returns-in-Ok-with_models-clause-reads : goal.returns-in-Ok-with_models-clause-reads
 returns-in-Ok-with_models-clause-reads g c =
@@ -30,16 +30,16 @@ returns-in-Ok-with_models-clause-reads g c =
 
 pub returns-in-Ok-clause-reads : goal.returns-in-Ok-clause-reads
 returns-in-Ok-clause-reads g c =
-    rw c.in-Ok.is (rw c.in-Err.ensures.files (none_read _ _ _ _ c.refuse.result (λ late. let early = ap is_early c.refuse.ensures in absurd (cc (early, late)))))
+    rw c.in-Ok.is (rw c.in-Err.ensures.files (none_read _ _ _ _ c.refuse.result (λ late. let early = ap is_early c.refuse.ensures.status in absurd (cc (early, late)))))
 
 pub returns-in-Ok-clause-read_fault : goal.returns-in-Ok-clause-read_fault
-returns-in-Ok-clause-read_fault g c = same_count (is_read_status c.refuse.result) _ _ (ap g.F.Files.faults c.in-Err.ensures.files) (ap is_read_status c.refuse.ensures)
+returns-in-Ok-clause-read_fault g c = same_count (is_read_status c.refuse.result) _ _ (ap g.F.Files.faults c.in-Err.ensures.files) (ap is_read_status c.refuse.ensures.status)
 
 pub returns-in-Ok-clause-write_fault : goal.returns-in-Ok-clause-write_fault
-returns-in-Ok-clause-write_fault g c = same_count (is_write_status c.refuse.result) _ _ (ap g.O.Sink.faults c.in-Err.ensures.out) (ap is_write_status c.refuse.ensures)
+returns-in-Ok-clause-write_fault g c = same_count (is_write_status c.refuse.result) _ _ (ap g.O.Sink.faults c.in-Err.ensures.out) (ap is_write_status c.refuse.ensures.status)
 
 pub returns-in-Err-NotUtf8-clause-read_fault : goal.returns-in-Err-NotUtf8-clause-read_fault
-returns-in-Err-NotUtf8-clause-read_fault g c = same_count (is_read_status c.refuse-in-Err-NotUtf8.result) _ _ refl (ap is_read_status c.refuse-in-Err-NotUtf8.ensures)
+returns-in-Err-NotUtf8-clause-read_fault g c = same_count (is_read_status c.refuse-in-Err-NotUtf8.result) _ _ refl (ap is_read_status c.refuse-in-Err-NotUtf8.ensures.status)
 
 pub returns-in-Err-NotUtf8-clause-write_fault : goal.returns-in-Err-NotUtf8-clause-write_fault
-returns-in-Err-NotUtf8-clause-write_fault g c = same_count (is_write_status c.refuse-in-Err-NotUtf8.result) _ _ refl (ap is_write_status c.refuse-in-Err-NotUtf8.ensures)
+returns-in-Err-NotUtf8-clause-write_fault g c = same_count (is_write_status c.refuse-in-Err-NotUtf8.result) _ _ refl (ap is_write_status c.refuse-in-Err-NotUtf8.ensures.status)

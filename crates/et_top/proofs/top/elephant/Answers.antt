@@ -24,7 +24,7 @@ returns-in-Err-clause-answers g c held told d defined reached decides =
     let read = Rose (g.F.Files.faults c.args.files.now) (g.F.Files.faults c.args.files.now) in
     let written = Rose (g.O.Sink.faults c.args.out.now) (g.O.Sink.faults c.args.out.now) in
     let visits = c.args.visits.now in
-    subst (GivesDefined reached taken taken visits visits read written d) (sym c.refuse.ensures) (memory_gives reached taken visits visits read written d (still visits d))
+    subst (GivesDefined reached taken taken visits visits read written d) (sym c.refuse.ensures.status) (memory_gives reached taken visits visits read written d (still visits d))
 
 pub returns-in-Some-clause-no_visits : goal.returns-in-Some-clause-no_visits
 returns-in-Some-clause-no_visits g c without =
@@ -46,7 +46,7 @@ returns-in-Some-clause-reads g c =
     subst (λ (a : Option Asked). ReadsInOrder (g.F.Files.agrees c.perform.new.files (g.F.Files.asked c.args.files.now)) (g.F.Files.asked c.args.files.now) (g.F.Files.asked c.perform.new.files) (most_of a) (paths_of a) c.perform.result) is c.perform.ensures.reads
 
 pub returns-in-Err-clause-reads : goal.returns-in-Err-clause-reads
-returns-in-Err-clause-reads g c = none_read _ _ _ (paths_of (command (map string_bytes c.args.words.now))) c.refuse.result (λ late. let early = ap is_early c.refuse.ensures in absurd (cc (early, late)))
+returns-in-Err-clause-reads g c = none_read _ _ _ (paths_of (command (map string_bytes c.args.words.now))) c.refuse.result (λ late. let early = ap is_early c.refuse.ensures.status in absurd (cc (early, late)))
 
 pub returns-in-None-clause-reads : goal.returns-in-None-clause-reads
 returns-in-None-clause-reads g c =
@@ -54,13 +54,13 @@ returns-in-None-clause-reads g c =
     none_read _ _ _ (paths_of (command (map string_bytes c.args.words.now))) c.refuse-in-None.result (λ late. ap paths_of (sym is))
 
 pub returns-in-Err-clause-read_fault : goal.returns-in-Err-clause-read_fault
-returns-in-Err-clause-read_fault g c = same_count (is_read_status c.refuse.result) _ _ refl (ap is_read_status c.refuse.ensures)
+returns-in-Err-clause-read_fault g c = same_count (is_read_status c.refuse.result) _ _ refl (ap is_read_status c.refuse.ensures.status)
 
 pub returns-in-Err-clause-write_fault : goal.returns-in-Err-clause-write_fault
-returns-in-Err-clause-write_fault g c = same_count (is_write_status c.refuse.result) _ _ refl (ap is_write_status c.refuse.ensures)
+returns-in-Err-clause-write_fault g c = same_count (is_write_status c.refuse.result) _ _ refl (ap is_write_status c.refuse.ensures.status)
 
 pub returns-in-None-clause-read_fault : goal.returns-in-None-clause-read_fault
-returns-in-None-clause-read_fault g c = same_count (is_read_status c.refuse-in-None.result) _ _ refl (ap is_read_status c.refuse-in-None.ensures)
+returns-in-None-clause-read_fault g c = same_count (is_read_status c.refuse-in-None.result) _ _ refl (ap is_read_status c.refuse-in-None.ensures.status)
 
 pub returns-in-None-clause-write_fault : goal.returns-in-None-clause-write_fault
-returns-in-None-clause-write_fault g c = same_count (is_write_status c.refuse-in-None.result) _ _ refl (ap is_write_status c.refuse-in-None.ensures)
+returns-in-None-clause-write_fault g c = same_count (is_write_status c.refuse-in-None.result) _ _ refl (ap is_write_status c.refuse-in-None.ensures.status)
