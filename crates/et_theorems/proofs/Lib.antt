@@ -1,4 +1,5 @@
 mod Tabled
+mod MemberMarks
 mod Ranges
 mod Defined
 mod DeathLines

@@ -71,7 +71,7 @@ set_length files =
     let back = length-map files file_outline in
     omega (arith, both, front, back)
 
-few_files : (files : List LoadedClass) → IsLinkable files → length files ≤ 4096
+pub few_files : (files : List LoadedClass) → IsLinkable files → length files ≤ 4096
 few_files files linkable =
     elim (cases_lt 4096 (length files)) [
       | inl many ↦ let all = set_length files in absurd (linkable TooMany (length boots + 4096) (omega (arith, all, many)) refl)

@@ -1,16 +1,15 @@
 -- A linked program has at most 4,096 * 65,535 + 1 static fields: it is of at most 4,096 files, of at most 65,535 fields each, and
 -- System.out is one more.
-use Rattle.std.proofs.Common.{◌≡◌, ℕ, ◌+◌, ◌*◌, ◌<◌, ◌≤◌, Bool, true, false, List, [], ◌∷◌, ◌++◌, length, map, refl, inl, inr, arith, length-append}
+use Rattle.std.proofs.Common.{◌≡◌, ℕ, ◌+◌, ◌*◌, ◌<◌, ◌≤◌, Bool, true, false, List, [], ◌∷◌, ◌++◌, length, refl, arith, length-append}
 use Rattle.std.specs.Prelude.{All, if◌then◌else◌}
-use Rattle.std.proofs.lemmas.Bool.{cases_lt}
 use Rattle.std.proofs.lemmas.List.{length-map}
 use Rattle.std.proofs.lemmas.List.Elements.{All-head, All-tail}
-use Rattle.et_program.specs.declared.fault.LinkFaultKind.TheVariants.{TooMany}
-use Rattle.et_program.specs.Files.{boots, boot_outline, file_outline, set_of}
+use Rattle.et_program.specs.Files.{boots}
 use Rattle.et_program.specs.LinkFaults.{IsLinkable}
 use Rattle.et_program.specs.Loaded.{LoadedClass}
 use Rattle.et_program.specs.MembersOf.{numbered, boot_fields, file_field, file_fields, fields_of}
 use Rattle.et_program.specs.Slots.{is_static_field, places_from}
+use Rattle.et_theorems.proofs.Tabled.{few_files}
 
 -- at most as many places as elements
 few_places : {X : Type 0} (t : X → Bool) (n : ℕ) (xs : List X) → length (places_from t n xs) ≤ length xs
@@ -48,20 +47,6 @@ file_field_count k (c ∷ files) few =
     let first : length c.fields < 65536 = All-head (λ (x : LoadedClass). length x.fields < 65536) c files few in
     let rest : length (numbered file_fields (k + 1) files) ≤ 65535 * length files = file_field_count (k + 1) files (All-tail (λ (x : LoadedClass). length x.fields < 65536) c files few) in
     omega (arith, both, own, first, rest)
-
-set_length : (files : List LoadedClass) → length (set_of files) ≡ length boots + length files
-set_length files =
-    let both = length-append (map boot_outline boots) (map file_outline files) in
-    let front = length-map boots boot_outline in
-    let back = length-map files file_outline in
-    omega (arith, both, front, back)
-
-few_files : (files : List LoadedClass) → IsLinkable files → length files ≤ 4096
-few_files files linkable =
-    elim (cases_lt 4096 (length files)) [
-      | inl many ↦ let all = set_length files in absurd (linkable TooMany (length boots + 4096) (omega (arith, all, many)) refl)
-      | inr few ↦ few
-    ]
 
 pub few_statics : (files : List LoadedClass) → IsLinkable files → All (λ (c : LoadedClass). length c.fields < 65536) files → length (places_from is_static_field 0 (fields_of files)) ≤ 4096 * 65535 + 1
 few_statics files linkable few =

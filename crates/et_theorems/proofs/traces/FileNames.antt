@@ -1,23 +1,17 @@
 -- What the names of a class file are: bytes, and not empty.
-use Rattle.std.proofs.Common.{◌≡◌, ℕ, ◌+◌, ◌<◌, ◌^◌, Bool, true, List, [], ◌∷◌, ◌++◌, length, map, Option, None, Some, refl, sym, subst, arith}
+use Rattle.std.proofs.Common.{◌≡◌, ℕ, ◌+◌, ◌<◌, ◌^◌, true, List, [], ◌∷◌, length, map, Option, None, Some, refl, sym, subst, arith}
 use Rattle.std.specs.Prelude.{All}
 use Rattle.std.proofs.lemmas.Bool.{and_parts, false≢true}
 use Rattle.std.proofs.lemmas.List.{length-map}
 use Rattle.std.proofs.lemmas.List.Elements.{All-map}
 use Rattle.std.proofs.lemmas.Option.{none-some}
-use Rattle.et_base.specs.Marks.{Mark}
 use Rattle.et_text.specs.Ranges.{IsText}
 use Rattle.et_pool.specs.Descriptors.{MethodType, method_type}
 use Rattle.et_pool.specs.Entries.{Item}
 use Rattle.et_pool.specs.Looks.{end_of, utf8_at, class_name_at}
-use Rattle.et_class.specs.declared.flags.TheConstants.{INTERFACE}
-use Rattle.et_class.specs.Along.{along}
-use Rattle.et_class.specs.Classes.{IsClassFile}
-use Rattle.et_class.specs.Fields.{field_marks, attribute_marks}
-use Rattle.et_class.specs.Layout.{ClassOf, MemberOf, u2, counted_bytes, member_bytes, attribute_bytes}
+use Rattle.et_class.specs.Layout.{ClassOf, MemberOf, u2, counted_bytes, member_bytes}
 use Rattle.et_class.specs.Methods.{method_marks}
-use Rattle.et_class.specs.Names.{has, is_nonempty, is_member_new, has_member_name}
-use Rattle.et_class.specs.Rules.{pool_marks, header_marks, header_of}
+use Rattle.et_class.specs.Names.{is_nonempty, is_member_new, has_member_name}
 use Rattle.et_class.specs.Spelling.{IsClassSpelled}
 use Rattle.et_class.proofs.Respelled.{class_spelled}
 use Rattle.et_program.specs.Files.{or_empty}
@@ -25,9 +19,10 @@ use Rattle.et_program.specs.Linking.{IsOfFile}
 use Rattle.et_program.specs.Loaded.{LoadedMember, LoadedClass, loaded_class, loaded_method, loaded_field}
 use Rattle.et_program.specs.MembersOf.{pool_text}
 use Rattle.et_history.specs.programs.Rules.{KeepsMethodRules}
-use Rattle.et_history.proofs.programs.Marks.{AreWell, well_before, well_behind, well_first, well_rest, along_each}
+use Rattle.et_history.proofs.programs.Marks.{AreWell, well_first, well_rest, along_each}
 use Rattle.et_history.proofs.programs.Places.{at_mapped}
 use Rattle.et_history.proofs.programs.PromisedFiles.{keeps_method_rules}
+use Rattle.et_theorems.proofs.MemberMarks.{well_methods}
 use Rattle.et_theorems.proofs.traces.PoolTexts.{AreSmall, texts_small, classes_named}
 use Rattle.et_theorems.proofs.traces.ApartMethods.{HasKey, HasApartMethods, file_apart}
 
@@ -94,17 +89,6 @@ method_key slots m type named typed =
 
 abbrev methods_place : ClassOf → ℕ
 methods_place c = end_of 8 c.slots + 6 + length (counted_bytes u2 c.interfaces) + length (counted_bytes member_bytes c.fields) + 2
-
-well_methods : (bytes : List ℕ) (c : ClassOf) → IsClassFile bytes c → AreWell (along member_bytes (method_marks c.slots) [] (methods_place c) c.methods)
-well_methods bytes c is =
-    let face : Bool = has c.flags INTERFACE in
-    let place : ℕ = end_of 8 c.slots + 6 + length (counted_bytes u2 c.interfaces) in
-    let header : List Mark = header_marks c.slots (end_of 8 c.slots) (header_of c) in
-    let fields : List Mark = along member_bytes (field_marks c.slots face) [] (place + 2) c.fields in
-    let methods : List Mark = along member_bytes (method_marks c.slots) [] (place + length (counted_bytes member_bytes c.fields) + 2) c.methods in
-    let others : List Mark = along attribute_bytes (attribute_marks c.slots) [] (place + length (counted_bytes member_bytes c.fields) + length (counted_bytes member_bytes c.methods) + 2) c.attributes in
-    let behind : AreWell (header ++ (fields ++ (methods ++ others))) = well_behind (pool_marks c.slots) (header ++ (fields ++ (methods ++ others))) (record { none = is.rules }) in
-    well_before methods others (well_behind fields (methods ++ others) (well_behind header (fields ++ (methods ++ others)) behind))
 
 -- what holds of what a list was made to holds of what it was made of
 mapped_back : {X Y : Type 0} (P : Y → Type 0) (f : X → Y) (xs : List X) → All P (map f xs) → All (λ x. P (f x)) xs

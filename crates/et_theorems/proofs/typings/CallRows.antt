@@ -1,5 +1,5 @@
 -- Calls: check 1 passes, the method that is entered begins with its first types, and its caller waits for what it returns.
-use Rattle.std.proofs.Common.{◌≡◌, ℕ, ◌+◌, ◌<◌, ◌≤◌, ◌&&◌, ◌||◌, Bool, true, false, leb, List, ◌∷◌, length, drop, Option, Some, None, Ok, Result, IsSome, refl, sym, ◌∙◌, ap, subst, inl, inr, arith}
+use Rattle.std.proofs.Common.{◌≡◌, ℕ, ◌+◌, ◌<◌, ◌≤◌, ◌&&◌, ◌||◌, ◌⊎◌, Bool, true, false, leb, List, ◌∷◌, length, drop, Option, Some, None, Ok, Result, IsSome, refl, sym, ◌∙◌, ap, subst, inl, inr, arith}
 use Rattle.std.specs.Prelude.{if◌then◌else◌, map, not, option_and_then, option_map, reverse, slice_index_or, codes}
 use Rattle.std.specs.List.{flat_map}
 use Rattle.std.specs.Str.{bytes_eq}
@@ -52,7 +52,7 @@ use Rattle.et_verify.specs.Steps.{below_taken, moved_where, with_given}
 use Rattle.et_flow.specs.Types.{TypesOf, local_entries, operand_entries, type_of}
 use Rattle.et_flow.specs.Stores.{with_free}
 use Rattle.et_verify.specs.Typings.{IsTyping, argument_entries, first_types}
-use Rattle.et_theorems.specs.typings.Refused.{FailsResolved, FailsRow, selected}
+use Rattle.et_theorems.specs.typings.Refused.{FailsBuiltIn, FailsResolved, FailsRow, FailsText, selected}
 use Rattle.et_theorems.specs.typings.Typed.{AreTypedFrames, AreTypings, Holds, HoldsBelow, IsTypedFrame, IsTypedThread, Typings, UnderCall, Whole, part_below, part_of}
 use Rattle.et_theorems.specs.typings.Values.{AreLocalsOf, AreOperandsOf}
 use Rattle.et_theorems.proofs.typings.Arguments.{Passes, arguments_are, passed}
@@ -279,8 +279,8 @@ module _ (e : Moment) (typings : Typings) (m : ℕ) (at : Site) (kind : CallKind
   chosen : (answer : Result ℕ LinkError) (go : ℕ → Outcome Kept) → ((k : ℕ) → answer ≡ Ok k → P (go k)) → P (after_selection e (begins e) answer go)
   chosen answer go h = where_resolved e typings here.calm (begins e) answer go refl h
 
-  refuses : (owner n o : ℕ) → Resolved owner n → first_reference args ≡ Some o → FailsResolved e kind args n o → FailsRow e at (rows.Call (call.Invoke kind))
-  refuses owner n o so receiver fails = record {
+  fails_so : (owner n o : ℕ) → Resolved owner n → first_reference args ≡ Some o → FailsResolved e kind args n o ⊎ (FailsBuiltIn e at kind owner n o ⊎ FailsText e at kind args owner n o) → FailsRow e at (rows.Call (call.Invoke kind))
+  fails_so owner n o so receiver fails = record {
     member = c.member;
     named = c.named;
     type = c.type;
@@ -291,38 +291,17 @@ module _ (e : Moment) (typings : Typings) (m : ℕ) (at : Site) (kind : CallKind
     method_found = so.method_found;
     object = o;
     receiver = receiver;
-    fails = inl fails;
+    fails = fails;
   }
+
+  refuses : (owner n o : ℕ) → Resolved owner n → first_reference args ≡ Some o → FailsResolved e kind args n o → FailsRow e at (rows.Call (call.Invoke kind))
+  refuses owner n o so receiver fails = fails_so owner n o so receiver (inl fails)
 
   pub built_in_refuses : (owner n o k : ℕ) (b : BuiltIn) → Resolved owner n → first_reference args ≡ Some o → selected e at kind owner n o ≡ Some k → built_in_of (method_at e.program k) ≡ Some b → is_fit_for e (begins e) o b ≡ false → FailsRow e at (rows.Call (call.Invoke kind))
-  built_in_refuses owner n o k b so receiver is_selected is unfit = record {
-    member = c.member;
-    named = c.named;
-    type = c.type;
-    typed = c.typed;
-    class = owner;
-    class_found = so.class_found;
-    method = n;
-    method_found = so.method_found;
-    object = o;
-    receiver = receiver;
-    fails = inr (inl (record { method = k; is_selected = is_selected; built_in = b; is_built_in = is; unfit = unfit }));
-  }
+  built_in_refuses owner n o k b so receiver is_selected is unfit = fails_so owner n o so receiver (inr (inl (record { method = k; is_selected = is_selected; built_in = b; is_built_in = is; unfit = unfit })))
 
   pub text_refuses : (owner n o k : ℕ) (x : TextMethod) → Resolved owner n → first_reference args ≡ Some o → selected e at kind owner n o ≡ Some k → text_method_of e.program k ≡ Some x → is_fit_text e (begins e) args o x ≡ false → FailsRow e at (rows.Call (call.Invoke kind))
-  text_refuses owner n o k x so receiver is_selected is unfit = record {
-    member = c.member;
-    named = c.named;
-    type = c.type;
-    typed = c.typed;
-    class = owner;
-    class_found = so.class_found;
-    method = n;
-    method_found = so.method_found;
-    object = o;
-    receiver = receiver;
-    fails = inr (inr (record { method = k; is_selected = is_selected; text = x; is_text = is; unfit = unfit }));
-  }
+  text_refuses owner n o k x so receiver is_selected is unfit = fails_so owner n o so receiver (inr (inr (record { method = k; is_selected = is_selected; text = x; is_text = is; unfit = unfit })))
 
 -- BY THE KIND of the call
 module _ (e : Moment) (typings : Typings) (m : ℕ) (at : Site) (ts us : TypesOf) where

@@ -1,5 +1,5 @@
 -- The fields of a linked program are of types of which there are operands, and its initializers take nothing.
-use Rattle.std.proofs.Common.{◌-◌, ◌≡◌, ℕ, ◌+◌, ◌<◌, ◌==◌, ◌&&◌, ◌||◌, ◌++◌, Bool, true, false, List, [], ◌∷◌, length, map, Option, Some, None, IsSome, refl, sym, ◌∙◌, ap, subst, arith, inl, inr}
+use Rattle.std.proofs.Common.{◌-◌, ◌≡◌, ℕ, ◌+◌, ◌<◌, ◌==◌, ◌&&◌, ◌||◌, Bool, true, false, List, [], ◌∷◌, length, map, Option, Some, None, IsSome, refl, sym, ◌∙◌, ap, subst, arith, inl, inr}
 use Rattle.std.specs.Prelude.{All, IfSome, codes, if◌then◌else◌, is_some}
 use Rattle.std.specs.List.{list_all, slice_index_or}
 use Rattle.std.specs.Str.{bytes_eq}
@@ -7,15 +7,11 @@ use Rattle.std.proofs.lemmas.Bool.{and_parts, cases_eq, false≢true, true≢fal
 use Rattle.std.proofs.lemmas.List.Elements.{All-cons, All-map, All-nil}
 use Rattle.et_base.proofs.Positions.{Passes, position_passes}
 use Rattle.et_class.specs.Descriptors.{after_class, after_dimensions, after_element, is_base, is_field_descriptor, is_floating, is_text_end}
-use Rattle.et_base.specs.Marks.{Mark}
-use Rattle.et_class.specs.Along.{along}
 use Rattle.et_class.specs.Classes.{IsClassFile}
-use Rattle.et_class.specs.Fields.{attribute_marks, field_marks, is_floating_type, is_type}
-use Rattle.et_class.specs.Layout.{ClassOf, MemberOf, attribute_bytes, counted_bytes, member_bytes, u2}
-use Rattle.et_class.specs.Methods.{method_marks}
+use Rattle.et_class.specs.Fields.{field_marks, is_floating_type, is_type}
+use Rattle.et_class.specs.Layout.{ClassOf, MemberOf, counted_bytes, member_bytes, u2}
 use Rattle.et_class.specs.Names.{has}
 use Rattle.et_class.specs.Operands.{operand_kind}
-use Rattle.et_class.specs.Rules.{header_marks, header_of, pool_marks}
 use Rattle.et_class.specs.declared.flags.TheConstants.{INTERFACE}
 use Rattle.et_pool.specs.Looks.{end_of, utf8_at}
 use Rattle.et_pool.specs.Entries.{Item}
@@ -28,7 +24,8 @@ use Rattle.et_link.proofs.TabledLemmas.{length-placed}
 use Rattle.et_history.proofs.programs.Classes.{class_cases}
 use Rattle.et_history.proofs.programs.Counts.{placed_at}
 use Rattle.et_history.proofs.programs.Lists.{all_numbered}
-use Rattle.et_history.proofs.programs.Marks.{AreWell, along_each, well_before, well_behind, well_first, well_rest}
+use Rattle.et_history.proofs.programs.Marks.{AreWell, along_each, well_first, well_rest}
+use Rattle.et_theorems.proofs.MemberMarks.{well_fields}
 use Rattle.et_program.proofs.DeclaredFields.{all_fields}
 use Rattle.et_program.specs.Entries.{ClassEntry, Linked, class_at, field_at, method_at, no_field, no_method}
 use Rattle.et_program.specs.Files.{boots}
@@ -99,13 +96,7 @@ operand_fields : (bytes : List ℕ) (c : ClassOf) → IsClassFile bytes c → Al
 operand_fields bytes c is =
     let face : Bool = has c.flags INTERFACE in
     let place : ℕ = end_of 8 c.slots + 6 + length (counted_bytes u2 c.interfaces) in
-    let header : List Mark = header_marks c.slots (end_of 8 c.slots) (header_of c) in
-    let fields : List Mark = along member_bytes (field_marks c.slots face) [] (place + 2) c.fields in
-    let methods : List Mark = along member_bytes (method_marks c.slots) [] (place + length (counted_bytes member_bytes c.fields) + 2) c.methods in
-    let others : List Mark = along attribute_bytes (attribute_marks c.slots) [] (place + length (counted_bytes member_bytes c.fields) + length (counted_bytes member_bytes c.methods) + 2) c.attributes in
-    let behind : AreWell (header ++ (fields ++ (methods ++ others))) = well_behind (pool_marks c.slots) (header ++ (fields ++ (methods ++ others))) (record { none = is.rules }) in
-    along_each (IsOperandField c.slots) member_bytes (field_marks c.slots face) (λ before at m w. operand_field c.slots face before at m w) [] (place + 2) c.fields
-    (well_before fields (methods ++ others) (well_behind header (fields ++ (methods ++ others)) behind))
+    along_each (IsOperandField c.slots) member_bytes (field_marks c.slots face) (λ before at m w. operand_field c.slots face before at m w) [] (place + 2) c.fields (well_fields bytes c is)
 
 text_there : (o : Option (List ℕ)) → is_type o ≡ true → is_floating_type o ≡ false → IsSome (operand_kind (or_empty o))
 text_there None h f = absurd (false≢true h)

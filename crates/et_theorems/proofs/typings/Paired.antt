@@ -63,6 +63,14 @@ kept_upper first last j v ne e t =
 not_high_and_long : (t : EntryType) → t ≡ entry.LongHigh → t ≡ entry.Long → ⊥
 not_high_and_long t a b = cc
 
+length-other : (vs : List Value) (i : ℕ) (w : Value) → length (other_half_unset i w vs) ≡ length vs
+length-other vs i value.Unset = refl
+length-other vs i (value.Int n) = refl
+length-other vs i (value.Long n) = length-set vs (i + 1) value.Unset
+length-other vs i value.LongHigh = length-set vs (i - 1) value.Unset
+length-other vs i value.Null = refl
+length-other vs i (value.Ref o) = refl
+
 module _ (vs : List Value) (paired : ArePaired (type_at vs)) where
   -- an entry that is no half of a long has no half beside it
   beside : (i j : ℕ) (t : EntryType) → type_at vs i ≡ t → (t ≡ entry.Long → ⊥) → (t ≡ entry.LongHigh → ⊥) → value_kept i i j (get_or vs j value.Unset) ≡ get_or vs j value.Unset
@@ -97,14 +105,6 @@ module _ (vs : List Value) (paired : ArePaired (type_at vs)) where
 
   pub freed_at : (i j : ℕ) → j < length vs → (j ≡ i → ⊥) → get_or (freed i vs) j value.Unset ≡ value_kept i i j (get_or vs j value.Unset)
   freed_at i j lt ne = freed_by i j (get_or vs i value.Unset) refl lt ne
-
-  length-other : (i : ℕ) (w : Value) → length (other_half_unset i w vs) ≡ length vs
-  length-other i value.Unset = refl
-  length-other i (value.Int n) = refl
-  length-other i (value.Long n) = length-set vs (i + 1) value.Unset
-  length-other i value.LongHigh = length-set vs (i - 1) value.Unset
-  length-other i value.Null = refl
-  length-other i (value.Ref o) = refl
 
 -- WHAT STAYS
 
@@ -150,7 +150,7 @@ remains_so first last j x lower upper =
 
 module _ (vs : List Value) (ts : List EntryType) (i : ℕ) (v : Value) (t : EntryType) (held : AreLocalsOf vs ts) (inside : i < length vs) (is : type_of v ≡ t) (long : t ≡ entry.Long → ⊥) (high : t ≡ entry.LongHigh → ⊥) where
   stored_long : length (one_stored i v vs) ≡ length vs
-  stored_long = length-set (freed i vs) i v ∙ length-other vs held.paired i (get_or vs i value.Unset)
+  stored_long = length-set (freed i vs) i v ∙ length-other vs i (get_or vs i value.Unset)
 
   -- the type of each entry then
   abbrev type_now : ℕ → EntryType
@@ -159,7 +159,7 @@ module _ (vs : List Value) (ts : List EntryType) (i : ℕ) (v : Value) (t : Entr
   stored_type : (j : ℕ) → type_at (one_stored i v vs) j ≡ type_now j
   stored_type j = elim (cases_eq j i) [
     | inl same ↦ subst (λ (b : Bool). type_at (one_stored i v vs) j ≡ (if b then t else kept_at i i j (type_at vs j))) (sym (eq-eqb j i same))
-        (ap type_of (subst (λ (k : ℕ). get_or (set (freed i vs) i v) k value.Unset ≡ v) (sym same) (get_or-set_same (freed i vs) i v value.Unset (omega (arith, length-other vs held.paired i (get_or vs i value.Unset))))) ∙ is)
+        (ap type_of (subst (λ (k : ℕ). get_or (set (freed i vs) i v) k value.Unset ≡ v) (sym same) (get_or-set_same (freed i vs) i v value.Unset (omega (arith, length-other vs i (get_or vs i value.Unset))))) ∙ is)
     | inr ne ↦ subst (λ (b : Bool). type_at (one_stored i v vs) j ≡ (if b then t else kept_at i i j (type_at vs j))) (sym (not_eqb j i ne)) (other j ne)
   ]
     where
@@ -279,7 +279,7 @@ module _ (vs : List Value) (paired : ArePaired (type_at vs)) (i : ℕ) where
   ws = freed i vs
 
   ws_long : length ws ≡ length vs
-  ws_long = length-other vs paired i (get_or vs i value.Unset)
+  ws_long = length-other vs i (get_or vs i value.Unset)
 
   -- what the second entry still is
   second_is : (t : EntryType) → i + 1 < length vs → (t ≡ entry.Free → ⊥) → type_at ws (i + 1) ≡ t → type_at vs (i + 1) ≡ t
@@ -338,16 +338,8 @@ module _ (vs : List Value) (paired : ArePaired (type_at vs)) (i : ℕ) where
   pub both_freed_at : (j : ℕ) → i + 1 < length vs → j < length vs → (j ≡ i → ⊥) → (j ≡ i + 1 → ⊥) → get_or (freed (i + 1) (freed i vs)) j value.Unset ≡ value_kept i (i + 1) j (get_or vs j value.Unset)
   both_freed_at j room lt ne other = both_freed j (get_or ws (i + 1) value.Unset) refl room lt ne other
 
-  length-half : (k : ℕ) (w : Value) → length (other_half_unset k w ws) ≡ length ws
-  length-half k value.Unset = refl
-  length-half k (value.Int n) = refl
-  length-half k (value.Long n) = length-set ws (k + 1) value.Unset
-  length-half k value.LongHigh = length-set ws (k - 1) value.Unset
-  length-half k value.Null = refl
-  length-half k (value.Ref o) = refl
-
   pub both_length : length (freed (i + 1) (freed i vs)) ≡ length vs
-  both_length = length-half (i + 1) (get_or ws (i + 1) value.Unset) ∙ ws_long
+  both_length = length-other ws (i + 1) (get_or ws (i + 1) value.Unset) ∙ ws_long
 
 free_kept : (first last n : ℕ) → kept_at first last n entry.Free ≡ entry.Free
 free_kept first last n = by (n + 1 == first) (n == last + 1)
