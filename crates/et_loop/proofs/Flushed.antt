@@ -11,6 +11,7 @@ use Rattle.et_state.specs.Outcome.{records_of}
 use Rattle.et_state.specs.Naming.{Mentions, lines_of}
 use Rattle.et_state.specs.History.{Setting, is_flush_point, flush_lines, outcome_step, settled}
 use Rattle.et_binary.specs.Formats.{lines_written_in}
+use Rattle.et_loop.specs.declared.tracer.Progress.{Progress}
 use Rattle.et_loop.specs.Kept.{Settles}
 use Rattle.et_loop.specs.Quiet.{GoQuietly, IsStep, IsBrokenStep, IsTurn, IsBrokenTurn}
 use Rattle.et_loop.specs.Run.{time_noted, due_lines, due_state, last_lines, PutsFlush, PutsLast, Goes, Turns}
@@ -59,18 +60,22 @@ goes_behind given e s m s' m' front out out' None g =
     record { goes = g.goes; state = g.state; mentions = g.mentions; lines = ap (λ (t : List ℕ). front ++ t) g.lines ∙ sym (append_assoc front out more) }
 goes_behind given e s m s' m' front out out' (Some end) g = record { ends = g.ends; state = g.state; mentions = g.mentions; lines = ap (λ (t : List ℕ). front ++ t) g.lines }
 
-module _ {S : Type 0} (given : Setting S) (said : S → ℕ → List ℕ) (flush_visits : (ℕ → Bool) → S → ℕ) (e : ℕ) (s s₁ : S) (due : Bool) (old : List ℕ) (bytes left : List ℕ) (taken taken₁ : Log) (before flushed : ℕ)
-    (at : due ≡ is_flush_point given.interval e)
-    (state : (here : ℕ → Bool) → ((o : ℕ) → IsTrue (here o) ↔ IsReached (given.rule.graph s) o) → s₁ ≡ due_state due (given.rule.flushed here s) s)
-    (graphs : Settles due (given.rule.graph s) (given.rule.graph s₁))
-    (puts : PutsFlush (given.rule.graph s) old given.format due e taken taken₁ bytes left)
-    (few : (here : ℕ → Bool) → ((o : ℕ) → IsTrue (here o) ↔ IsReached (given.rule.graph s) o) → flushed ≤ before + due_visits due (flush_visits here s)) where
+module _ {S : Type 0} (given : Setting S) (flush_visits : (ℕ → Bool) → S → ℕ) (e : ℕ) (s s₁ : S) (due : Bool) (old bytes left : List ℕ) (taken taken₁ : Log) (before flushed : ℕ) where
+  -- after event e, which left s, a flush was made where it was due
+  pub record IsSettled : Type 0 where
+    pub at : due ≡ is_flush_point given.interval e
+    pub state : (here : ℕ → Bool) → ((o : ℕ) → IsTrue (here o) ↔ IsReached (given.rule.graph s) o) → s₁ ≡ due_state due (given.rule.flushed here s) s
+    pub graphs : Settles due (given.rule.graph s) (given.rule.graph s₁)
+    pub puts : PutsFlush (given.rule.graph s) old given.format due e taken taken₁ bytes left
+    pub few : (here : ℕ → Bool) → ((o : ℕ) → IsTrue (here o) ↔ IsReached (given.rule.graph s) o) → flushed ≤ before + due_visits due (flush_visits here s)
+
+module _ {S : Type 0} {given : Setting S} (said : S → ℕ → List ℕ) {flush_visits : (ℕ → Bool) → S → ℕ} {e : ℕ} {s s₁ : S} {due : Bool} {old bytes left : List ℕ} {taken taken₁ : Log} {before flushed : ℕ} (z : IsSettled given flush_visits e s s₁ due old bytes left taken taken₁ before flushed) where
   -- what was in the buffer, with the lines of the flush
   abbrev bytes₁ : List ℕ
-  bytes₁ = bytes ++ puts.bytes
+  bytes₁ = bytes ++ z.puts.bytes
 
   lines : (deaths : List (ℕ × ℕ)) → (due ≡ true → AreListed (given.rule.graph s) (slice_index old) deaths) → bytes₁ ≡ bytes ++ lines_written_in given.format (due_lines due (flush_lines e deaths))
-  lines deaths listed = ap (λ (t : List ℕ). bytes ++ t) (puts.lines deaths listed)
+  lines deaths listed = ap (λ (t : List ℕ). bytes ++ t) (z.puts.lines deaths listed)
 
   -- the turn of the last event begins with `from`, after event e + k
   pub record IsFlushed (k : ℕ) (mid : S) (between : List ℕ) : Type 0 where
@@ -90,16 +95,16 @@ module _ {S : Type 0} (given : Setting S) (said : S → ℕ → List ℕ) (flush
       record {
         from = s;
         events = (refl, kept);
-        at_there = at ∙ ap (λ (n : ℕ). is_flush_point given.interval n) now;
-        state_there = λ here h. same ∙ state here h;
-        graphs_there = subst (λ (x : S). Settles due (given.rule.graph s) (given.rule.graph x)) (sym same) graphs;
+        at_there = z.at ∙ ap (λ (n : ℕ). is_flush_point given.interval n) now;
+        state_there = λ here h. same ∙ z.state here h;
+        graphs_there = subst (λ (x : S). Settles due (given.rule.graph s) (given.rule.graph x)) (sym same) z.graphs;
         lines_there = λ deaths listed. lines deaths (λ is. subst (λ (xs : List ℕ). AreListed (given.rule.graph s) (slice_index xs) deaths) kept (listed is)) ∙ ap (λ (n : ℕ). bytes ++ lines_written_in given.format (due_lines due (flush_lines n deaths))) now;
-        few_there = λ here h. let f = few here h in omega (arith, f);
+        few_there = λ here h. let f = z.few here h in omega (arith, f);
       }
 
   module _ (no : due ≡ false) where
     same_state : s₁ ≡ s
-    same_state = state (is_reached (given.rule.graph s)) (is_reached_decides (given.rule.graph s)) ∙ ap (λ (b : Bool). due_state b (given.rule.flushed (is_reached (given.rule.graph s)) s) s) no
+    same_state = z.state (is_reached (given.rule.graph s)) (is_reached_decides (given.rule.graph s)) ∙ ap (λ (b : Bool). due_state b (given.rule.flushed (is_reached (given.rule.graph s)) s) s) no
 
     same_bytes : bytes₁ ≡ bytes
     same_bytes =
@@ -108,7 +113,7 @@ module _ {S : Type 0} (given : Setting S) (said : S → ℕ → List ℕ) (flush
 
     same_visits : flushed ≤ before
     same_visits =
-        let f = few (is_reached (given.rule.graph s)) (is_reached_decides (given.rule.graph s)) in
+        let f = z.few (is_reached (given.rule.graph s)) (is_reached_decides (given.rule.graph s)) in
         let none : due_visits due (flush_visits (is_reached (given.rule.graph s)) s) ≡ 0 = ap (λ (b : Bool). due_visits b (flush_visits (is_reached (given.rule.graph s)) s)) no in
         omega (arith, f, none)
 
@@ -127,7 +132,7 @@ module _ {S : Type 0} (given : Setting S) (said : S → ℕ → List ℕ) (flush
   pub flushed_then : (k : ℕ) (mid : S) (between : List ℕ) → GoQuietly given said k e s₁ mid old between → (0 < k → is_flush_point given.interval (e + k) ≡ false) → IsFlushed k mid between
   unfolding GoQuietly
   flushed_then zero mid between go later = flushed_at_once mid between go.0 go.1
-  flushed_then (suc k) mid between go later = nothing_flushed (at ∙ before_first given said k e s₁ mid old between go) (suc k) mid between go (later (omega arith))
+  flushed_then (suc k) mid between go later = nothing_flushed (z.at ∙ before_first given said k e s₁ mid old between go) (suc k) mid between go (later (omega arith))
 
   -- A TURN: the flush and what follows it
   module _ (quiet : ℕ) (mid : S) (between : List ℕ) (f : IsFlushed quiet mid between) (after : ℕ) (few_after : after ≤ flushed + 8 * quiet + visits_of_event given (e + quiet) mid) where
@@ -147,7 +152,7 @@ module _ {S : Type 0} (given : Setting S) (said : S → ℕ → List ℕ) (flush
       comes = record { events = f.events; visits = turn_visits };
       breaks = λ reached decides last listed.
           let deaths : List (ℕ × ℕ) = deaths_now reached given (e + quiet) f.from last in
-          inl (subst (λ (t : List ℕ). TakesPrefix taken taken₁ t) (f.lines_there deaths (λ _. listed) ∙ ap (λ (b : Bool). bytes ++ lines_written_in given.format (due_lines b (flush_lines (e + quiet) deaths))) f.at_there) (takes_no_more taken taken₁ bytes₁ left puts.put));
+          inl (subst (λ (t : List ℕ). TakesPrefix taken taken₁ t) (f.lines_there deaths (λ _. listed) ∙ ap (λ (b : Bool). bytes ++ lines_written_in given.format (due_lines b (flush_lines (e + quiet) deaths))) f.at_there) (takes_no_more taken taken₁ bytes₁ left z.puts.put));
     }
 
     -- the last event is done
@@ -221,21 +226,27 @@ module _ {S : Type 0} (given : Setting S) (said : S → ℕ → List ℕ) (flush
       }
 
   -- what a step gives for the turn
-  pub broken_turn : (after : ℕ) → IsBrokenStep given said e s₁ old flushed after → IsBrokenTurn given said e s old before after flush_visits taken taken₁ bytes
-  broken_turn after h = broken_here h.quiet h.mid h.between (flushed_then h.quiet h.mid h.between h.comes.events h.comes.later) after h.comes.visits
+  pub broken_turn : {after : ℕ} → IsBrokenStep given said e s₁ old flushed after → IsBrokenTurn given said e s old before after flush_visits taken taken₁ bytes
+  broken_turn {after = after} h = broken_here h.quiet h.mid h.between (flushed_then h.quiet h.mid h.between h.comes.events h.comes.later) after h.comes.visits
 
-  module _ (m : Mentions) (s' : S) (m' : Mentions) (left' spoken new : List ℕ) (after quiet : ℕ) (end : Option End) (h : IsStep given said e s₁ old flushed after m s' m' left left' spoken new (record { quiet = quiet; end = end })) where
+  module _ {m : Mentions} {s' : S} {m' : Mentions} {left' spoken new : List ℕ} {after : ℕ} {progress : Progress} (h : IsStep given said e s₁ old flushed after m s' m' left left' spoken new progress) where
+    abbrev quiet : ℕ
+    quiet = progress.quiet
+
+    abbrev end : Option End
+    end = progress.end
+
     -- the lines of the flush and of the step, behind what was in the buffer
     abbrev pub out_then : List ℕ
-    out_then = puts.put.prefix ++ left'
+    out_then = z.puts.put.prefix ++ left'
 
     then_put : TakesUpTo taken taken₁ out_then left'
-    then_put = record { prefix = puts.put.prefix; parts = refl; taken = puts.put.taken }
+    then_put = record { prefix = z.puts.put.prefix; parts = refl; taken = z.puts.put.taken }
 
     goes_then : (x : Option End) → end ≡ x → Goes given (e + quiet) h.mid m s' m' bytes₁ out_then x
     goes_then x is =
-        subst (λ (t : List ℕ). Goes given (e + quiet) h.mid m s' m' t out_then x) (sym puts.put.parts)
-        (goes_behind given (e + quiet) h.mid m s' m' puts.put.prefix left left' x (subst (λ (y : Option End). Goes given (e + quiet) h.mid m s' m' left left' y) is h.goes))
+        subst (λ (t : List ℕ). Goes given (e + quiet) h.mid m s' m' t out_then x) (sym z.puts.put.parts)
+        (goes_behind given (e + quiet) h.mid m s' m' z.puts.put.prefix left left' x (subst (λ (y : Option End). Goes given (e + quiet) h.mid m s' m' left left' y) is h.goes))
 
     pub turn_goes : end ≡ None → IsTurn given said e s old before after flush_visits m s' m' taken taken₁ bytes left' spoken new (record { quiet = quiet; end = end })
     turn_goes is =
@@ -246,7 +257,7 @@ module _ {S : Type 0} (given : Setting S) (said : S → ℕ → List ℕ) (flush
         (subst (λ (x : Option End). SaysStep given said (e + quiet) h.mid spoken x) is h.says)
         (subst (λ (x : Option End). Stamped x (e + quiet) (given.rule.graph h.mid) (given.rule.graph s') h.between new) is h.stamped))
 
-    module _ (over : End) (is : end ≡ Some over) (taken₂ : Log) (now : ℕ)
+    module _ {over : End} (is : end ≡ Some over) (taken₂ : Log) (now : ℕ)
         (last_few : (here : ℕ → Bool) → (due ≡ false → (o : ℕ) → IsTrue (here o) ↔ IsReached (given.rule.graph s') o) → now ≤ after + last_visits due (flush_visits here s')) where
       over_says : SaysStep given said (e + quiet) h.mid spoken (Some over)
       over_says = subst (λ (x : Option End). SaysStep given said (e + quiet) h.mid spoken x) is h.says

@@ -19,3 +19,4 @@ pub mod Stretches
 pub mod Flushed
 pub mod Standing
 pub mod Talking
+pub mod Going

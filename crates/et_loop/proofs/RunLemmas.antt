@@ -1,5 +1,5 @@
 -- The whole run: what holds between two turns, and what is put.
-use Rattle.std.proofs.Common.{◌≡◌, ℕ, zero, suc, ◌<◌, ◌≤◌, Bool, true, false, List, [], ◌∷◌, ◌++◌, Option, Some, None, refl, sym, ◌∙◌, ap, subst, arith, ◌⊎◌, inl, inr, ⊎_elim, if◌then◌else◌, append_assoc, append-nil, rules, unwrap_or, Result, Ok, Err, OnErr}
+use Rattle.std.proofs.Common.{◌≡◌, ℕ, zero, suc, ◌<◌, ◌≤◌, Bool, true, false, List, [], ◌∷◌, ◌++◌, Option, Some, None, IfNone, refl, sym, ◌∙◌, ap, subst, arith, ◌⊎◌, inl, inr, ⊎_elim, if◌then◌else◌, append_assoc, append-nil, rules, unwrap_or, Result, Ok, Err, OnErr}
 use mathlib.Core.Path.{fun_ext}
 use Rattle.std.proofs.lemmas.Bool.{cases_lt}
 use Rattle.std.proofs.lemmas.Grind.{flat_map-append}
@@ -56,7 +56,7 @@ IfNothing : Option End → Type 0
 IfNothing None = Unit {0}
 IfNothing (Some end) = ⊥
 
-none_some : (o : Option End) (end : End) → o ≡ None → o ≡ Some end → ⊥
+pub none_some : (o : Option End) (end : End) → o ≡ None → o ≡ Some end → ⊥
 unfolding IfNothing
 none_some o end a b = subst IfNothing (sym a ∙ b) tt
 
@@ -115,7 +115,7 @@ module _ {S : Type 0} (reached : Graph → ℕ → Bool) (given : Setting S) (st
       ]
 
   -- an event before which no end came is at most the last one
-  up_to_last : (e n : ℕ) (end : End) → IsLastEvent reached given start made n end → ((k : ℕ) → k < e → ends_at k ≡ None) → e ≤ n
+  pub up_to_last : (e n : ℕ) (end : End) → IsLastEvent reached given start made n end → ((k : ℕ) → k < e → ends_at k ≡ None) → e ≤ n
   up_to_last e n end last first = ⊎_elim (λ past. absurd (none_some (ends_at n) end (first n past) last.ends)) (λ le. le) (cases_lt n e)
 
   -- the last event before event e after which an object was reached, as far as it is noted before event e is
@@ -276,3 +276,8 @@ module _ {S : Type 0} (reached : Graph → ℕ → Bool) (given : Setting S) (st
 pub on_any : {T E : Type 0} {X : Type 0} (r : Result T E) → X → OnErr r X
 on_any (Ok v) x = tt
 on_any (Err v) x = x
+
+-- what holds where there is no end holds where there is none
+pub at_none : {X : Type 0} (end : Option End) → end ≡ None → IfNone end X → X
+at_none None is x = x
+at_none (Some end) is x = absurd (none_some (Some end) end is refl)

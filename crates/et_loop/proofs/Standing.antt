@@ -1,23 +1,27 @@
 -- What holds of a run after an event: how far it came, for what its stamps stand, how many visits it made, and what
 -- was printed. Quiet events keep it.
-use Rattle.std.proofs.Common.{◌≡◌, ℕ, zero, suc, ◌+◌, ◌*◌, ◌++◌, Bool, false, if◌then◌else◌, List, [], None, refl, sym, ◌∙◌, ap, subst, arith}
+use Rattle.std.proofs.Common.{◌≡◌, ℕ, zero, suc, ◌+◌, ◌*◌, ◌++◌, ◌∷◌, Bool, false, if◌then◌else◌, List, [], None, refl, sym, ◌∙◌, ap, subst, arith}
 use Rattle.std.specs.Prelude.{slice_index}
-use Rattle.et_graph.specs.Graph.{Graph, Decides}
-use Rattle.et_io.specs.Sink.{Log}
+use Rattle.et_base.specs.declared.line.TraceLine.TheVariants.{Header}
+use Rattle.et_graph.specs.Graph.{Graph, Decides, nothing_made}
+use Rattle.et_io.specs.Sink.{Log, with_more}
 use Rattle.et_state.specs.declared.records.Record.{Record}
 use Rattle.et_state.specs.Outcome.{state_after, records_of}
-use Rattle.et_state.specs.Naming.{Mentions, mentions_after, lines_of}
+use Rattle.et_state.specs.Naming.{Mentions, nothing_mentioned, mentions_after, lines_of}
 use Rattle.et_state.specs.History.{Setting, is_flush_point, outcome_step, ending, settled}
+use Rattle.et_text.specs.Ranges.{header_version}
 use Rattle.et_binary.specs.Formats.{lines_written_in}
+use Rattle.et_loop.specs.Kept.{IsStepTo}
 use Rattle.et_loop.specs.Quiet.{GoesQuietly, GoQuietly}
 use Rattle.et_loop.specs.Run.{time_noted, due_lines, flush_of, Advances}
 use Rattle.et_loop.specs.Stamping.{Passes}
 use Rattle.et_loop.specs.Told.{IsToldByStamps}
 use Rattle.et_loop.specs.Visits.{due_visits}
-use Rattle.et_loop.proofs.Counts.{AreSoFar, more_so_far}
-use Rattle.et_loop.proofs.Joins.{graphs, next_runs, next_told}
-use Rattle.et_loop.proofs.RunLemmas.{Running, more_nothing, noted_before}
-use Rattle.et_loop.proofs.Talking.{Talking, talking_quiet}
+use Rattle.et_loop.proofs.Counts.{AreSoFar, none_so_far, more_so_far}
+use Rattle.et_loop.proofs.Joins.{graphs, graph_first, running_as, next_runs, next_told}
+use Rattle.et_loop.proofs.RunLemmas.{Running, running_start, more_nothing, noted_before}
+use Rattle.et_loop.proofs.Talking.{Talking, talking_start, talking_quiet}
+use Rattle.et_loop.proofs.Turns.{told_first}
 
 -- a quiet event is a turn without lines
 quiet_turn : {S : Type 0} (reached : Graph → ℕ → Bool) (given : Setting S) (said : S → ℕ → List ℕ) (e : ℕ) (s s' : S) (last : ℕ → ℕ) (m : Mentions) (old new : List ℕ) → GoesQuietly given said e s s' old new → Advances reached given e s last m s' (time_noted (reached (given.rule.graph s)) last e) m [] []
@@ -68,3 +72,16 @@ module _ {S : Type 0} (reached : Graph → ℕ → Bool) (decides : Decides reac
       let at : suc (e + k) ≡ e + suc k = omega arith in
       let many : visits + 8 * k + 8 ≡ visits + 8 * suc k = omega arith in
       subst (λ (n : ℕ). Stands n s' new (visits + 8 * suc k)) at (subst (λ (v : ℕ). Stands (suc (e + k)) s' new v) many next)
+
+-- before the first turn: the first lines were put, and nothing else
+pub stands_first : {S : Type 0} {reached : Graph → ℕ → Bool} {decides : Decides reached} {given : Setting S} {said : S → ℕ → List ℕ} {flush_visits : (ℕ → Bool) → S → ℕ} {start : S} {made : List Record} {before now heard : Log} {first : ℕ} {m : Mentions} {stamps lines : List ℕ}
+    → IsStepTo nothing_made (given.rule.graph start) [] → m ≡ mentions_after given.names nothing_mentioned made → lines ≡ lines_written_in given.format (Header (header_version given.format) given.interval ∷ lines_of given.names nothing_mentioned made) → now ≡ with_more before lines
+    → ((o : ℕ) → slice_index stamps o ≡ 0) → Stands reached decides given said flush_visits start made m before now heard heard first 0 start stamps first
+stands_first {reached = reached} {decides = decides} {given = given} {said = said} {flush_visits = flush_visits} {start = start} {made = made} {before = before} {now = now} {heard = heard} {first = first} {m = m} {stamps = stamps} {lines = lines} legal mentions are put none =
+    let none_noted = λ (o : ℕ). zero in
+    record {
+      runs = running_as reached decides given start made 0 start none_noted m before now (running_start reached given start made none_noted m before now lines (λ o. refl) mentions are put);
+      told = told_first (graphs reached decides given start made) (given.rule.graph start) (slice_index stamps) legal.0 legal.1 none (graph_first reached decides given start made);
+      so_far = none_so_far reached given flush_visits start made first;
+      talks = talking_start reached given said start made heard;
+    }

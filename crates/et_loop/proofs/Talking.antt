@@ -1,19 +1,16 @@
 -- What the guest's sink took between two turns, and where a run is cut off.
-use Rattle.std.proofs.Common.{◌≡◌, ℕ, zero, suc, ◌+◌, ◌<◌, ◌≤◌, Bool, if◌then◌else◌, List, [], ◌∷◌, ◌++◌, Option, Some, None, refl, sym, ◌∙◌, ap, subst, arith, inl, inr, ⊎_elim, append_assoc, append-nil}
+use Rattle.std.proofs.Common.{◌≡◌, ℕ, zero, suc, ◌+◌, ◌<◌, ◌≤◌, Bool, if◌then◌else◌, List, [], ◌++◌, Option, Some, None, refl, sym, ◌∙◌, ap, subst, arith, inl, inr, ⊎_elim, append_assoc, append-nil}
 use Rattle.std.proofs.lemmas.Bool.{cases_lt}
 use Rattle.et_base.specs.declared.value.End.{End}
 use Rattle.et_graph.specs.Graph.{Graph}
 use Rattle.et_io.specs.Sink.{Log, with_more, TakesPrefix}
 use Rattle.et_io.proofs.Taking.{nothing_taken}
 use Rattle.et_state.specs.declared.records.Record.{Record}
-use Rattle.et_state.specs.History.{Setting, IsLastEvent, ending, settled, left_by, picked_turn}
+use Rattle.et_state.specs.History.{Setting, ending, settled, left_by, picked_turn}
 use Rattle.et_loop.specs.Quiet.{GoesQuietly}
 use Rattle.et_loop.specs.Said.{said_at, said_to, SaysPrefix, SaysTurn, IsCutSaid}
 use Rattle.et_loop.specs.Visits.{visits_to}
-use Rattle.et_loop.proofs.RunLemmas.{more_nothing, more_twice, front_on, front_so_far}
-
-none_some : (o : Option End) (end : End) → o ≡ None → o ≡ Some end → ⊥
-none_some o end a b = cc
+use Rattle.et_loop.proofs.RunLemmas.{more_nothing, more_twice, front_on, front_so_far, up_to_last}
 
 module _ {S : Type 0} (reached : Graph → ℕ → Bool) (given : Setting S) (said : S → ℕ → List ℕ) (start : S) (made : List Record) where
   abbrev ends_at : ℕ → Option End
@@ -22,9 +19,6 @@ module _ {S : Type 0} (reached : Graph → ℕ → Bool) (given : Setting S) (sa
   -- the history goes on before event e
   abbrev pub GoesTo : ℕ → Type 0
   GoesTo e = (k : ℕ) → k < e → ends_at k ≡ None
-
-  up_to_last : (e n : ℕ) (end : End) → IsLastEvent reached given start made n end → GoesTo e → e ≤ n
-  up_to_last e n end last first = ⊎_elim (λ past. absurd (none_some (ends_at n) end (first n past) last.ends)) (λ le. le) (cases_lt n e)
 
   -- what is printed up to event e is the front of what is printed up to a later one
   said_within : (n e : ℕ) → e ≤ n → (r : List ℕ) × (said_to reached given said start made n ≡ said_to reached given said start made e ++ r)
@@ -52,7 +46,7 @@ module _ {S : Type 0} (reached : Graph → ℕ → Bool) (given : Setting S) (sa
     -- so far only a prefix of it was taken
     pub say_now : SaysPrefix reached given said start made before now
     say_now n end last =
-        let ext = said_within n e (up_to_last e n end last first) in
+        let ext = said_within n e (up_to_last reached given start made e n end last first) in
         front_so_far before now (said_to reached given said start made e) _ ext.0 h.taken ext.1
 
     module _ (flush_visits : (ℕ → Bool) → S → ℕ) (old new : ℕ) (few : new ≤ old + visits_to reached given flush_visits start made e) where
@@ -113,7 +107,7 @@ module _ {S : Type 0} (reached : Graph → ℕ → Bool) (given : Setting S) (sa
       say_next : (now' : Log) → GoesTo (suc e) → SaysTurn reached given said e s bytes None → TakesPrefix now now' bytes → SaysPrefix reached given said start made before now'
       unfolding said_to
       say_next now' goes says t n end last =
-          let ext = said_within n (suc e) (up_to_last (suc e) n end last goes) in
+          let ext = said_within n (suc e) (up_to_last reached given start made (suc e) n end last goes) in
           front_on before now now' (said_to reached given said start made e) bytes _ ext.0 h.taken (ext.1 ∙ ap (λ o. (said_to reached given said start made e ++ o) ++ ext.0) (sym (turn_says says))) t
 
       say_last : (end : End) (now' : Log) → SaysTurn reached given said e s bytes (Some end) → TakesPrefix now now' bytes → SaysPrefix reached given said start made before now'

@@ -60,40 +60,43 @@ fn put_deaths<O: Sink>(
     Ok(())
 }
 
-/// A flush after event e, and its lines.
-fn report<G: Guest, O: Sink, L: Ledger>(
-    code: &G::Code,
+/// The flush after event e, where it is due. Its lines are gathered behind what is in the buffer, and put in pieces of 64 KiB.
+/// `Write` comes exactly where a put failed, and the sink counted one fault; after `Write` and after `NoMemory` the sink took a
+/// prefix of them all.
+pub fn settle<G: Guest, O: Sink, L: Ledger>(
+    program: &G::Code,
+    due: bool,
     e: u64,
-    machine: &mut G,
+    guest: &mut G,
     tracer: &mut Tracer<G::Room>,
     sink: &mut O,
     visits: &mut Steps<L>,
 ) -> Result<(), RunFault>
-    requires sound { G.is_sound code.now (G.state machine.old) }
-    requires stamps { HasStamps (G.graph_of (G.state machine.old)) tracer.old.stamps }
-    requires room { G.has_places tracer.old.room (G.graph_of (G.state machine.old)).made }
+    requires sound { G.is_sound program.now (G.state guest.old) }
+    requires stamps { HasStamps (G.graph_of (G.state guest.old)) tracer.old.stamps }
+    requires room { G.has_places tracer.old.room (G.graph_of (G.state guest.old)).made }
     ensures lines { OnOk result (PutsFlush
-        (G.graph_of (G.state machine.old)) tracer.old.stamps tracer.old.format true e
+        (G.graph_of (G.state guest.old)) tracer.old.stamps tracer.old.format due e
         (O.taken sink.old) (O.taken sink.new) tracer.old.buffer.items tracer.new.buffer.items) }
-    ensures err { (deaths : List (ℕ × ℕ)) → AreListed
-        (G.graph_of (G.state machine.old)) (slice_index tracer.old.stamps) deaths → OnErr result
-        (TakesPrefix (O.taken sink.old) (O.taken sink.new) (tracer.old.buffer.items
-        ++ lines_written_in tracer.old.format (flush_lines e deaths))) }
+    ensures err { (deaths : List (ℕ × ℕ)) → (due ≡ true →
+        AreListed (G.graph_of (G.state guest.old)) (slice_index tracer.old.stamps) deaths) →
+        OnErr result (TakesPrefix (O.taken sink.old) (O.taken sink.new) (tracer.old.buffer.items
+        ++ lines_written_in tracer.old.format (due_lines due (flush_lines e deaths)))) }
     ensures write { O.faults sink.new ≡ count_after (is_write_fault result) (O.faults sink.old) }
     ensures never_falls { O.faults sink.old ≤ O.faults sink.new }
-    ensures state { (here : ℕ → Bool) →
-        ((o : ℕ) → IsTrue (here o) ↔ IsReached (G.graph_of (G.state machine.old)) o) →
-        OnOk result (G.state machine.new ≡ G.flushed_of here (G.state machine.old)) }
+    ensures state { (here : ℕ → Bool) → ((o : ℕ) → IsTrue (here o)
+        ↔ IsReached (G.graph_of (G.state guest.old)) o) → OnOk result (G.state guest.new
+        ≡ due_state due (G.flushed_of here (G.state guest.old)) (G.state guest.old)) }
     ensures visits { (here : ℕ → Bool) →
-        ((o : ℕ) → IsTrue (here o) ↔ IsReached (G.graph_of (G.state machine.old)) o) →
-        visits.new ≤ visits.old + G.flush_visits_of here (G.state machine.old) }
+        ((o : ℕ) → IsTrue (here o) ↔ IsReached (G.graph_of (G.state guest.old)) o) →
+        visits.new ≤ visits.old + due_visits due (G.flush_visits_of here (G.state guest.old)) }
     ensures graph { OnOk result
-        (Settles true (G.graph_of (G.state machine.old)) (G.graph_of (G.state machine.new))) }
+        (Settles due (G.graph_of (G.state guest.old)) (G.graph_of (G.state guest.new))) }
     ensures clock { OnOk result
-        (G.clock_of (G.state machine.new) ≡ G.clock_of (G.state machine.old)) }
-    ensures sound { OnOk result (G.is_sound code.now (G.state machine.new)) }
+        (G.clock_of (G.state guest.new) ≡ G.clock_of (G.state guest.old)) }
+    ensures sound { OnOk result (G.is_sound program.now (G.state guest.new)) }
     ensures room { OnOk result
-        (G.has_places tracer.new.room (G.graph_of (G.state machine.new)).made) }
+        (G.has_places tracer.new.room (G.graph_of (G.state guest.new)).made) }
     ensures format { OnOk result (tracer.new.format ≡ tracer.old.format) }
     ensures stamps { OnOk result (tracer.new.stamps ≡ tracer.old.stamps) }
     ensures numbering { OnOk result (tracer.new.numbering ≡ tracer.old.numbering) }
@@ -101,7 +104,10 @@ fn report<G: Guest, O: Sink, L: Ledger>(
     ensures rota { OnOk result (tracer.new.rota ≡ tracer.old.rota) }
     ensures output { OnOk result (tracer.new.output ≡ tracer.old.output) }
 {
-    let Ok(()) = machine.flush(code, &tracer.stamps, &mut tracer.room, visits) else {
+    if !due {
+        return Ok(());
+    }
+    let Ok(()) = guest.flush(program, &tracer.stamps, &mut tracer.room, visits) else {
         return Err(RunFault::NoMemory);
     };
     put_deaths(
@@ -113,78 +119,28 @@ fn report<G: Guest, O: Sink, L: Ledger>(
     )
 }
 
-/// The flush after event e, where it is due. Its lines are gathered behind what is in the buffer, and put in pieces of 64 KiB.
-/// `Write` comes exactly where a put failed, and the sink counted one fault; after `Write` and after `NoMemory` the sink took a
-/// prefix of them all.
-pub fn settle<G: Guest, O: Sink, L: Ledger>(
-    code: &G::Code,
-    due: bool,
-    e: u64,
-    machine: &mut G,
-    tracer: &mut Tracer<G::Room>,
-    sink: &mut O,
-    visits: &mut Steps<L>,
-) -> Result<(), RunFault>
-    requires sound { G.is_sound code.now (G.state machine.old) }
-    requires stamps { HasStamps (G.graph_of (G.state machine.old)) tracer.old.stamps }
-    requires room { G.has_places tracer.old.room (G.graph_of (G.state machine.old)).made }
-    ensures lines { OnOk result (PutsFlush
-        (G.graph_of (G.state machine.old)) tracer.old.stamps tracer.old.format due e
-        (O.taken sink.old) (O.taken sink.new) tracer.old.buffer.items tracer.new.buffer.items) }
-    ensures err { (deaths : List (ℕ × ℕ)) → (due ≡ true →
-        AreListed (G.graph_of (G.state machine.old)) (slice_index tracer.old.stamps) deaths) →
-        OnErr result (TakesPrefix (O.taken sink.old) (O.taken sink.new) (tracer.old.buffer.items
-        ++ lines_written_in tracer.old.format (due_lines due (flush_lines e deaths)))) }
-    ensures write { O.faults sink.new ≡ count_after (is_write_fault result) (O.faults sink.old) }
-    ensures never_falls { O.faults sink.old ≤ O.faults sink.new }
-    ensures state { (here : ℕ → Bool) → ((o : ℕ) → IsTrue (here o)
-        ↔ IsReached (G.graph_of (G.state machine.old)) o) → OnOk result (G.state machine.new
-        ≡ due_state due (G.flushed_of here (G.state machine.old)) (G.state machine.old)) }
-    ensures visits { (here : ℕ → Bool) →
-        ((o : ℕ) → IsTrue (here o) ↔ IsReached (G.graph_of (G.state machine.old)) o) →
-        visits.new ≤ visits.old + due_visits due (G.flush_visits_of here (G.state machine.old)) }
-    ensures graph { OnOk result
-        (Settles due (G.graph_of (G.state machine.old)) (G.graph_of (G.state machine.new))) }
-    ensures clock { OnOk result
-        (G.clock_of (G.state machine.new) ≡ G.clock_of (G.state machine.old)) }
-    ensures sound { OnOk result (G.is_sound code.now (G.state machine.new)) }
-    ensures room { OnOk result
-        (G.has_places tracer.new.room (G.graph_of (G.state machine.new)).made) }
-    ensures format { OnOk result (tracer.new.format ≡ tracer.old.format) }
-    ensures stamps { OnOk result (tracer.new.stamps ≡ tracer.old.stamps) }
-    ensures numbering { OnOk result (tracer.new.numbering ≡ tracer.old.numbering) }
-    ensures next_flush { OnOk result (tracer.new.next_flush ≡ tracer.old.next_flush) }
-    ensures rota { OnOk result (tracer.new.rota ≡ tracer.old.rota) }
-    ensures output { OnOk result (tracer.new.output ≡ tracer.old.output) }
-{
-    if due {
-        report(code, e, machine, tracer, sink, visits)?;
-    }
-    Ok(())
-}
-
 /// What stands at the end: a last flush, unless there was one after the same event, and the Z line. They are put as `settle` puts
 /// lines.
 pub fn conclude<G: Guest, O: Sink, L: Ledger>(
-    code: &G::Code,
+    program: &G::Code,
     due: bool,
     ran: &Ran,
-    machine: &mut G,
+    guest: &mut G,
     tracer: &mut Tracer<G::Room>,
     sink: &mut O,
     visits: &mut Steps<L>,
 ) -> Result<(), RunFault>
-    requires sound { G.is_sound code.now (G.state machine.old) }
-    requires stamps { HasStamps (G.graph_of (G.state machine.old)) tracer.old.stamps }
-    requires room { G.has_places tracer.old.room (G.graph_of (G.state machine.old)).made }
+    requires sound { G.is_sound program.now (G.state guest.old) }
+    requires stamps { HasStamps (G.graph_of (G.state guest.old)) tracer.old.stamps }
+    requires room { G.has_places tracer.old.room (G.graph_of (G.state guest.old)).made }
     ensures visits { (here : ℕ → Bool) → (due ≡ false →
-        (o : ℕ) → IsTrue (here o) ↔ IsReached (G.graph_of (G.state machine.old)) o) →
-        visits.new ≤ visits.old + last_visits due (G.flush_visits_of here (G.state machine.old)) }
+        (o : ℕ) → IsTrue (here o) ↔ IsReached (G.graph_of (G.state guest.old)) o) →
+        visits.new ≤ visits.old + last_visits due (G.flush_visits_of here (G.state guest.old)) }
     ensures lines { OnOk result (PutsLast
-        (G.graph_of (G.state machine.old)) tracer.old.stamps tracer.old.format due ran.now
+        (G.graph_of (G.state guest.old)) tracer.old.stamps tracer.old.format due ran.now
         (O.taken sink.old) (O.taken sink.new) tracer.old.buffer.items tracer.new.buffer.items) }
     ensures err { (deaths : List (ℕ × ℕ)) → (due ≡ false →
-        AreListed (G.graph_of (G.state machine.old)) (slice_index tracer.old.stamps) deaths) →
+        AreListed (G.graph_of (G.state guest.old)) (slice_index tracer.old.stamps) deaths) →
         OnErr result (TakesPrefix (O.taken sink.old) (O.taken sink.new)
         (tracer.old.buffer.items ++ lines_written_in tracer.old.format
         (last_lines due ran.now.end ran.now.event (flush_lines ran.now.event deaths)))) }
@@ -192,7 +148,7 @@ pub fn conclude<G: Guest, O: Sink, L: Ledger>(
     ensures never_falls { O.faults sink.old ≤ O.faults sink.new }
     ensures output { OnOk result (tracer.new.output ≡ tracer.old.output) }
 {
-    settle(code, !due, ran.event, machine, tracer, sink, visits)?;
+    settle(program, !due, ran.event, guest, tracer, sink, visits)?;
     let line = TraceLine::Finish {
         event: ran.event,
         how: ended_as(&ran.end),

@@ -111,12 +111,12 @@ pub trait Guest {
     /// listed, the machine may only be dropped. Whatever it answers, it visits no more objects than such a flush does.
     fn flush<L: Ledger>(
         &mut self,
-        code: &Self::Code,
+        program: &Self::Code,
         stamps: &Stamps,
         room: &mut Self::Room,
         visits: &mut Steps<L>,
     ) -> Result<(), NoMemory>
-        requires sound { is_sound code.now (state self.old) }
+        requires sound { is_sound program.now (state self.old) }
         requires stamps { (graph_of (state self.old)).made < length stamps.now }
         requires room { has_places room.old (graph_of (state self.old)).made }
         ensures deaths { OnOk result
@@ -131,7 +131,7 @@ pub trait Guest {
         ensures graph { OnOk result
             (IsClearedAndTied (graph_of (state self.old)) (graph_of (state self.new))) }
         ensures clock { OnOk result (clock_of (state self.new) ≡ clock_of (state self.old)) }
-        ensures sound { OnOk result (is_sound code.now (state self.new)) };
+        ensures sound { OnOk result (is_sound program.now (state self.new)) };
 
     /// Does events of the thread at a place among those that have not ended: any number of quiet ones, which have no records,
     /// print nothing, make no object, begin no thread and end none; and then one more, whatever it is. What the quiet ones lost
@@ -141,7 +141,7 @@ pub trait Guest {
     fn events<L: Ledger>(
         &mut self,
         alloc: Global,
-        code: &Self::Code,
+        program: &Self::Code,
         slice: TimeSlice,
         out: &mut Output,
         stamps: &mut Stamps,
@@ -149,21 +149,22 @@ pub trait Guest {
     ) -> Result<Stretch, NoMemory>
         requires clock { clock_of (state self.old) + slice.events ≤ 2 ^ 40 }
         requires some { 0 < slice.events }
-        requires sound { is_sound code.now (state self.old) }
+        requires sound { is_sound program.now (state self.old) }
         requires place { slice.place < length (unended_of (state self.old)) }
         requires made { AreMade (graph_of (state self.old)) }
         requires stamps { HasStamps (graph_of (state self.old)) stamps.old }
         requires empty { out.old.records ≡ [] }
         requires unsaid { out.old.said.items ≡ [] }
-        ensures stretch { IfOk result (λ stretch. IsStretch (event_of code.now) (said_of code.now)
-            unended_of graph_of slice.place slice.events (clock_of (state self.old))
+        ensures stretch { IfOk result (λ stretch. IsStretch
+            (event_of program.now) (said_of program.now) unended_of graph_of
+            slice.place slice.events (clock_of (state self.old))
             (state self.old) stamps.old stamps.new visits.old visits.new (state self.new)
             out.new.records out.new.said.items (lost_of self.new) stretch) }
-        ensures broken { OnErr result (IsBrokenOff (event_of code.now) (said_of code.now)
+        ensures broken { OnErr result (IsBrokenOff (event_of program.now) (said_of program.now)
             unended_of graph_of slice.place slice.events (clock_of (state self.old))
             (state self.old) stamps.old stamps.new visits.old visits.new) }
-        ensures sound { OnOk result (is_sound code.now (state self.new)) }
+        ensures sound { OnOk result (is_sound program.now (state self.new)) }
         ensures clock { IfOk result (λ stretch. TicksWhereDone stretch.end
             (clock_of (state self.old) + stretch.quiet) (clock_of (state self.new))) }
-        ensures named { OnOk result (All (IsNamed (Self.Code.names code.now)) out.new.records) };
+        ensures named { OnOk result (All (IsNamed (Self.Code.names program.now)) out.new.records) };
 }

@@ -20,4 +20,4 @@ pub use et_state::{Options, Output, Schedule};
 pub use guest::{Guest, Stretch, TimeSlice};
 pub use options::Ran;
 pub use program::Program;
-pub use run::run_guest;
+pub use run::{Started, run_guest};

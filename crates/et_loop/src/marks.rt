@@ -46,26 +46,26 @@ fn make_places<G: Guest>(
 /// with its own number. There were so many objects before it, and they had places. All have places afterwards: they are
 /// made only where the event made an object.
 pub fn restamp<G: Guest>(
-    machine: &G,
+    guest: &G,
     e: u64,
     before: u32,
     stamps: &mut Stamps,
     room: &mut G::Room,
 ) -> Result<(), NoMemory>
     requires clock { e < 2 ^ 40 }
-    requires more { before ≤ (G.graph_of (G.state machine.now)).made }
+    requires more { before ≤ (G.graph_of (G.state guest.now)).made }
     requires lost { (o : ℕ) →
-        Contains (G.lost_of machine.now) o → o ≤ (G.graph_of (G.state machine.now)).made }
+        Contains (G.lost_of guest.now) o → o ≤ (G.graph_of (G.state guest.now)).made }
     requires stamps { before < length stamps.old }
     requires room { G.has_places room.old before }
-    ensures stamps { OnOk result (Restamps e before (G.graph_of (G.state machine.now)).made
-        (G.lost_of machine.now) (slice_index stamps.old) (slice_index stamps.new)) }
-    ensures places { OnOk result (HasStamps (G.graph_of (G.state machine.now)) stamps.new) }
-    ensures room { OnOk result (G.has_places room.new (G.graph_of (G.state machine.now)).made) }
+    ensures stamps { OnOk result (Restamps e before (G.graph_of (G.state guest.now)).made
+        (G.lost_of guest.now) (slice_index stamps.old) (slice_index stamps.new)) }
+    ensures places { OnOk result (HasStamps (G.graph_of (G.state guest.now)) stamps.new) }
+    ensures room { OnOk result (G.has_places room.new (G.graph_of (G.state guest.now)).made) }
 {
-    let made = machine.made();
+    let made = guest.made();
     make_places::<G>(before, made, stamps, room)?;
-    stamp_each(stamps, machine.lost(), e);
+    stamp_each(stamps, guest.lost(), e);
     stamp_new(stamps, before, made, e + 1);
     Ok(())
 }

@@ -33,16 +33,16 @@ impl Model for Numbering {
 fn write_class<P: Program>(
     alloc: Global,
     format: Format,
-    code: &P,
+    program: &P,
     class: ClassId,
     number: u32,
     buffer: &mut Vec<u8>,
 ) -> Result<(), NoMemory>
-    requires { class < (P.names code.now).class_count }
+    requires { class < (P.names program.now).class_count }
     ensures { OnOk result (buffer.new.items ≡ buffer.old.items
-        ++ written_in format (Class number ((P.names code.now).class_name class))) }
+        ++ written_in format (Class number ((P.names program.now).class_name class))) }
 {
-    let name = Name::of(alloc, code.class_name(class))?;
+    let name = Name::of(alloc, program.class_name(class))?;
     write_line_in(format, &TraceLine::Class { number, name }, buffer)
 }
 
@@ -50,19 +50,19 @@ fn write_class<P: Program>(
 fn write_method<P: Program>(
     alloc: Global,
     format: Format,
-    code: &P,
+    program: &P,
     method: MethodId,
     number: u32,
     class: u32,
     buffer: &mut Vec<u8>,
 ) -> Result<(), NoMemory>
-    requires { method < (P.names code.now).method_count }
+    requires { method < (P.names program.now).method_count }
     ensures { OnOk result (buffer.new.items ≡ buffer.old.items
-        ++ written_in format (Method number class ((P.names code.now).method_name method)
-        ((P.names code.now).method_descriptor method))) }
+        ++ written_in format (Method number class ((P.names program.now).method_name method)
+        ((P.names program.now).method_descriptor method))) }
 {
-    let name = Name::of(alloc, code.method_name(method))?;
-    let descriptor = Name::of(alloc, code.method_descriptor(method))?;
+    let name = Name::of(alloc, program.method_name(method))?;
+    let descriptor = Name::of(alloc, program.method_descriptor(method))?;
     let line = TraceLine::Method {
         number,
         class,
@@ -88,23 +88,23 @@ impl Numbering {
     fn mention_class<P: Program>(
         &mut self,
         format: Format,
-        code: &P,
+        program: &P,
         class: ClassId,
         buffer: &mut Vec<u8>,
     ) -> Result<u32, NoMemory>
-        requires { class < (P.names code.now).class_count }
+        requires { class < (P.names program.now).class_count }
         ensures number { IfOk result (λ n. n ≡ number_in self.new.classes class) }
         ensures mentions { OnOk result
             (self.new ≡ record self.old { classes = with_new self.old.classes class }) }
         ensures lines { OnOk result (buffer.new.items
             ≡ buffer.old.items
-            ++ lines_written_in format (class_line (P.names code.now) self.old.classes class)) }
+            ++ lines_written_in format (class_line (P.names program.now) self.old.classes class)) }
     {
         if let Some(number) = self.classes.number(class.number()) {
             return Ok(number);
         }
         let number = self.classes.add(class.number())?;
-        write_class(self.alloc, format, code, class, number, buffer)?;
+        write_class(self.alloc, format, program, class, number, buffer)?;
         Ok(number)
     }
 
@@ -113,26 +113,27 @@ impl Numbering {
     fn mention_method<P: Program>(
         &mut self,
         format: Format,
-        code: &P,
+        program: &P,
         method: MethodId,
         buffer: &mut Vec<u8>,
     ) -> Result<u32, NoMemory>
-        requires method { method < (P.names code.now).method_count }
-        requires class { (P.names code.now).method_class method < (P.names code.now).class_count }
-        requires classes { HasClasses (P.names code.now) self.old }
+        requires method { method < (P.names program.now).method_count }
+        requires class { (P.names program.now).method_class method
+            < (P.names program.now).class_count }
+        requires classes { HasClasses (P.names program.now) self.old }
         ensures number { IfOk result (λ n. n ≡ number_in self.new.methods method) }
         ensures mentions { OnOk result
-            (self.new ≡ mentions_method (P.names code.now) self.old method) }
+            (self.new ≡ mentions_method (P.names program.now) self.old method) }
         ensures lines { OnOk result (buffer.new.items
             ≡ buffer.old.items
-            ++ lines_written_in format (method_lines (P.names code.now) self.old method)) }
+            ++ lines_written_in format (method_lines (P.names program.now) self.old method)) }
     {
         if let Some(number) = self.methods.number(method.number()) {
             return Ok(number);
         }
-        let class = self.mention_class(format, code, code.method_class(method), buffer)?;
+        let class = self.mention_class(format, program, program.method_class(method), buffer)?;
         let number = self.methods.add(method.number())?;
-        write_method(self.alloc, format, code, method, number, class, buffer)?;
+        write_method(self.alloc, format, program, method, number, class, buffer)?;
         Ok(number)
     }
 
@@ -141,18 +142,18 @@ impl Numbering {
     fn write_passage<P: Program>(
         &mut self,
         format: Format,
-        code: &P,
+        program: &P,
         entry: Record,
         buffer: &mut Vec<u8>,
     ) -> Result<(), NoMemory>
-        requires named { IsNamed (P.names code.now) entry }
+        requires named { IsNamed (P.names program.now) entry }
         requires method { length (methods_named_by entry) ≡ 1 }
-        requires classes { HasClasses (P.names code.now) self.old }
+        requires classes { HasClasses (P.names program.now) self.old }
         ensures mentions { OnOk result
-            (self.new ≡ with_mentions (P.names code.now) self.old entry) }
+            (self.new ≡ with_mentions (P.names program.now) self.old entry) }
         ensures lines { OnOk result (buffer.new.items
             ≡ buffer.old.items
-            ++ lines_written_in format (record_lines (P.names code.now) self.old entry)) }
+            ++ lines_written_in format (record_lines (P.names program.now) self.old entry)) }
     {
         let line = match entry {
             Record::Enter {
@@ -163,7 +164,7 @@ impl Numbering {
             } => TraceLine::Enter {
                 event,
                 thread,
-                method: self.mention_method(format, code, method, buffer)?,
+                method: self.mention_method(format, program, method, buffer)?,
                 receiver,
             },
             Record::Exit {
@@ -173,7 +174,7 @@ impl Numbering {
             } => TraceLine::Exit {
                 event,
                 thread,
-                method: self.mention_method(format, code, method, buffer)?,
+                method: self.mention_method(format, program, method, buffer)?,
             },
             Record::Unwind {
                 event,
@@ -183,7 +184,7 @@ impl Numbering {
             } => TraceLine::Unwind {
                 event,
                 thread,
-                method: self.mention_method(format, code, method, buffer)?,
+                method: self.mention_method(format, program, method, buffer)?,
                 exception,
             },
             Record::Alloc { .. } | Record::Update { .. } => unreachable!(),
@@ -196,17 +197,17 @@ impl Numbering {
     fn write_record<P: Program>(
         &mut self,
         format: Format,
-        code: &P,
+        program: &P,
         entry: Record,
         buffer: &mut Vec<u8>,
     ) -> Result<(), NoMemory>
-        requires named { IsNamed (P.names code.now) entry }
-        requires classes { HasClasses (P.names code.now) self.old }
+        requires named { IsNamed (P.names program.now) entry }
+        requires classes { HasClasses (P.names program.now) self.old }
         ensures mentions { OnOk result
-            (self.new ≡ with_mentions (P.names code.now) self.old entry) }
+            (self.new ≡ with_mentions (P.names program.now) self.old entry) }
         ensures lines { OnOk result (buffer.new.items
             ≡ buffer.old.items
-            ++ lines_written_in format (record_lines (P.names code.now) self.old entry)) }
+            ++ lines_written_in format (record_lines (P.names program.now) self.old entry)) }
     {
         let line = match entry {
             Record::Alloc {
@@ -220,7 +221,7 @@ impl Numbering {
                 event,
                 thread,
                 object,
-                class: self.mention_class(format, code, class, buffer)?,
+                class: self.mention_class(format, program, class, buffer)?,
                 size,
                 length,
             },
@@ -239,7 +240,7 @@ impl Numbering {
                 old,
                 new,
             },
-            _ => return self.write_passage(format, code, entry, buffer),
+            _ => return self.write_passage(format, program, entry, buffer),
         };
         write_line_in(format, &line, buffer)
     }
@@ -249,21 +250,21 @@ impl Numbering {
     pub fn write_records<P: Program>(
         &mut self,
         format: Format,
-        code: &P,
+        program: &P,
         records: &[Record],
         buffer: &mut Vec<u8>,
     ) -> Result<(), NoMemory>
-        requires named { All (IsNamed (P.names code.now)) records.now }
-        requires classes { HasClasses (P.names code.now) self.old }
-        ensures classes { OnOk result (HasClasses (P.names code.now) self.new) }
+        requires named { All (IsNamed (P.names program.now)) records.now }
+        requires classes { HasClasses (P.names program.now) self.old }
+        ensures classes { OnOk result (HasClasses (P.names program.now) self.new) }
         ensures mentions { OnOk result
-            (self.new ≡ mentions_after (P.names code.now) self.old records.now) }
+            (self.new ≡ mentions_after (P.names program.now) self.old records.now) }
         ensures lines { OnOk result (buffer.new.items
             ≡ buffer.old.items
-            ++ lines_written_in format (lines_of (P.names code.now) self.old records.now)) }
+            ++ lines_written_in format (lines_of (P.names program.now) self.old records.now)) }
     {
         'records: for entry in records {
-            self.write_record(format, code, *entry, buffer)?;
+            self.write_record(format, program, *entry, buffer)?;
         }
         Ok(())
     }

@@ -7,7 +7,7 @@ ghost use Rattle.et_state.specs.History.{is_flush_point};
 ghost use Rattle.et_state.specs.Options.{AreOptions};
 ghost use Rattle.et_text.specs.Ranges.{header_version};
 ghost use Rattle.et_binary.specs.Formats.{lines_written_in};
-ghost use Rattle.et_loop.specs.Options.{setting_of};
+ghost use Rattle.et_loop.specs.Options.{guest_setting};
 ghost use Rattle.et_loop.specs.Naming.{HasClasses};
 ghost use Rattle.et_loop.specs.Pace.{IsNextFlush, IsRota};
 ghost use Rattle.et_loop.specs.Quiet.{IsStep, IsBrokenStep, IsTurn, IsBrokenTurn};
@@ -31,7 +31,7 @@ use et_state::{EventEnd, Lines, Options, Output};
 use std::alloc::Global;
 use std::sync::ledger::Ledger;
 
-/// What a run keeps beside its machine. R is the room in which its flushes work.
+/// What a run keeps beside its guest. R is the room in which its flushes work.
 #[derive(Drop)]
 pub struct Tracer<R: Drop> {
     /// Where its lists are.
@@ -77,33 +77,33 @@ fn end_after(thread: ThreadId, end: EventEnd) -> Option<End>
 /// Writes the lines of the newest event, which is the one after event e, and stamps what it lost and made. There were so many
 /// objects before it, and they had places.
 fn tell<G: Guest>(
-    code: &G::Code,
+    program: &G::Code,
     format: Format,
     e: u64,
     before: u32,
-    machine: &G,
+    guest: &G,
     tracer: &mut Tracer<G::Room>,
 ) -> Result<(), NoMemory>
-    requires named { All (IsNamed (G.Code.names code.now)) tracer.old.output.records }
-    requires classes { HasClasses (G.Code.names code.now) tracer.old.numbering }
+    requires named { All (IsNamed (G.Code.names program.now)) tracer.old.output.records }
+    requires classes { HasClasses (G.Code.names program.now) tracer.old.numbering }
     requires clock { e < 2 ^ 40 }
-    requires more { before ≤ (G.graph_of (G.state machine.now)).made }
+    requires more { before ≤ (G.graph_of (G.state guest.now)).made }
     requires lost { (o : ℕ) →
-        Contains (G.lost_of machine.now) o → o ≤ (G.graph_of (G.state machine.now)).made }
+        Contains (G.lost_of guest.now) o → o ≤ (G.graph_of (G.state guest.now)).made }
     requires stamps { before < length tracer.old.stamps }
     requires room { G.has_places tracer.old.room before }
-    ensures mentions { OnOk result (tracer.new.numbering ≡ mentions_after (G.Code.names code.now)
+    ensures mentions { OnOk result (tracer.new.numbering ≡ mentions_after (G.Code.names program.now)
         tracer.old.numbering tracer.old.output.records) }
     ensures lines { OnOk result (tracer.new.buffer.items
-        ≡ tracer.old.buffer.items ++ lines_written_in format (lines_of (G.Code.names code.now)
+        ≡ tracer.old.buffer.items ++ lines_written_in format (lines_of (G.Code.names program.now)
         tracer.old.numbering tracer.old.output.records)) }
-    ensures classes { OnOk result (HasClasses (G.Code.names code.now) tracer.new.numbering) }
-    ensures stamps { OnOk result (Restamps e before (G.graph_of (G.state machine.now)).made
-        (G.lost_of machine.now) (slice_index tracer.old.stamps) (slice_index tracer.new.stamps)) }
+    ensures classes { OnOk result (HasClasses (G.Code.names program.now) tracer.new.numbering) }
+    ensures stamps { OnOk result (Restamps e before (G.graph_of (G.state guest.now)).made
+        (G.lost_of guest.now) (slice_index tracer.old.stamps) (slice_index tracer.new.stamps)) }
     ensures places { OnOk result
-        (HasStamps (G.graph_of (G.state machine.now)) tracer.new.stamps) }
+        (HasStamps (G.graph_of (G.state guest.now)) tracer.new.stamps) }
     ensures room { OnOk result
-        (G.has_places tracer.new.room (G.graph_of (G.state machine.now)).made) }
+        (G.has_places tracer.new.room (G.graph_of (G.state guest.now)).made) }
     ensures format { tracer.new.format ≡ tracer.old.format }
     ensures next_flush { tracer.new.next_flush ≡ tracer.old.next_flush }
     ensures rota { tracer.new.rota ≡ tracer.old.rota }
@@ -111,62 +111,62 @@ fn tell<G: Guest>(
 {
     tracer.numbering.write_records(
         format,
-        code,
+        program,
         tracer.output.records.records(),
         &mut tracer.buffer,
     )?;
-    restamp(machine, e, before, &mut tracer.stamps, &mut tracer.room)
+    restamp(guest, e, before, &mut tracer.stamps, &mut tracer.room)
 }
 
 /// The events that one thread may do at once after event e, or how the history ends. Whatever it answers, it visits objects
 /// eight times at most for each event, and once for each that the last one makes.
 fn step<G: Guest, L: Ledger>(
-    code: &G::Code,
+    program: &G::Code,
     options: &Options,
     e: u64,
     due: bool,
-    machine: &mut G,
+    guest: &mut G,
     tracer: &mut Tracer<G::Room>,
     visits: &mut Steps<L>,
 ) -> Result<Progress, NoMemory>
     requires options { AreOptions options.now }
     requires limit { e ≤ options.now.limit }
-    requires clock { G.clock_of (G.state machine.old) ≡ e }
-    requires sound { G.is_sound code.now (G.state machine.old) }
-    requires made { AreMade (G.graph_of (G.state machine.old)) }
-    requires stamps { HasStamps (G.graph_of (G.state machine.old)) tracer.old.stamps }
-    requires room { G.has_places tracer.old.room (G.graph_of (G.state machine.old)).made }
-    requires classes { HasClasses (G.Code.names code.now) tracer.old.numbering }
+    requires clock { G.clock_of (G.state guest.old) ≡ e }
+    requires sound { G.is_sound program.now (G.state guest.old) }
+    requires made { AreMade (G.graph_of (G.state guest.old)) }
+    requires stamps { HasStamps (G.graph_of (G.state guest.old)) tracer.old.stamps }
+    requires room { G.has_places tracer.old.room (G.graph_of (G.state guest.old)).made }
+    requires classes { HasClasses (G.Code.names program.now) tracer.old.numbering }
     requires format { tracer.old.format ≡ options.now.format }
     requires due { due ≡ is_flush_point options.now.interval e }
     requires next_flush { IsNextFlush options.now.interval (e + 1) tracer.old.next_flush.event }
     requires rota { IsRota options.now.schedule e tracer.old.rota }
-    ensures step { IfOk result (λ progress. IsStep (setting_of (G.event_of code.now) G.unended_of
-        G.graph_of G.flushed_of (G.Code.names code.now) options.now) (G.said_of code.now)
-        e (G.state machine.old) tracer.old.stamps visits.old visits.new tracer.old.numbering
-        (G.state machine.new) tracer.new.numbering tracer.old.buffer.items tracer.new.buffer.items
+    ensures step { IfOk result (λ progress. IsStep
+        (guest_setting G.Guest G.Code.Program program.now options.now) (G.said_of program.now)
+        e (G.state guest.old) tracer.old.stamps visits.old visits.new tracer.old.numbering
+        (G.state guest.new) tracer.new.numbering tracer.old.buffer.items tracer.new.buffer.items
         tracer.new.output.said.items tracer.new.stamps progress) }
-    ensures broken { OnErr result (IsBrokenStep (setting_of (G.event_of code.now) G.unended_of
-        G.graph_of G.flushed_of (G.Code.names code.now) options.now) (G.said_of code.now)
-        e (G.state machine.old) tracer.old.stamps visits.old visits.new) }
-    ensures stamps { OnOk result (HasStamps (G.graph_of (G.state machine.new)) tracer.new.stamps) }
+    ensures broken { OnErr result (IsBrokenStep
+        (guest_setting G.Guest G.Code.Program program.now options.now) (G.said_of program.now)
+        e (G.state guest.old) tracer.old.stamps visits.old visits.new) }
+    ensures stamps { OnOk result (HasStamps (G.graph_of (G.state guest.new)) tracer.new.stamps) }
     ensures room { OnOk result
-        (G.has_places tracer.new.room (G.graph_of (G.state machine.new)).made) }
-    ensures classes { OnOk result (HasClasses (G.Code.names code.now) tracer.new.numbering) }
+        (G.has_places tracer.new.room (G.graph_of (G.state guest.new)).made) }
+    ensures classes { OnOk result (HasClasses (G.Code.names program.now) tracer.new.numbering) }
     ensures format { OnOk result (tracer.new.format ≡ options.now.format) }
-    ensures sound { OnOk result (G.is_sound code.now (G.state machine.new)) }
+    ensures sound { OnOk result (G.is_sound program.now (G.state guest.new)) }
     ensures within { IfOk result (λ progress. e + progress.quiet ≤ options.now.limit) }
     ensures limit { IfOk result
         (λ progress. IfNone progress.end (e + progress.quiet < options.now.limit)) }
     ensures clock { IfOk result (λ progress. IfNone progress.end
-        (G.clock_of (G.state machine.new) ≡ e + progress.quiet + 1)) }
+        (G.clock_of (G.state guest.new) ≡ e + progress.quiet + 1)) }
     ensures next_flush { IfOk result (λ progress. IfNone progress.end
         (IsNextFlush options.now.interval (e + progress.quiet + 1) tracer.new.next_flush.event)) }
     ensures rota { IfOk result (λ progress. IfNone progress.end
         (IsRota options.now.schedule (e + progress.quiet + 1) tracer.new.rota)) }
 {
     tracer.output.clear();
-    let count = machine.unended();
+    let count = guest.unended();
     if count == 0 {
         return Ok(Progress {
             quiet: 0,
@@ -180,11 +180,11 @@ fn step<G: Guest, L: Ledger>(
         });
     }
     let slice = next_slice(options, e, due, count, &tracer.next_flush, &mut tracer.rota);
-    let thread = machine.unended_at(slice.place);
-    let before = machine.made();
-    let stretch = machine.events(
+    let thread = guest.unended_at(slice.place);
+    let before = guest.made();
+    let stretch = guest.events(
         tracer.alloc,
-        code,
+        program,
         slice,
         &mut tracer.output,
         &mut tracer.stamps,
@@ -193,7 +193,7 @@ fn step<G: Guest, L: Ledger>(
     let quiet = stretch.quiet;
     match end_after(thread, stretch.end) {
         None => {
-            tell(code, options.format, e + quiet, before, machine, tracer)?;
+            tell(program, options.format, e + quiet, before, guest, tracer)?;
             Ok(Progress { quiet, end: None })
         }
         Some(end) => Ok(Progress {
@@ -207,24 +207,24 @@ impl<R: Drop> Tracer<R> {
     /// Begins with the H line and the records of the starting state, and with a place for each of so many objects.
     pub fn begin<P: Program>(
         alloc: Global,
-        code: &P,
+        program: &P,
         options: &Options,
         made: &Lines,
         objects: u32,
         room: R,
     ) -> Result<Tracer<R>, NoMemory>
-        requires named { All (IsNamed (P.names code.now)) made.now }
+        requires named { All (IsNamed (P.names program.now)) made.now }
         requires options { AreOptions options.now }
         ensures stamps { IfOk result (λ t. (o : ℕ) → slice_index t.stamps o ≡ 0) }
         ensures places { IfOk result (λ t. objects < length t.stamps) }
         ensures room { IfOk result (λ t. t.room ≡ room) }
         ensures mentions { IfOk result
-            (λ t. t.numbering ≡ mentions_after (P.names code.now) nothing_mentioned made.now) }
-        ensures classes { IfOk result (λ t. HasClasses (P.names code.now) t.numbering) }
+            (λ t. t.numbering ≡ mentions_after (P.names program.now) nothing_mentioned made.now) }
+        ensures classes { IfOk result (λ t. HasClasses (P.names program.now) t.numbering) }
         ensures format { IfOk result (λ t. t.format ≡ options.now.format) }
         ensures lines { IfOk result (λ t. t.buffer.items ≡ lines_written_in options.now.format
             (Header (header_version options.now.format) options.now.interval
-            ∷ lines_of (P.names code.now) nothing_mentioned made.now)) }
+            ∷ lines_of (P.names program.now) nothing_mentioned made.now)) }
         ensures next_flush { IfOk result
             (λ t. IsNextFlush options.now.interval 0 t.next_flush.event) }
         ensures rota { IfOk result (λ t. IsRota options.now.schedule 0 t.rota) }
@@ -237,7 +237,7 @@ impl<R: Drop> Tracer<R> {
         };
         write_line_in(format, &line, &mut buffer)?;
         let mut numbering = Numbering::begin(alloc);
-        numbering.write_records(format, code, made.records(), &mut buffer)?;
+        numbering.write_records(format, program, made.records(), &mut buffer)?;
         let mut stamps = Stamps::begin(alloc);
         stamps.grow(objects)?;
         Ok(Tracer {
@@ -259,60 +259,60 @@ impl<R: Drop> Tracer<R> {
 /// buffer with the other lines of the turn. `Write` comes exactly where a put failed, and the sink counted one fault. After it
 /// and after `NoMemory` the sink took a prefix of the lines, and no more visits of objects were made than the turn may.
 pub fn turn<G: Guest, O: Sink, L: Ledger>(
-    code: &G::Code,
+    program: &G::Code,
     options: &Options,
     e: u64,
-    machine: &mut G,
+    guest: &mut G,
     tracer: &mut Tracer<G::Room>,
     sink: &mut O,
     visits: &mut Steps<L>,
 ) -> Result<Progress, RunFault>
     requires options { AreOptions options.now }
     requires limit { e ≤ options.now.limit }
-    requires clock { G.clock_of (G.state machine.old) ≡ e }
-    requires sound { G.is_sound code.now (G.state machine.old) }
-    requires made { AreMade (G.graph_of (G.state machine.old)) }
-    requires stamps { HasStamps (G.graph_of (G.state machine.old)) tracer.old.stamps }
-    requires room { G.has_places tracer.old.room (G.graph_of (G.state machine.old)).made }
-    requires classes { HasClasses (G.Code.names code.now) tracer.old.numbering }
+    requires clock { G.clock_of (G.state guest.old) ≡ e }
+    requires sound { G.is_sound program.now (G.state guest.old) }
+    requires made { AreMade (G.graph_of (G.state guest.old)) }
+    requires stamps { HasStamps (G.graph_of (G.state guest.old)) tracer.old.stamps }
+    requires room { G.has_places tracer.old.room (G.graph_of (G.state guest.old)).made }
+    requires classes { HasClasses (G.Code.names program.now) tracer.old.numbering }
     requires format { tracer.old.format ≡ options.now.format }
     requires next_flush { IsNextFlush options.now.interval e tracer.old.next_flush.event }
     requires rota { IsRota options.now.schedule e tracer.old.rota }
-    ensures turn { IfOk result (λ progress. IsTurn (setting_of (G.event_of code.now) G.unended_of
-        G.graph_of G.flushed_of (G.Code.names code.now) options.now) (G.said_of code.now)
-        e (G.state machine.old) tracer.old.stamps visits.old visits.new G.flush_visits_of
-        tracer.old.numbering (G.state machine.new) tracer.new.numbering
+    ensures turn { IfOk result (λ progress. IsTurn
+        (guest_setting G.Guest G.Code.Program program.now options.now) (G.said_of program.now)
+        e (G.state guest.old) tracer.old.stamps visits.old visits.new G.flush_visits_of
+        tracer.old.numbering (G.state guest.new) tracer.new.numbering
         (O.taken sink.old) (O.taken sink.new) tracer.old.buffer.items tracer.new.buffer.items
         tracer.new.output.said.items tracer.new.stamps progress) }
-    ensures broken { OnErr result (IsBrokenTurn (setting_of (G.event_of code.now) G.unended_of
-        G.graph_of G.flushed_of (G.Code.names code.now) options.now) (G.said_of code.now)
-        e (G.state machine.old) tracer.old.stamps visits.old visits.new G.flush_visits_of
+    ensures broken { OnErr result (IsBrokenTurn
+        (guest_setting G.Guest G.Code.Program program.now options.now) (G.said_of program.now)
+        e (G.state guest.old) tracer.old.stamps visits.old visits.new G.flush_visits_of
         (O.taken sink.old) (O.taken sink.new) tracer.old.buffer.items) }
     ensures write { O.faults sink.new ≡ count_after (is_write_fault result) (O.faults sink.old) }
     ensures never_falls { O.faults sink.old ≤ O.faults sink.new }
     ensures stamps { IfOk result (λ progress. IfNone progress.end
-        (HasStamps (G.graph_of (G.state machine.new)) tracer.new.stamps)) }
+        (HasStamps (G.graph_of (G.state guest.new)) tracer.new.stamps)) }
     ensures room { IfOk result (λ progress. IfNone progress.end
-        (G.has_places tracer.new.room (G.graph_of (G.state machine.new)).made)) }
+        (G.has_places tracer.new.room (G.graph_of (G.state guest.new)).made)) }
     ensures classes { IfOk result (λ progress. IfNone progress.end
-        (HasClasses (G.Code.names code.now) tracer.new.numbering)) }
+        (HasClasses (G.Code.names program.now) tracer.new.numbering)) }
     ensures format { IfOk result (λ progress. IfNone progress.end
         (tracer.new.format ≡ options.now.format)) }
     ensures sound { IfOk result (λ progress. IfNone progress.end
-        (G.is_sound code.now (G.state machine.new))) }
+        (G.is_sound program.now (G.state guest.new))) }
     ensures within { IfOk result (λ progress. e + progress.quiet ≤ options.now.limit) }
     ensures limit { IfOk result
         (λ progress. IfNone progress.end (e + progress.quiet < options.now.limit)) }
     ensures clock { IfOk result (λ progress. IfNone progress.end
-        (G.clock_of (G.state machine.new) ≡ e + progress.quiet + 1)) }
+        (G.clock_of (G.state guest.new) ≡ e + progress.quiet + 1)) }
     ensures next_flush { IfOk result (λ progress. IfNone progress.end
         (IsNextFlush options.now.interval (e + progress.quiet + 1) tracer.new.next_flush.event)) }
     ensures rota { IfOk result (λ progress. IfNone progress.end
         (IsRota options.now.schedule (e + progress.quiet + 1) tracer.new.rota)) }
 {
     let due = tracer.next_flush.pass(options.interval, e);
-    settle(code, due, e, machine, tracer, sink, visits)?;
-    let Ok(progress) = step(code, options, e, due, machine, tracer, visits) else {
+    settle(program, due, e, guest, tracer, sink, visits)?;
+    let Ok(progress) = step(program, options, e, due, guest, tracer, visits) else {
         return Err(RunFault::NoMemory);
     };
     let event = e + progress.quiet;
@@ -321,7 +321,7 @@ pub fn turn<G: Guest, O: Sink, L: Ledger>(
         None => Ok(progress),
         Some(end) => {
             let ran = Ran { end, event };
-            conclude(code, due, &ran, machine, tracer, sink, visits)?;
+            conclude(program, due, &ran, guest, tracer, sink, visits)?;
             Ok(progress)
         }
     }

@@ -14,6 +14,8 @@ use Rattle.et_program.specs.Tables.{IsTabled}
 use Rattle.et_program.specs.declared.info.MethodInfo.{MethodInfo}
 use Rattle.et_program.proofs.PlaceLemmas.{position_within}
 use Rattle.et_state.specs.Roots.{graph_of}
+use Rattle.et_state.specs.State.{Kept}
+use Rattle.et_state.specs.declared.records.Record.{Record}
 use Rattle.et_state.specs.declared.records.Record.TheVariants.{Alloc}
 use Rattle.et_state.specs.Naming.{IsNamed}
 use Rattle.et_state.specs.Start.{argument_class, start}
@@ -71,3 +73,8 @@ records_named p tabled =
     let lt : argument_class p < length p.classes = or_first (class_named p (codes "[Ljava/lang/String;")) (length p.classes) some (position_within (λ (c : ClassEntry). bytes_eq (codes "[Ljava/lang/String;") c.info.name) p.classes) in
     let C = λ (c : ℕ). c < (names_of_program p).class_count in
     All-cons (IsNamed (names_of_program p)) (Alloc 0 0 1 (argument_class p) 24 0) [] (record { classes = All-cons C (argument_class p) [] lt (All-nil C); methods = All-nil (λ m. m < (names_of_program p).method_count) }) (All-nil (IsNamed (names_of_program p)))
+
+-- what is told of a run is told of one from the first state
+pub told_from : (P : Linked → Kept → List Record → Type 0) {p q : Linked} {s s' : Kept} {made made' : List Record} → p ≡ q → s ≡ s' → made ≡ made' → P p s made → P q s' made'
+told_from P {p = p} {q = q} {s = s} {s' = s'} {made = made} {made' = made'} program state records h =
+    subst (λ (x : Linked). P x s' made') program (subst (λ (x : Kept). P p x made') state (subst (λ (x : List Record). P p s x) records h))

@@ -113,13 +113,13 @@ impl<'a> Guest for ProgramGuest<'a> {
 
     fn flush<L: Ledger>(
         &mut self,
-        code: &NamedProgram<'a>,
+        program: &NamedProgram<'a>,
         stamps: &Stamps,
         room: &mut GuestRoom,
         visits: &mut Steps<L>,
     ) -> Result<(), NoMemory> {
         running_flush(
-            code.program(),
+            program.program(),
             &mut self.running,
             stamps,
             &mut room.roots,
@@ -131,7 +131,7 @@ impl<'a> Guest for ProgramGuest<'a> {
     fn events<L: Ledger>(
         &mut self,
         alloc: Global,
-        code: &NamedProgram<'a>,
+        program: &NamedProgram<'a>,
         slice: TimeSlice,
         out: &mut Output,
         stamps: &mut Stamps,
@@ -139,7 +139,7 @@ impl<'a> Guest for ProgramGuest<'a> {
     ) -> Result<Stretch, NoMemory> {
         stretch(
             alloc,
-            code.program(),
+            program.program(),
             &mut self.running,
             slice,
             out,

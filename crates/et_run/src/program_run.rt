@@ -7,13 +7,13 @@ ghost use Rattle.et_graph.specs.Graph.{Graph, Decides};
 ghost use Rattle.et_history.specs.Settings.{flush_visits_of, said_by, setting};
 ghost use Rattle.et_history.specs.Whole.{whole_setting, whole_start, whole_visits_of, whole_said};
 ghost use Rattle.et_io.specs.Faults.{is_write_fault};
-ghost use Rattle.et_state.specs.State.{kept_of};
 ghost use Rattle.et_loop.specs.Visits.{allowed_visits, IsCut};
 ghost use Rattle.et_loop.specs.Said.{Says, SaysPrefix, IsCutSaid, CountsWrite};
 ghost use Rattle.et_program.specs.Tables.{IsTabled};
 ghost use Rattle.et_loop.specs.Traced.{WritesTrace, WritesPrefix};
 ghost use Rattle.et_state.specs.Options.{AreOptions};
 ghost use Rattle.et_event.specs.Runnable.{IsRunnable};
+ghost use Rattle.et_run.specs.WithTexts.{state_of};
 
 use crate::first::start_lines;
 use crate::guest::ProgramGuest;
@@ -23,110 +23,106 @@ use et_base::{NoMemory, Steps};
 use et_history::laws::{histories_say_the_same, traces_are_the_same};
 use et_history::run_laws::linked_programs_run_soundly;
 use et_io::{RunFault, Sink};
-use et_loop::{Ran, run_guest};
+use et_loop::{Ran, Started, run_guest};
 use et_program::Program;
-use et_state::{Lines, Machine, Options};
+use et_state::{Machine, Options};
 use et_strings::Texts;
 use std::alloc::Global;
 use std::sync::ledger::Ledger;
 
-/// The machine in its first state, and the records of that.
-fn first(alloc: Global, program: &Program) -> Result<(Machine, Lines), NoMemory>
-    ensures state { IfOk result (λ x. kept_of x.0 ≡ start program.now) }
-    ensures records { IfOk result (λ x. x.1 ≡ start_records program.now) }
+/// The machine in its first state, which has no texts, and the records of that state.
+fn first<'a>(alloc: Global, program: &'a Program) -> Result<Started<ProgramGuest<'a>>, NoMemory>
+    ensures state { IfOk result (λ x. state_of x.guest ≡ start program.now) }
+    ensures records { IfOk result (λ x. x.made ≡ start_records program.now) }
 {
     let machine = Machine::begin(alloc, program)?;
     let made = start_lines(alloc, program)?;
-    Ok((machine, made))
+    let texts = Texts::begin(alloc);
+    let guest = ProgramGuest::of(MachineWithTexts { machine, texts });
+    Ok(Started { guest, made })
 }
 
-/// The run of a machine that is in the first state of the program, with these records. Its history is over what the machine
-/// keeps.
-fn run_from<O: Sink, G: Sink, L: Ledger>(
+/// The run of a machine that is in the first state of the program, with the records of that. Its history is over what the
+/// machine keeps.
+fn run_from<'a, O: Sink, P: Sink, L: Ledger>(
     alloc: Global,
-    program: &Program,
+    program: &'a Program,
     options: &Options,
-    machine: Machine,
-    made: &Lines,
-    sink: &mut O,
-    guest: &mut G,
+    first: Started<ProgramGuest<'a>>,
+    trace: &mut O,
+    printed: &mut P,
     visits: &mut Steps<L>,
 ) -> Result<Ran, RunFault>
     requires options { AreOptions options.now }
     requires runnable { IsRunnable program.now }
     requires sound { IsSoundFor program.now (start program.now) }
     requires tabled { IsTabled program.now }
-    requires state { kept_of machine ≡ start program.now }
-    requires records { made.now ≡ start_records program.now }
+    requires state { state_of first.guest ≡ start program.now }
+    requires records { first.made ≡ start_records program.now }
     ensures trace { (reached : Graph → ℕ → Bool) →
         Decides reached → IfOk result (λ ran. WritesTrace reached (setting program.now options.now)
-        (kept_of machine) made.now ran (O.taken sink.old) (O.taken sink.new)) }
+        (start program.now) (start_records program.now)
+        ran (O.taken trace.old) (O.taken trace.new)) }
     ensures prefix { (reached : Graph → ℕ → Bool) →
         Decides reached → OnErr result (WritesPrefix reached (setting program.now options.now)
-        (kept_of machine) made.now (O.taken sink.old) (O.taken sink.new)) }
+        (start program.now) (start_records program.now) (O.taken trace.old) (O.taken trace.new)) }
     ensures visits { (reached : Graph → ℕ → Bool) →
         Decides reached → IfOk result (λ ran. visits.new ≤ visits.old + allowed_visits reached
-        (setting program.now options.now) flush_visits_of (kept_of machine) made.now ran.event) }
+        (setting program.now options.now) flush_visits_of
+        (start program.now) (start_records program.now) ran.event) }
     ensures cut { (reached : Graph → ℕ → Bool) → Decides reached → OnErr result
-        (IsCut reached (setting program.now options.now) flush_visits_of (kept_of machine) made.now
-        (O.taken sink.old) (O.taken sink.new) visits.old visits.new) }
+        (IsCut reached (setting program.now options.now) flush_visits_of
+        (start program.now) (start_records program.now)
+        (O.taken trace.old) (O.taken trace.new) visits.old visits.new) }
     ensures said { (reached : Graph → ℕ → Bool) → Decides reached → IfOk result (λ ran.
-        Says reached (setting program.now options.now) (said_by program.now) (kept_of machine)
-        made.now ran (G.taken guest.old) (G.taken guest.new)) }
+        Says reached (setting program.now options.now) (said_by program.now)
+        (start program.now) (start_records program.now)
+        ran (P.taken printed.old) (P.taken printed.new)) }
     ensures said_prefix { (reached : Graph → ℕ → Bool) → Decides reached → OnErr result
         (SaysPrefix reached (setting program.now options.now) (said_by program.now)
-        (kept_of machine) made.now (G.taken guest.old) (G.taken guest.new)) }
+        (start program.now) (start_records program.now)
+        (P.taken printed.old) (P.taken printed.new)) }
     ensures said_cut { (reached : Graph → ℕ → Bool) → Decides reached → OnErr result
-        (IsCutSaid reached (setting program.now options.now) (said_by program.now) (kept_of machine)
-        made.now flush_visits_of (G.taken guest.old) (G.taken guest.new) visits.old visits.new) }
+        (IsCutSaid reached (setting program.now options.now) (said_by program.now)
+        (start program.now) (start_records program.now) flush_visits_of
+        (P.taken printed.old) (P.taken printed.new) visits.old visits.new) }
     ensures write { CountsWrite (is_write_fault result)
-        (O.faults sink.old) (O.faults sink.new) (G.faults guest.old) (G.faults guest.new) }
-    ensures never_falls { O.faults sink.old ≤ O.faults sink.new }
-    ensures guest_never_falls { G.faults guest.old ≤ G.faults guest.new }
+        (O.faults trace.old) (O.faults trace.new) (P.faults printed.old) (P.faults printed.new) }
+    ensures never_falls { O.faults trace.old ≤ O.faults trace.new }
+    ensures printed_never_falls { P.faults printed.old ≤ P.faults printed.new }
 {
     // Laws: they tell the prover, and do nothing.
     program.is_linked();
     linked_programs_run_soundly();
-    let code = NamedProgram::of(program);
-    let texts = Texts::begin(alloc);
-    let mut running = ProgramGuest::of(MachineWithTexts { machine, texts });
-    run_guest(
-        alloc,
-        &code,
-        options,
-        &mut running,
-        made,
-        sink,
-        guest,
-        visits,
-    )
+    let named = NamedProgram::of(program);
+    run_guest(alloc, &named, options, first, trace, printed, visits)
 }
 
-/// Runs a linked program from its first state, and writes the trace of its history to the sink, and what its events print to
-/// the guest's. That history frees nothing, but the machine keeps only what was not reported. It has a stamp for each object,
+/// Runs a linked program from its first state, and writes the trace of its history to the one sink, and what its events print to
+/// the other. That history frees nothing, but the machine keeps only what was not reported. It has a stamp for each object,
 /// and searches nothing but at a flush: the visits of objects are at most those of the history's flushes, eight for each event,
 /// and one for each object that an event makes.
 ///
 /// `Write` comes exactly where a put failed, and one of the two sinks counted one fault. After `Write` and after `NoMemory` the
-/// sink took a prefix of the trace, and the guest's a prefix of what is printed; the run was cut off in one turn, and the
+/// one sink took a prefix of the trace, and the other a prefix of what is printed; the run was cut off in one turn, and the
 /// visits are at most those that the turns up to it may make.
-pub fn run<O: Sink, G: Sink, L: Ledger>(
+pub fn run<O: Sink, P: Sink, L: Ledger>(
     alloc: Global,
     program: &Program,
     options: &Options,
-    sink: &mut O,
-    guest: &mut G,
+    trace: &mut O,
+    printed: &mut P,
     visits: &mut Steps<L>,
 ) -> Result<Ran, RunFault>
     requires options { AreOptions options.now }
     ensures trace { (reached : Graph → ℕ → Bool) → Decides reached → IfOk result
         (λ ran. WritesTrace reached (whole_setting program.now options.now)
         (whole_start program.now) (start_records program.now)
-        ran (O.taken sink.old) (O.taken sink.new)) }
+        ran (O.taken trace.old) (O.taken trace.new)) }
     ensures prefix { (reached : Graph → ℕ → Bool) → Decides reached → OnErr result
         (WritesPrefix reached (whole_setting program.now options.now)
         (whole_start program.now) (start_records program.now)
-        (O.taken sink.old) (O.taken sink.new)) }
+        (O.taken trace.old) (O.taken trace.new)) }
     ensures visits { (reached : Graph → ℕ → Bool) → Decides reached → IfOk result
         (λ ran. visits.new ≤ visits.old + allowed_visits reached
         (whole_setting program.now options.now) whole_visits_of
@@ -134,24 +130,24 @@ pub fn run<O: Sink, G: Sink, L: Ledger>(
     ensures cut { (reached : Graph → ℕ → Bool) → Decides reached → OnErr result
         (IsCut reached (whole_setting program.now options.now) whole_visits_of
         (whole_start program.now) (start_records program.now)
-        (O.taken sink.old) (O.taken sink.new) visits.old visits.new) }
+        (O.taken trace.old) (O.taken trace.new) visits.old visits.new) }
     ensures said { (reached : Graph → ℕ → Bool) → Decides reached → IfOk result (λ ran.
         Says reached (whole_setting program.now options.now) (whole_said (said_by program.now))
         (whole_start program.now) (start_records program.now)
-        ran (G.taken guest.old) (G.taken guest.new)) }
+        ran (P.taken printed.old) (P.taken printed.new)) }
     ensures said_prefix { (reached : Graph → ℕ → Bool) → Decides reached → OnErr result
         (SaysPrefix reached (whole_setting program.now options.now)
         (whole_said (said_by program.now)) (whole_start program.now) (start_records program.now)
-        (G.taken guest.old) (G.taken guest.new)) }
+        (P.taken printed.old) (P.taken printed.new)) }
     ensures said_cut { (reached : Graph → ℕ → Bool) → Decides reached → OnErr result
         (IsCutSaid reached (whole_setting program.now options.now)
         (whole_said (said_by program.now)) (whole_start program.now)
         (start_records program.now) whole_visits_of
-        (G.taken guest.old) (G.taken guest.new) visits.old visits.new) }
+        (P.taken printed.old) (P.taken printed.new) visits.old visits.new) }
     ensures write { CountsWrite (is_write_fault result)
-        (O.faults sink.old) (O.faults sink.new) (G.faults guest.old) (G.faults guest.new) }
-    ensures never_falls { O.faults sink.old ≤ O.faults sink.new }
-    ensures guest_never_falls { G.faults guest.old ≤ G.faults guest.new }
+        (O.faults trace.old) (O.faults trace.new) (P.faults printed.old) (P.faults printed.new) }
+    ensures never_falls { O.faults trace.old ≤ O.faults trace.new }
+    ensures printed_never_falls { P.faults printed.old ≤ P.faults printed.new }
 {
     // Laws: they tell the prover, and do nothing.
     program.is_linked();
@@ -159,9 +155,7 @@ pub fn run<O: Sink, G: Sink, L: Ledger>(
     traces_are_the_same();
     histories_say_the_same();
     match first(alloc, program) {
-        Ok((machine, made)) => run_from(
-            alloc, program, options, machine, &made, sink, guest, visits,
-        ),
+        Ok(first) => run_from(alloc, program, options, first, trace, printed, visits),
         Err(_) => Err(RunFault::NoMemory),
     }
 }

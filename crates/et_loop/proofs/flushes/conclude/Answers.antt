@@ -1,33 +1,37 @@
-use Rattle.std.proofs.Common.{◌≡◌, ℕ, ◌++◌, List, sym, ◌∙◌, ap, subst, append_assoc}
+use Rattle.std.proofs.Common.{◌≡◌, ℕ, ◌+◌, ◌≤◌, ◌++◌, Bool, false, List, sym, ◌∙◌, ap, subst, append_assoc}
 use Rattle.et_base.specs.declared.format.Format.{Format}
 use Rattle.et_base.specs.declared.line.TraceLine.TheVariants.{Finish}
+use Rattle.std.specs.Prelude.{◌↔◌, IsTrue}
+use Rattle.et_graph.specs.Graph.{IsReached}
 use Rattle.et_graph.proofs.Walks.{is_reached, is_reached_decides}
 use Rattle.et_io.specs.Sink.{TakesUpTo, TakesPrefix}
 use Rattle.et_io.proofs.Taking.{gathers, takes_no_more}
 use Rattle.et_state.specs.History.{flush_lines, how_of}
 use Rattle.et_binary.specs.Formats.{written_in}
+use Rattle.et_loop.specs.Visits.{last_visits}
 use Rattle.et_loop.proofs.Counts.{undo_not, last_flush}
 use Rattle.et_loop.proofs.Putting.{last_written, flush_stops}
 use Rattle.et_loop.proofs.RunLemmas.{on_any}
+use Rattle.et_loop.proofs.flushes.conclude.Given.{Over}
+use Rattle.et_loop.proofs.flushes.conclude.Goals.{After-settle}
 use Rattle.et_loop.proofs.flushes.conclude.Goals as goal
 
-pub returns-in_err-settle-clause-visits : goal.returns-in_err-settle-clause-visits
-returns-in_err-settle-clause-visits g c here decides =
+-- the flush visits as often as a last one may
+few : (g : Over) (c : After-settle g) (here : ℕ → Bool) → (c.args.due ≡ false → (o : ℕ) → IsTrue (here o) ↔ IsReached (g.G.Guest.graph_of (g.G.Guest.state c.args.guest.now)) o)
+    → c.settle.new.visits ≤ c.args.visits.now + last_visits c.args.due (g.G.Guest.flush_visits_of here (g.G.Guest.state c.args.guest.now))
+few g c here decides =
     let G = g.G.Guest in
-    let s = G.state c.args.machine.now in
-    last_flush c.args.due (G.flush_visits_of here s) (G.flush_visits_of (is_reached (G.graph_of s)) s) c.args.visits.now c.settle.new.visits (λ no. c.in_err-settle.ensures.visits here (decides no)) (c.in_err-settle.ensures.visits (is_reached (G.graph_of s)) (is_reached_decides (G.graph_of s)))
+    let s = G.state c.args.guest.now in
+    last_flush c.args.due (G.flush_visits_of here s) (G.flush_visits_of (is_reached (G.graph_of s)) s) c.args.visits.now c.settle.new.visits (λ no. c.settle.ensures.visits here (decides no)) (c.settle.ensures.visits (is_reached (G.graph_of s)) (is_reached_decides (G.graph_of s)))
+
+pub returns-in_err-settle-clause-visits : goal.returns-in_err-settle-clause-visits
+returns-in_err-settle-clause-visits g c = few g (goal.at.returns-in_err-settle-clause-visits g c).After-settle
 
 pub returns-in_default-clause-visits : goal.returns-in_default-clause-visits
-returns-in_default-clause-visits g c here decides =
-    let G = g.G.Guest in
-    let s = G.state c.args.machine.now in
-    last_flush c.args.due (G.flush_visits_of here s) (G.flush_visits_of (is_reached (G.graph_of s)) s) c.args.visits.now c.settle.new.visits (λ no. c.in_ok-settle.ensures.visits here (decides no)) (c.in_ok-settle.ensures.visits (is_reached (G.graph_of s)) (is_reached_decides (G.graph_of s)))
+returns-in_default-clause-visits g c = few g (goal.at.returns-in_default-clause-visits g c).After-settle
 
 pub returns-clause-visits : goal.returns-clause-visits
-returns-clause-visits g c here decides =
-    let G = g.G.Guest in
-    let s = G.state c.args.machine.now in
-    last_flush c.args.due (G.flush_visits_of here s) (G.flush_visits_of (is_reached (G.graph_of s)) s) c.args.visits.now c.settle.new.visits (λ no. c.in_ok-settle.ensures.visits here (decides no)) (c.in_ok-settle.ensures.visits (is_reached (G.graph_of s)) (is_reached_decides (G.graph_of s)))
+returns-clause-visits g c = few g (goal.at.returns-clause-visits g c).After-settle
 
 pub returns-in_err-settle-clause-err : goal.returns-in_err-settle-clause-err
 returns-in_err-settle-clause-err g c deaths listed =

@@ -17,5 +17,5 @@ returns-clause-stamps g c =
     let r : Restamps c.args.e before c.made-made.result c.lost.result.now old new =
     restamps_from c.args.e before c.made-made.result c.lost.result.now c.args.stamps.now c.make_places.new.stamps c.stamp_each.new.stamps c.stamp_new.new.stamps
     c.in_ok-make_places.ensures.kept c.stamp_each.ensures.each c.stamp_each.ensures.others c.stamp_new.ensures.each c.stamp_new.ensures.others in
-    subst (λ (n : ℕ). Restamps c.args.e before n (g.G.Guest.lost_of c.args.machine.now) old new) c.made-made.ensures
+    subst (λ (n : ℕ). Restamps c.args.e before n (g.G.Guest.lost_of c.args.guest.now) old new) c.made-made.ensures
     (subst (λ (os : List ℕ). Restamps c.args.e before c.made-made.result os old new) c.lost.ensures r)

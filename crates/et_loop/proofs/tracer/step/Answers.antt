@@ -1,51 +1,60 @@
-use Rattle.std.proofs.Common.{ℕ, ◌+◌, ◌<◌, None, refl, sym, ◌∙◌, ap, subst, arith}
-use Rattle.et_loop.specs.Options.{setting_of}
+use Rattle.std.proofs.Common.{ℕ, ◌+◌, None, refl, sym, ◌∙◌, ap, subst, arith}
+use Rattle.std.specs.Prelude.{slice_index}
+use Rattle.et_loop.specs.Options.{guest_setting}
 use Rattle.et_loop.specs.Pace.{IsNextFlush, IsRota}
 use Rattle.et_loop.specs.Quiet.{IsStretch, IsBrokenOff, IsStep}
-use Rattle.et_state.specs.declared.output.Output.{Output}
 use Rattle.et_loop.specs.Stamping.{Restamps}
 use Rattle.et_loop.specs.declared.next_flush.NextFlush.{NextFlush}
 use Rattle.et_loop.specs.declared.schedule.Rota.{Rota}
+use Rattle.et_state.specs.declared.output.Output.{Output}
 use Rattle.et_loop.proofs.Pacing.{next_flush_on, rota_on}
 use Rattle.et_loop.proofs.Quiets.{ending_finished, ending_limit, step_over, tick_done}
-use Rattle.std.specs.Prelude.{slice_index}
 use Rattle.et_loop.proofs.RunLemmas.{on_any}
-use Rattle.et_loop.proofs.Stretches.{stretch_kept, behind, broken_step, stretch_stops, stretch_goes, stretch_lost, stretch_grows, not_native}
+use Rattle.et_loop.proofs.Stretches.{IsSliced, stretch_kept, as_long, broken_step, stretch_stops, stretch_goes, stretch_lost, stretch_grows, not_native}
+use Rattle.et_loop.proofs.tracer.step.Given.{Over}
+use Rattle.et_loop.proofs.tracer.step.Goals.{After-events, In_ok-stretch}
 use Rattle.et_loop.proofs.tracer.step.Goals as goal
 
 -- the history ends before any event
 pub returns-then-count-eq0-clause-step : goal.returns-then-count-eq0-clause-step
 returns-then-count-eq0-clause-step g c =
     let G = g.G.Guest in
-    let given = setting_of (G.event_of c.args.code.now) G.unended_of G.graph_of G.flushed_of (g.G.Code.Program.names c.args.code.now) c.args.options.now in
+    let given = guest_setting G g.G.Code.Program c.args.program.now c.args.options.now in
     let none = ap (λ (n : ℕ). n) c.unended-count.ensures in
-    step_over given (G.said_of c.args.code.now) c.args.e (G.state c.args.machine.now) c.args.tracer.now.stamps c.args.visits.now c.args.tracer.now.numbering c.args.tracer.now.buffer.items _ _ (ending_finished given c.args.e (G.state c.args.machine.now) (omega arith)) c.clear.ensures.said
+    step_over given (G.said_of c.args.program.now) c.args.e (G.state c.args.guest.now) c.args.tracer.now.stamps c.args.visits.now c.args.tracer.now.numbering c.args.tracer.now.buffer.items _ _ (ending_finished given c.args.e (G.state c.args.guest.now) (omega arith)) c.clear.ensures.said
 
 pub returns-then-e-options-clause-step : goal.returns-then-e-options-clause-step
 returns-then-e-options-clause-step g c =
     let G = g.G.Guest in
-    let given = setting_of (G.event_of c.args.code.now) G.unended_of G.graph_of G.flushed_of (g.G.Code.Program.names c.args.code.now) c.args.options.now in
-    step_over given (G.said_of c.args.code.now) c.args.e (G.state c.args.machine.now) c.args.tracer.now.stamps c.args.visits.now c.args.tracer.now.numbering c.args.tracer.now.buffer.items _ _ (ending_limit given c.args.e (G.state c.args.machine.now) (omega arith) (omega arith)) c.clear.ensures.said
+    let given = guest_setting G g.G.Code.Program c.args.program.now c.args.options.now in
+    step_over given (G.said_of c.args.program.now) c.args.e (G.state c.args.guest.now) c.args.tracer.now.stamps c.args.visits.now c.args.tracer.now.numbering c.args.tracer.now.buffer.items _ _ (ending_limit given c.args.e (G.state c.args.guest.now) (omega arith) (omega arith)) c.clear.ensures.said
 
 -- THE EVENTS OF A SLICE
 pub events-requires-clause-clock : goal.events-requires-clause-clock
 events-requires-clause-clock g c = omega (arith, c.requires.clock, c.next_slice-slice.ensures.slice.limit, c.requires.options.limit)
 
+-- the slice is one of threads that have not ended
+sliced : (g : Over) (c : After-events g) → IsSliced (g.G.Guest.event_of c.args.program.now) g.G.Guest.unended_of g.G.Guest.graph_of g.G.Guest.flushed_of (g.G.Code.Program.names c.args.program.now) c.args.options.now c.args.e c.unended-count.result c.next_slice-slice.result (g.G.Guest.state c.args.guest.now)
+sliced g c = record { is = c.next_slice-slice.ensures.slice; counted = c.unended-count.ensures; some = omega arith }
+
+-- .. and its events were done
+done : (g : Over) (c : In_ok-stretch g)
+    → IsStretch (g.G.Guest.event_of c.args.program.now) (g.G.Guest.said_of c.args.program.now) g.G.Guest.unended_of g.G.Guest.graph_of c.next_slice-slice.result.place c.next_slice-slice.result.events c.args.e (g.G.Guest.state c.args.guest.now) c.args.tracer.now.stamps c.events.new.stamps
+    c.args.visits.now c.events.new.visits (g.G.Guest.state c.events.new.self) c.events.new.out.records c.events.new.out.said.items (g.G.Guest.lost_of c.events.new.self) c.in_ok-stretch.stretch
+done g c =
+    let G = g.G.Guest in
+    subst (λ (n : ℕ). IsStretch (G.event_of c.args.program.now) (G.said_of c.args.program.now) G.unended_of G.graph_of c.next_slice-slice.result.place c.next_slice-slice.result.events n (G.state c.args.guest.now) c.args.tracer.now.stamps c.events.new.stamps c.args.visits.now c.events.new.visits (G.state c.events.new.self)
+    c.events.new.out.records c.events.new.out.said.items (G.lost_of c.events.new.self) c.in_ok-stretch.stretch) c.requires.clock c.in_ok-stretch.ensures.stretch
+
 pub returns-in_err-stretch-clause-broken : goal.returns-in_err-stretch-clause-broken
 returns-in_err-stretch-clause-broken g c =
     let G = g.G.Guest in
-    let some : 0 < c.unended-count.result = omega arith in
     on_any c.from_residual.result
-    (broken_step (G.event_of c.args.code.now) (G.said_of c.args.code.now) G.unended_of G.graph_of G.flushed_of (g.G.Code.Program.names c.args.code.now) c.args.options.now c.args.e c.unended-count.result c.next_slice-slice.result (G.state c.args.machine.now) c.args.tracer.now.stamps c.events.new.stamps c.args.visits.now c.events.new.visits c.next_slice-slice.ensures.slice c.unended-count.ensures some
-    (subst (λ (n : ℕ). IsBrokenOff (G.event_of c.args.code.now) (G.said_of c.args.code.now) G.unended_of G.graph_of c.next_slice-slice.result.place c.next_slice-slice.result.events n (G.state c.args.machine.now) c.args.tracer.now.stamps c.events.new.stamps c.args.visits.now c.events.new.visits) c.requires.clock c.in_err-stretch.ensures.broken))
+    (broken_step (sliced g (goal.at.returns-in_err-stretch-clause-broken g c).After-events)
+    (subst (λ (n : ℕ). IsBrokenOff (G.event_of c.args.program.now) (G.said_of c.args.program.now) G.unended_of G.graph_of c.next_slice-slice.result.place c.next_slice-slice.result.events n (G.state c.args.guest.now) c.args.tracer.now.stamps c.events.new.stamps c.args.visits.now c.events.new.visits) c.requires.clock c.in_err-stretch.ensures.broken))
 
 pub end_after-requires : goal.end_after-requires
-end_after-requires g c =
-    let G = g.G.Guest in
-    let some : 0 < c.unended-count.result = omega arith in
-    let stretch = subst (λ (n : ℕ). IsStretch (G.event_of c.args.code.now) (G.said_of c.args.code.now) G.unended_of G.graph_of c.next_slice-slice.result.place c.next_slice-slice.result.events n (G.state c.args.machine.now) c.args.tracer.now.stamps c.events.new.stamps c.args.visits.now c.events.new.visits (G.state c.events.new.self) c.events.new.out.records c.events.new.out.said.items (G.lost_of c.events.new.self) c.in_ok-stretch.stretch) c.requires.clock c.in_ok-stretch.ensures.stretch in
-    not_native (G.event_of c.args.code.now) (G.said_of c.args.code.now) G.unended_of G.graph_of G.flushed_of (g.G.Code.Program.names c.args.code.now) c.args.options.now c.args.e c.unended-count.result c.next_slice-slice.result (G.state c.args.machine.now) c.args.tracer.now.stamps c.events.new.stamps c.args.visits.now c.events.new.visits c.next_slice-slice.ensures.slice c.unended-count.ensures some
-    (G.state c.events.new.self) c.events.new.out.records c.events.new.out.said.items (G.lost_of c.events.new.self) c.in_ok-stretch.stretch stretch
+end_after-requires g c = not_native (sliced g (goal.at.end_after-requires g c).After-events) (done g (goal.at.end_after-requires g c).In_ok-stretch)
 
 -- THE LAST ONE
 pub tell-requires-clause-clock : goal.tell-requires-clause-clock
@@ -53,57 +62,38 @@ tell-requires-clause-clock g c = omega (arith, c.in_ok-stretch.ensures.stretch.c
 
 pub tell-requires-clause-more : goal.tell-requires-clause-more
 tell-requires-clause-more g c =
-    let G = g.G.Guest in
-    let some : 0 < c.unended-count.result = omega arith in
-    let stretch = subst (λ (n : ℕ). IsStretch (G.event_of c.args.code.now) (G.said_of c.args.code.now) G.unended_of G.graph_of c.next_slice-slice.result.place c.next_slice-slice.result.events n (G.state c.args.machine.now) c.args.tracer.now.stamps c.events.new.stamps c.args.visits.now c.events.new.visits (G.state c.events.new.self) c.events.new.out.records c.events.new.out.said.items (G.lost_of c.events.new.self) c.in_ok-stretch.stretch) c.requires.clock c.in_ok-stretch.ensures.stretch in
-    let grows = stretch_grows (G.event_of c.args.code.now) (G.said_of c.args.code.now) G.unended_of G.graph_of G.flushed_of (g.G.Code.Program.names c.args.code.now) c.args.options.now c.args.e c.unended-count.result c.next_slice-slice.result (G.state c.args.machine.now) c.args.tracer.now.stamps c.events.new.stamps c.args.visits.now c.events.new.visits c.next_slice-slice.ensures.slice c.unended-count.ensures some
-    (G.state c.events.new.self) c.events.new.out.records c.events.new.out.said.items (G.lost_of c.events.new.self) c.in_ok-stretch.stretch stretch c.unended_at-thread.result (sym c.end_after.ensures ∙ c.in-None.is) in
+    let at = goal.at.tell-requires-clause-more g c in
+    let grows = stretch_grows (sliced g at.After-events) (done g at.In_ok-stretch) c.unended_at-thread.result (sym c.end_after.ensures ∙ c.in-None.is) in
     omega (arith, grows, c.made-before.ensures)
 
 pub tell-requires-clause-lost : goal.tell-requires-clause-lost
 tell-requires-clause-lost g c =
-    let G = g.G.Guest in
-    let some : 0 < c.unended-count.result = omega arith in
-    let stretch = subst (λ (n : ℕ). IsStretch (G.event_of c.args.code.now) (G.said_of c.args.code.now) G.unended_of G.graph_of c.next_slice-slice.result.place c.next_slice-slice.result.events n (G.state c.args.machine.now) c.args.tracer.now.stamps c.events.new.stamps c.args.visits.now c.events.new.visits (G.state c.events.new.self) c.events.new.out.records c.events.new.out.said.items (G.lost_of c.events.new.self) c.in_ok-stretch.stretch) c.requires.clock c.in_ok-stretch.ensures.stretch in
-    stretch_lost (G.event_of c.args.code.now) (G.said_of c.args.code.now) G.unended_of G.graph_of G.flushed_of (g.G.Code.Program.names c.args.code.now) c.args.options.now c.args.e c.unended-count.result c.next_slice-slice.result (G.state c.args.machine.now) c.args.tracer.now.stamps c.events.new.stamps c.args.visits.now c.events.new.visits c.next_slice-slice.ensures.slice c.unended-count.ensures some
-    (G.state c.events.new.self) c.events.new.out.records c.events.new.out.said.items (G.lost_of c.events.new.self) c.in_ok-stretch.stretch stretch c.unended_at-thread.result (sym c.end_after.ensures ∙ c.in-None.is) c.requires.made
+    let at = goal.at.tell-requires-clause-lost g c in
+    stretch_lost (sliced g at.After-events) (done g at.In_ok-stretch) c.unended_at-thread.result (sym c.end_after.ensures ∙ c.in-None.is) c.requires.made
 
 pub tell-requires-clause-stamps : goal.tell-requires-clause-stamps
 tell-requires-clause-stamps g c =
-    let G = g.G.Guest in
-    let some : 0 < c.unended-count.result = omega arith in
-    let stretch = subst (λ (n : ℕ). IsStretch (G.event_of c.args.code.now) (G.said_of c.args.code.now) G.unended_of G.graph_of c.next_slice-slice.result.place c.next_slice-slice.result.events n (G.state c.args.machine.now) c.args.tracer.now.stamps c.events.new.stamps c.args.visits.now c.events.new.visits (G.state c.events.new.self) c.events.new.out.records c.events.new.out.said.items (G.lost_of c.events.new.self) c.in_ok-stretch.stretch) c.requires.clock c.in_ok-stretch.ensures.stretch in
-    let h = stretch in
-    let b = behind (G.event_of c.args.code.now) (G.said_of c.args.code.now) G.unended_of G.graph_of G.flushed_of (g.G.Code.Program.names c.args.code.now) c.args.options.now c.args.e c.unended-count.result c.next_slice-slice.result (G.state c.args.machine.now) c.args.tracer.now.stamps c.events.new.stamps c.args.visits.now c.events.new.visits c.next_slice-slice.ensures.slice c.unended-count.ensures some
-    c.in_ok-stretch.stretch.quiet h.mid h.comes in
-    omega (arith, b.long, c.requires.stamps.places, c.made-before.ensures)
+    let at = goal.at.tell-requires-clause-stamps g c in
+    let long = as_long (sliced g at.After-events) (done g at.In_ok-stretch) in
+    omega (arith, long, c.requires.stamps.places, c.made-before.ensures)
 
 pub tell-requires-clause-room : goal.tell-requires-clause-room
-tell-requires-clause-room g c =
-    let G = g.G.Guest in
-    subst (λ (n : ℕ). G.has_places c.args.tracer.now.room n) (sym c.made-before.ensures) c.requires.room
+tell-requires-clause-room g c = subst (λ (n : ℕ). g.G.Guest.has_places c.args.tracer.now.room n) (sym c.made-before.ensures) c.requires.room
 
 pub returns-in_err-tell-in-None-clause-broken : goal.returns-in_err-tell-in-None-clause-broken
 returns-in_err-tell-in-None-clause-broken g c =
-    let G = g.G.Guest in
-    let some : 0 < c.unended-count.result = omega arith in
-    let stretch = subst (λ (n : ℕ). IsStretch (G.event_of c.args.code.now) (G.said_of c.args.code.now) G.unended_of G.graph_of c.next_slice-slice.result.place c.next_slice-slice.result.events n (G.state c.args.machine.now) c.args.tracer.now.stamps c.events.new.stamps c.args.visits.now c.events.new.visits (G.state c.events.new.self) c.events.new.out.records c.events.new.out.said.items (G.lost_of c.events.new.self) c.in_ok-stretch.stretch) c.requires.clock c.in_ok-stretch.ensures.stretch in
-    let h = stretch in
-    on_any c.from_residual-in_err-tell-in-None.result
-    (broken_step (G.event_of c.args.code.now) (G.said_of c.args.code.now) G.unended_of G.graph_of G.flushed_of (g.G.Code.Program.names c.args.code.now) c.args.options.now c.args.e c.unended-count.result c.next_slice-slice.result (G.state c.args.machine.now) c.args.tracer.now.stamps c.events.new.stamps c.args.visits.now c.events.new.visits c.next_slice-slice.ensures.slice c.unended-count.ensures some
-    (record { quiet = c.in_ok-stretch.stretch.quiet; mid = h.mid; comes = h.comes }))
+    let at = goal.at.returns-in_err-tell-in-None-clause-broken g c in
+    let h = done g at.In_ok-stretch in
+    on_any c.from_residual-in_err-tell-in-None.result (broken_step (sliced g at.After-events) (record { quiet = c.in_ok-stretch.stretch.quiet; mid = h.mid; comes = h.comes }))
 
 pub returns-in_ok-tell-in-None-clause-step : goal.returns-in_ok-tell-in-None-clause-step
 returns-in_ok-tell-in-None-clause-step g c =
     let G = g.G.Guest in
-    let some : 0 < c.unended-count.result = omega arith in
-    let stretch = subst (λ (n : ℕ). IsStretch (G.event_of c.args.code.now) (G.said_of c.args.code.now) G.unended_of G.graph_of c.next_slice-slice.result.place c.next_slice-slice.result.events n (G.state c.args.machine.now) c.args.tracer.now.stamps c.events.new.stamps c.args.visits.now c.events.new.visits (G.state c.events.new.self) c.events.new.out.records c.events.new.out.said.items (G.lost_of c.events.new.self) c.in_ok-stretch.stretch) c.requires.clock c.in_ok-stretch.ensures.stretch in
+    let at = goal.at.returns-in_ok-tell-in-None-clause-step g c in
     let marks = subst (λ (n : ℕ). Restamps (c.args.e + c.in_ok-stretch.stretch.quiet) n (G.graph_of (G.state c.events.new.self)).made (G.lost_of c.events.new.self) (slice_index c.events.new.stamps) (slice_index c.tell.new.tracer.stamps)) c.made-before.ensures c.in_ok-tell-in-None.ensures.stamps in
-    let given = setting_of (G.event_of c.args.code.now) G.unended_of G.graph_of G.flushed_of (g.G.Code.Program.names c.args.code.now) c.args.options.now in
-    subst (λ (o : Output). IsStep given (G.said_of c.args.code.now) c.args.e (G.state c.args.machine.now) c.args.tracer.now.stamps c.args.visits.now c.events.new.visits c.args.tracer.now.numbering (G.state c.events.new.self) c.tell.new.tracer.numbering c.args.tracer.now.buffer.items c.tell.new.tracer.buffer.items o.said.items c.tell.new.tracer.stamps (record { quiet = c.in_ok-stretch.stretch.quiet; end = None })) (sym c.in_ok-tell-in-None.ensures.output)
-    (stretch_goes (G.event_of c.args.code.now) (G.said_of c.args.code.now) G.unended_of G.graph_of G.flushed_of (g.G.Code.Program.names c.args.code.now) c.args.options.now c.args.e c.unended-count.result c.next_slice-slice.result (G.state c.args.machine.now) c.args.tracer.now.stamps c.events.new.stamps c.args.visits.now c.events.new.visits c.next_slice-slice.ensures.slice c.unended-count.ensures some
-    (G.state c.events.new.self) c.events.new.out.records c.events.new.out.said.items (G.lost_of c.events.new.self) c.in_ok-stretch.stretch stretch
-    c.unended_at-thread.result c.unended_at-thread.ensures c.args.tracer.now.numbering c.tell.new.tracer.numbering c.args.tracer.now.buffer.items c.tell.new.tracer.buffer.items c.tell.new.tracer.stamps (sym c.end_after.ensures ∙ c.in-None.is)
+    let given = guest_setting G g.G.Code.Program c.args.program.now c.args.options.now in
+    subst (λ (o : Output). IsStep given (G.said_of c.args.program.now) c.args.e (G.state c.args.guest.now) c.args.tracer.now.stamps c.args.visits.now c.events.new.visits c.args.tracer.now.numbering (G.state c.events.new.self) c.tell.new.tracer.numbering c.args.tracer.now.buffer.items c.tell.new.tracer.buffer.items o.said.items c.tell.new.tracer.stamps (record { quiet = c.in_ok-stretch.stretch.quiet; end = None })) (sym c.in_ok-tell-in-None.ensures.output)
+    (stretch_goes (sliced g at.After-events) (done g at.In_ok-stretch) c.unended_at-thread.result c.unended_at-thread.ensures c.args.tracer.now.numbering c.tell.new.tracer.numbering c.args.tracer.now.buffer.items c.tell.new.tracer.buffer.items c.tell.new.tracer.stamps (sym c.end_after.ensures ∙ c.in-None.is)
     c.in_ok-tell-in-None.ensures.mentions c.in_ok-tell-in-None.ensures.lines marks)
 
 pub returns-in_ok-tell-in-None-clause-within : goal.returns-in_ok-tell-in-None-clause-within
@@ -118,11 +108,9 @@ returns-in_ok-tell-in-None-clause-limit g c = omega (arith, c.in_ok-stretch.ensu
 pub returns-in_ok-tell-in-None-clause-clock : goal.returns-in_ok-tell-in-None-clause-clock
 returns-in_ok-tell-in-None-clause-clock g c =
     let G = g.G.Guest in
-    let some : 0 < c.unended-count.result = omega arith in
-    let stretch = subst (λ (n : ℕ). IsStretch (G.event_of c.args.code.now) (G.said_of c.args.code.now) G.unended_of G.graph_of c.next_slice-slice.result.place c.next_slice-slice.result.events n (G.state c.args.machine.now) c.args.tracer.now.stamps c.events.new.stamps c.args.visits.now c.events.new.visits (G.state c.events.new.self) c.events.new.out.records c.events.new.out.said.items (G.lost_of c.events.new.self) c.in_ok-stretch.stretch) c.requires.clock c.in_ok-stretch.ensures.stretch in
-    let native = not_native (G.event_of c.args.code.now) (G.said_of c.args.code.now) G.unended_of G.graph_of G.flushed_of (g.G.Code.Program.names c.args.code.now) c.args.options.now c.args.e c.unended-count.result c.next_slice-slice.result (G.state c.args.machine.now) c.args.tracer.now.stamps c.events.new.stamps c.args.visits.now c.events.new.visits c.next_slice-slice.ensures.slice c.unended-count.ensures some
-    (G.state c.events.new.self) c.events.new.out.records c.events.new.out.said.items (G.lost_of c.events.new.self) c.in_ok-stretch.stretch stretch in
-    let ticked = tick_done c.unended_at-thread.result c.in_ok-stretch.stretch.end (G.clock_of (G.state c.args.machine.now) + c.in_ok-stretch.stretch.quiet) (G.clock_of (G.state c.events.new.self)) native (sym c.end_after.ensures ∙ c.in-None.is) c.in_ok-stretch.ensures.clock in
+    let at = goal.at.returns-in_ok-tell-in-None-clause-clock g c in
+    let native = not_native (sliced g at.After-events) (done g at.In_ok-stretch) in
+    let ticked = tick_done c.unended_at-thread.result c.in_ok-stretch.stretch.end (G.clock_of (G.state c.args.guest.now) + c.in_ok-stretch.stretch.quiet) (G.clock_of (G.state c.events.new.self)) native (sym c.end_after.ensures ∙ c.in-None.is) c.in_ok-stretch.ensures.clock in
     omega (arith, ticked, c.requires.clock)
 
 pub returns-in_ok-tell-in-None-clause-next_flush : goal.returns-in_ok-tell-in-None-clause-next_flush
@@ -139,29 +127,18 @@ returns-in_ok-tell-in-None-clause-rota g c =
 
 pub returns-in-Some-clause-step : goal.returns-in-Some-clause-step
 returns-in-Some-clause-step g c =
-    let G = g.G.Guest in
-    let some : 0 < c.unended-count.result = omega arith in
-    let stretch = subst (λ (n : ℕ). IsStretch (G.event_of c.args.code.now) (G.said_of c.args.code.now) G.unended_of G.graph_of c.next_slice-slice.result.place c.next_slice-slice.result.events n (G.state c.args.machine.now) c.args.tracer.now.stamps c.events.new.stamps c.args.visits.now c.events.new.visits (G.state c.events.new.self) c.events.new.out.records c.events.new.out.said.items (G.lost_of c.events.new.self) c.in_ok-stretch.stretch) c.requires.clock c.in_ok-stretch.ensures.stretch in
-    stretch_stops (G.event_of c.args.code.now) (G.said_of c.args.code.now) G.unended_of G.graph_of G.flushed_of (g.G.Code.Program.names c.args.code.now) c.args.options.now c.args.e c.unended-count.result c.next_slice-slice.result (G.state c.args.machine.now) c.args.tracer.now.stamps c.events.new.stamps c.args.visits.now c.events.new.visits c.next_slice-slice.ensures.slice c.unended-count.ensures some
-    (G.state c.events.new.self) c.events.new.out.records c.events.new.out.said.items (G.lost_of c.events.new.self) c.in_ok-stretch.stretch stretch
-    c.unended_at-thread.result c.unended_at-thread.ensures c.args.tracer.now.numbering c.args.tracer.now.numbering c.args.tracer.now.buffer.items c.args.tracer.now.buffer.items c.in-Some.end (sym c.end_after.ensures ∙ c.in-Some.is) refl refl
+    let at = goal.at.returns-in-Some-clause-step g c in
+    stretch_stops (sliced g at.After-events) (done g at.In_ok-stretch) c.unended_at-thread.result c.unended_at-thread.ensures c.args.tracer.now.numbering c.args.tracer.now.numbering c.args.tracer.now.buffer.items c.args.tracer.now.buffer.items c.in-Some.end (sym c.end_after.ensures ∙ c.in-Some.is) refl refl
 
 pub returns-in-Some-clause-stamps : goal.returns-in-Some-clause-stamps
 returns-in-Some-clause-stamps g c =
-    let G = g.G.Guest in
-    let some : 0 < c.unended-count.result = omega arith in
-    let stretch = subst (λ (n : ℕ). IsStretch (G.event_of c.args.code.now) (G.said_of c.args.code.now) G.unended_of G.graph_of c.next_slice-slice.result.place c.next_slice-slice.result.events n (G.state c.args.machine.now) c.args.tracer.now.stamps c.events.new.stamps c.args.visits.now c.events.new.visits (G.state c.events.new.self) c.events.new.out.records c.events.new.out.said.items (G.lost_of c.events.new.self) c.in_ok-stretch.stretch) c.requires.clock c.in_ok-stretch.ensures.stretch in
-    let kept = stretch_kept (G.event_of c.args.code.now) (G.said_of c.args.code.now) G.unended_of G.graph_of G.flushed_of (g.G.Code.Program.names c.args.code.now) c.args.options.now c.args.e c.unended-count.result c.next_slice-slice.result (G.state c.args.machine.now) c.args.tracer.now.stamps c.events.new.stamps c.args.visits.now c.events.new.visits c.next_slice-slice.ensures.slice c.unended-count.ensures some
-    (G.state c.events.new.self) c.events.new.out.records c.events.new.out.said.items (G.lost_of c.events.new.self) c.in_ok-stretch.stretch stretch c.unended_at-thread.result c.in-Some.end c.unended_at-thread.ensures (sym c.end_after.ensures ∙ c.in-Some.is) in
-    let b = behind (G.event_of c.args.code.now) (G.said_of c.args.code.now) G.unended_of G.graph_of G.flushed_of (g.G.Code.Program.names c.args.code.now) c.args.options.now c.args.e c.unended-count.result c.next_slice-slice.result (G.state c.args.machine.now) c.args.tracer.now.stamps c.events.new.stamps c.args.visits.now c.events.new.visits c.next_slice-slice.ensures.slice c.unended-count.ensures some
-    c.in_ok-stretch.stretch.quiet stretch.mid stretch.comes in
-    record { few = omega (arith, kept, c.requires.stamps.few); places = omega (arith, kept, b.long, c.requires.stamps.places) }
+    let at = goal.at.returns-in-Some-clause-stamps g c in
+    let kept = stretch_kept (sliced g at.After-events) (done g at.In_ok-stretch) c.unended_at-thread.result c.in-Some.end c.unended_at-thread.ensures (sym c.end_after.ensures ∙ c.in-Some.is) in
+    let long = as_long (sliced g at.After-events) (done g at.In_ok-stretch) in
+    record { few = omega (arith, kept, c.requires.stamps.few); places = omega (arith, kept, long, c.requires.stamps.places) }
 
 pub returns-in-Some-clause-room : goal.returns-in-Some-clause-room
 returns-in-Some-clause-room g c =
-    let G = g.G.Guest in
-    let some : 0 < c.unended-count.result = omega arith in
-    let stretch = subst (λ (n : ℕ). IsStretch (G.event_of c.args.code.now) (G.said_of c.args.code.now) G.unended_of G.graph_of c.next_slice-slice.result.place c.next_slice-slice.result.events n (G.state c.args.machine.now) c.args.tracer.now.stamps c.events.new.stamps c.args.visits.now c.events.new.visits (G.state c.events.new.self) c.events.new.out.records c.events.new.out.said.items (G.lost_of c.events.new.self) c.in_ok-stretch.stretch) c.requires.clock c.in_ok-stretch.ensures.stretch in
-    let kept = stretch_kept (G.event_of c.args.code.now) (G.said_of c.args.code.now) G.unended_of G.graph_of G.flushed_of (g.G.Code.Program.names c.args.code.now) c.args.options.now c.args.e c.unended-count.result c.next_slice-slice.result (G.state c.args.machine.now) c.args.tracer.now.stamps c.events.new.stamps c.args.visits.now c.events.new.visits c.next_slice-slice.ensures.slice c.unended-count.ensures some
-    (G.state c.events.new.self) c.events.new.out.records c.events.new.out.said.items (G.lost_of c.events.new.self) c.in_ok-stretch.stretch stretch c.unended_at-thread.result c.in-Some.end c.unended_at-thread.ensures (sym c.end_after.ensures ∙ c.in-Some.is) in
-    subst (λ (n : ℕ). G.has_places c.args.tracer.now.room n) (sym kept) c.requires.room
+    let at = goal.at.returns-in-Some-clause-room g c in
+    let kept = stretch_kept (sliced g at.After-events) (done g at.In_ok-stretch) c.unended_at-thread.result c.in-Some.end c.unended_at-thread.ensures (sym c.end_after.ensures ∙ c.in-Some.is) in
+    subst (λ (n : ℕ). g.G.Guest.has_places c.args.tracer.now.room n) (sym kept) c.requires.room

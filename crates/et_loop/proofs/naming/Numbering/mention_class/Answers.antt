@@ -24,7 +24,7 @@ returns-clause-mentions g c =
 
 pub returns-clause-lines : goal.returns-clause-lines
 returns-clause-lines g c =
-    let names = g.P.Program.names c.args.code.now in
+    let names = g.P.Program.names c.args.program.now in
     let seen = c.args.self.now.classes in
     let classes : c.self.inside.classes ≡ seen = ap (λ (m : Mentions). m.classes) c.self.view_is in
     let new = untold_new seen c.self.inside.classes c.args.class c.number.result c.number-2.result c.number-2.ensures c.in_default.is classes c.number.ensures.value in

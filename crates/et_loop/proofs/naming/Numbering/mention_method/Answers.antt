@@ -20,7 +20,7 @@ returns-clause-number g c =
 
 pub returns-clause-mentions : goal.returns-clause-mentions
 returns-clause-mentions g c =
-    let own = (g.P.Program.names c.args.code.now).method_class c.args.method in
+    let own = (g.P.Program.names c.args.program.now).method_class c.args.method in
     let seen = c.args.self.now.methods in
     let method = c.args.method in
     let first : c.self.inside.methods ≡ seen = ap (λ (m : Mentions). m.methods) c.self.view_is in
@@ -33,7 +33,7 @@ returns-clause-mentions g c =
 -- .. and what was written is their lines
 pub returns-clause-lines : goal.returns-clause-lines
 returns-clause-lines g c =
-    let names = g.P.Program.names c.args.code.now in
+    let names = g.P.Program.names c.args.program.now in
     let method = c.args.method in
     let own = names.method_class method in
     let seen = c.args.self.now.methods in

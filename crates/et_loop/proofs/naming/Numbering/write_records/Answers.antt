@@ -9,13 +9,13 @@ use Rattle.et_loop.proofs.naming.Numbering.write_records.Goals as goal
 -- each record of the list is named
 pub write_record-requires-clause-named : goal.write_record-requires-clause-named
 write_record-requires-clause-named g c =
-    let P = IsNamed (g.P.Program.names c.args.code.now) in
+    let P = IsNamed (g.P.Program.names c.args.program.now) in
     subst P (sym c.entry-item.is) (All-get_or P c.args.records.now c.records.entry-index c.entry-item.result c.records-test.true c.requires.named)
 
 -- .. and mentions no method without its class
 pub records-preserved : goal.records-preserved
 records-preserved g c =
-    let names = g.P.Program.names c.args.code.now in
+    let names = g.P.Program.names c.args.program.now in
     record {
       classes = subst (λ (m : Mentions). HasClasses names m) (sym c.in_ok-write_record.ensures.mentions) (record_mentioned names c.records.self c.entry-item.result c.records.invariant.classes);
       mentions = grind (arith, common_steps);

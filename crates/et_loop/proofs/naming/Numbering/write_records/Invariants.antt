@@ -7,7 +7,7 @@ use Rattle.et_loop.proofs.naming.Numbering.write_records.Given as goal
 -- what is mentioned and written so far, with what the rest adds, is what all add
 abbrev pub invariant-records : goal.invariant-records
 invariant-records g l =
-    let names = g.P.Program.names l.code in
+    let names = g.P.Program.names l.program in
     record {
       classes : HasClasses names l.self;
       mentions : mentions_after names l.self (drop l.entry-index l.records) ≡ mentions_after names l.fn.self l.records;

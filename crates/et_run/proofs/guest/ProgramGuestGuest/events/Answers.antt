@@ -13,14 +13,14 @@ use Rattle.et_run.proofs.guest.ProgramGuestGuest.events.Goals as goal
 
 pub returns-clause-stretch : goal.returns-clause-stretch
 returns-clause-stretch g c =
-    subst (λ (m : MachineWithTexts). IfOk c.stretch.result (λ stretch. IsStretch (event_with_texts c.args.code.now) (said_by c.args.code.now) unended_threads graph_of c.args.slice.place c.args.slice.events m.machine.guest.clock (state_of m) c.args.stamps.now
+    subst (λ (m : MachineWithTexts). IfOk c.stretch.result (λ stretch. IsStretch (event_with_texts c.args.program.now) (said_by c.args.program.now) unended_threads graph_of c.args.slice.place c.args.slice.events m.machine.guest.clock (state_of m) c.args.stamps.now
     c.stretch.new.stamps c.args.visits.now c.stretch.new.visits (state_of c.stretch.new.running) c.stretch.new.out.records c.stretch.new.out.said.items c.stretch.new.running.machine.lost stretch)) c.self.view_is
     (subst (λ (p : Linked). IfOk c.stretch.result (λ stretch. IsStretch (event_with_texts p) (said_by p) unended_threads graph_of c.args.slice.place c.args.slice.events c.self.inside.running.machine.guest.clock (state_of c.self.inside.running) c.args.stamps.now
     c.stretch.new.stamps c.args.visits.now c.stretch.new.visits (state_of c.stretch.new.running) c.stretch.new.out.records c.stretch.new.out.said.items c.stretch.new.running.machine.lost stretch)) c.program.ensures c.stretch.ensures.stretch)
 
 pub returns-clause-broken : goal.returns-clause-broken
 returns-clause-broken g c =
-    subst (λ (m : MachineWithTexts). OnErr c.stretch.result (IsBrokenOff (event_with_texts c.args.code.now) (said_by c.args.code.now) unended_threads graph_of c.args.slice.place c.args.slice.events m.machine.guest.clock (state_of m) c.args.stamps.now
+    subst (λ (m : MachineWithTexts). OnErr c.stretch.result (IsBrokenOff (event_with_texts c.args.program.now) (said_by c.args.program.now) unended_threads graph_of c.args.slice.place c.args.slice.events m.machine.guest.clock (state_of m) c.args.stamps.now
     c.stretch.new.stamps c.args.visits.now c.stretch.new.visits)) c.self.view_is
     (subst (λ (p : Linked). OnErr c.stretch.result (IsBrokenOff (event_with_texts p) (said_by p) unended_threads graph_of c.args.slice.place c.args.slice.events c.self.inside.running.machine.guest.clock (state_of c.self.inside.running) c.args.stamps.now
     c.stretch.new.stamps c.args.visits.now c.stretch.new.visits)) c.program.ensures c.stretch.ensures.broken)
