@@ -120,109 +120,109 @@ module _ (p : Linked) (place most e : ℕ) (s : Kept) (old : List ℕ) (thread t
     allowed = omega arith;
   }
 
-  module _ (quiet : ℕ) (mid : Kept) (new : List ℕ) (out : List Record) (bytes : List ℕ) (visits : ℕ) (g : IsGoing quiet mid new out bytes visits) where
-    -- the thread has not ended
-    pub is_there : place < threads → Contains (unended_threads mid) thread
-    is_there lt =
-        let inside : place < length (unended_threads mid) = omega (arith, lt, g.same_threads) in
-        (place, inside, get_or_default_zero (unended_threads mid) place thread inside ∙ g.same_thread)
+module _ {p : Linked} {place most e : ℕ} {s : Kept} {old : List ℕ} {thread threads objects before quiet : ℕ} {mid : Kept} {new : List ℕ} {out : List Record} {bytes : List ℕ} {visits : ℕ} (g : IsGoing p place most e s old thread threads objects before quiet mid new out bytes visits) where
+  -- the thread has not ended
+  pub is_there : place < threads → Contains (unended_threads mid) thread
+  is_there lt =
+      let inside : place < length (unended_threads mid) = omega (arith, lt, g.same_threads) in
+      (place, inside, get_or_default_zero (unended_threads mid) place thread inside ∙ g.same_thread)
 
-    -- SO MANY MORE QUIET ONES
-    pub going_quietly : (k : ℕ) (s' : Kept) (new' : List ℕ) → k ≤ most - 1 - quiet → ((at : ℕ) → slice_index (unended_threads mid) at ≡ thread → Quiets p at k mid.guest.clock mid s' new new')
-        → s'.guest.clock ≡ mid.guest.clock + k → IsSoundRun p s' → (visits' : ℕ) → visits' ≤ visits + 8 * k → IsGoing (quiet + k) s' new' out bytes visits'
-    going_quietly k s' new' few each clock sound visits' seen =
-        let quiets : Quiets p place k (e + quiet) mid s' new new' = subst (λ (n : ℕ). Quiets p place k n mid s' new new') g.clock (each place g.same_thread) in
-        let same : Leaves p place mid s' new new' = quiet_leaves p place k (e + quiet) mid s' new new' quiets in
-        record {
-          few = omega (arith, few, g.few);
-          events = quiet_behind p place k quiet e s mid s' old new new' g.events quiets;
-          clock = omega (arith, clock, g.clock);
-          sound = sound;
-          made = same.there g.made;
-          stamps = record { few = omega (arith, g.stamps.few, same.made); places = omega (arith, g.stamps.places, same.made, same.long) };
-          empty = g.empty;
-          unsaid = g.unsaid;
-          same_objects = same.made ∙ g.same_objects;
-          same_threads = same.count ∙ g.same_threads;
-          same_thread = same.turn ∙ g.same_thread;
-          allowed = omega (arith, seen, g.allowed);
-        }
+  -- SO MANY MORE QUIET ONES
+  pub going_quietly : (k : ℕ) (s' : Kept) (new' : List ℕ) → k ≤ most - 1 - quiet → ((at : ℕ) → slice_index (unended_threads mid) at ≡ thread → Quiets p at k mid.guest.clock mid s' new new')
+      → s'.guest.clock ≡ mid.guest.clock + k → IsSoundRun p s' → (visits' : ℕ) → visits' ≤ visits + 8 * k → IsGoing p place most e s old thread threads objects before (quiet + k) s' new' out bytes visits'
+  going_quietly k s' new' few each clock sound visits' seen =
+      let quiets : Quiets p place k (e + quiet) mid s' new new' = subst (λ (n : ℕ). Quiets p place k n mid s' new new') g.clock (each place g.same_thread) in
+      let same : Leaves p place mid s' new new' = quiet_leaves p place k (e + quiet) mid s' new new' quiets in
+      record {
+        few = omega (arith, few, g.few);
+        events = quiet_behind p place k quiet e s mid s' old new new' g.events quiets;
+        clock = omega (arith, clock, g.clock);
+        sound = sound;
+        made = same.there g.made;
+        stamps = record { few = omega (arith, g.stamps.few, same.made); places = omega (arith, g.stamps.places, same.made, same.long) };
+        empty = g.empty;
+        unsaid = g.unsaid;
+        same_objects = same.made ∙ g.same_objects;
+        same_threads = same.count ∙ g.same_threads;
+        same_thread = same.turn ∙ g.same_thread;
+        allowed = omega (arith, seen, g.allowed);
+      }
 
-    -- ITS NEXT EVENT
-    module _ (end : EventEnd) (s' : Kept) (out' : List Record) (bytes' : List ℕ) (lost : List ℕ) (after : ℕ) where
-      comes : after ≤ visits + 8 + ((graph_of (state_after mid (event_with_texts p mid thread))).made - (graph_of mid).made) → ComesTo (event_with_texts p) (said_by p) unended_threads graph_of place most e s old new before after quiet mid
-      comes few =
-          let now : after ≤ visits + 8 + ((graph_of (state_after mid (event_with_texts p mid (slice_index (unended_threads mid) place)))).made - (graph_of mid).made) =
-          subst (λ (t : ℕ). after ≤ visits + 8 + ((graph_of (state_after mid (event_with_texts p mid t))).made - (graph_of mid).made)) (sym g.same_thread) few in
-          record { few = g.few; events = g.events; visits = omega (arith, now, g.allowed) }
+  -- ITS NEXT EVENT
+  module _ (end : EventEnd) (s' : Kept) (out' : List Record) (bytes' : List ℕ) (lost : List ℕ) (after : ℕ) where
+    comes : after ≤ visits + 8 + ((graph_of (state_after mid (event_with_texts p mid thread))).made - (graph_of mid).made) → ComesTo (event_with_texts p) (said_by p) unended_threads graph_of place most e s old new before after quiet mid
+    comes few =
+        let now : after ≤ visits + 8 + ((graph_of (state_after mid (event_with_texts p mid (slice_index (unended_threads mid) place)))).made - (graph_of mid).made) =
+        subst (λ (t : ℕ). after ≤ visits + 8 + ((graph_of (state_after mid (event_with_texts p mid t))).made - (graph_of mid).made)) (sym g.same_thread) few in
+        record { few = g.few; events = g.events; visits = omega (arith, now, g.allowed) }
 
-      pub going_broken : after ≤ visits + 8 + ((graph_of (state_after mid (event_with_texts p mid thread))).made - (graph_of mid).made) → IsBrokenOff (event_with_texts p) (said_by p) unended_threads graph_of place most e s old new before after
-      going_broken few = record { quiet = quiet; mid = mid; comes = comes few }
+    pub going_broken : after ≤ visits + 8 + ((graph_of (state_after mid (event_with_texts p mid thread))).made - (graph_of mid).made) → IsBrokenOff (event_with_texts p) (said_by p) unended_threads graph_of place most e s old new before after
+    going_broken few = record { quiet = quiet; mid = mid; comes = comes few }
 
-      answers_now : Answers (event_with_texts p mid thread) end mid s' out out' → Answers (event_at (event_with_texts p) (said_by p) unended_threads graph_of place mid) end mid s' [] out'
-      answers_now h =
-          subst (λ (t : ℕ). Answers (event_with_texts p mid t) end mid s' [] out') (sym g.same_thread)
-          (subst (λ (rs : List Record). Answers (event_with_texts p mid thread) end mid s' rs out') g.empty h)
+    answers_now : Answers (event_with_texts p mid thread) end mid s' out out' → Answers (event_at (event_with_texts p) (said_by p) unended_threads graph_of place mid) end mid s' [] out'
+    answers_now h =
+        subst (λ (t : ℕ). Answers (event_with_texts p mid t) end mid s' [] out') (sym g.same_thread)
+        (subst (λ (rs : List Record). Answers (event_with_texts p mid thread) end mid s' rs out') g.empty h)
 
-      says_now : SaysWhereDone end (said_by p mid thread) bytes bytes' → SaysWhereDone end (said_by p mid (slice_index (unended_threads mid) place)) [] bytes'
-      says_now h =
-          subst (λ (t : ℕ). SaysWhereDone end (said_by p mid t) [] bytes') (sym g.same_thread)
-          (subst (λ (bs : List ℕ). SaysWhereDone end (said_by p mid thread) bs bytes') g.unsaid h)
+    says_now : SaysWhereDone end (said_by p mid thread) bytes bytes' → SaysWhereDone end (said_by p mid (slice_index (unended_threads mid) place)) [] bytes'
+    says_now h =
+        subst (λ (t : ℕ). SaysWhereDone end (said_by p mid t) [] bytes') (sym g.same_thread)
+        (subst (λ (bs : List ℕ). SaysWhereDone end (said_by p mid thread) bs bytes') g.unsaid h)
 
-      pub going_ends : Answers (event_with_texts p mid thread) end mid s' out out' → SaysWhereDone end (said_by p mid thread) bytes bytes' → StepsWhereDone end (graph_of mid) (graph_of s') lost → after ≤ visits + 8 + ((graph_of (state_after mid (event_with_texts p mid thread))).made - (graph_of mid).made)
-          → IsStretch (event_with_texts p) (said_by p) unended_threads graph_of place most e s old new before after s' out' bytes' lost (record { quiet = quiet; end = end })
-      going_ends h says step few = record { mid = mid; comes = comes few; answers = answers_now h; says = says_now says; step = step }
+    pub going_ends : Answers (event_with_texts p mid thread) end mid s' out out' → SaysWhereDone end (said_by p mid thread) bytes bytes' → StepsWhereDone end (graph_of mid) (graph_of s') lost → after ≤ visits + 8 + ((graph_of (state_after mid (event_with_texts p mid thread))).made - (graph_of mid).made)
+        → IsStretch (event_with_texts p) (said_by p) unended_threads graph_of place most e s old new before after s' out' bytes' lost (record { quiet = quiet; end = end })
+    going_ends h says step few = record { mid = mid; comes = comes few; answers = answers_now h; says = says_now says; step = step }
 
-      pub going_native : Answers (event_with_texts p mid thread) end mid s' out out' → (method : ℕ) → end ≡ ends.Native method → ⊥
-      going_native h method is = is_native method end (event_at (event_with_texts p) (said_by p) unended_threads graph_of place mid) mid s' out' is (answers_now h)
+    pub going_native : Answers (event_with_texts p mid thread) end mid s' out out' → (method : ℕ) → end ≡ ends.Native method → ⊥
+    going_native h method is = is_native method end (event_at (event_with_texts p) (said_by p) unended_threads graph_of place mid) mid s' out' is (answers_now h)
 
-      -- a quiet one
-      module _ (h : Answers (event_with_texts p mid thread) end mid s' out out') (says : SaysWhereDone end (said_by p mid thread) bytes bytes') (step : StepsWhereDone end (graph_of mid) (graph_of s') lost) (done : end_after 0 end ≡ None) where
-        led : IsStepTo (graph_of mid) (graph_of s') lost
-        led = step_done 0 end (graph_of mid) (graph_of s') lost (going_native h) done step
+    -- a quiet one
+    module _ (h : Answers (event_with_texts p mid thread) end mid s' out out') (says : SaysWhereDone end (said_by p mid thread) bytes bytes') (step : StepsWhereDone end (graph_of mid) (graph_of s') lost) (done : end_after 0 end ≡ None) where
+      led : IsStepTo (graph_of mid) (graph_of s') lost
+      led = step_done 0 end (graph_of mid) (graph_of s') lost (going_native h) done step
 
-        -- what it lost has a stamp
-        pub lost_there : (graph_of s').made ≡ objects → (o : ℕ) → Contains lost o → o < length new
-        lost_there same o c =
-            let le = lost_made (graph_of mid) (graph_of s') lost (reached_there (graph_of mid) g.made) led o c in
-            omega (arith, le, same, g.same_objects, g.stamps.places)
+      -- what it lost has a stamp
+      pub lost_there : (graph_of s').made ≡ objects → (o : ℕ) → Contains lost o → o < length new
+      lost_there same o c =
+          let le = lost_made (graph_of mid) (graph_of s') lost (reached_there (graph_of mid) g.made) led o c in
+          omega (arith, le, same, g.same_objects, g.stamps.places)
 
-        pub going_on : (new' : List ℕ) → quiet + 1 < most → out' ≡ [] → bytes' ≡ [] → (graph_of s').made ≡ objects → length (unended_threads s') ≡ threads → slice_index (unended_threads s') place ≡ thread
-            → length new' ≡ length new → ((o : ℕ) → Contains lost o → slice_index new' o ≡ e + quiet) → ((o : ℕ) → ¬ Contains lost o → slice_index new' o ≡ slice_index new o)
-            → s'.guest.clock ≡ e + quiet + 1 → IsSoundRun p s' → after ≤ visits + 8 + ((graph_of (state_after mid (event_with_texts p mid thread))).made - (graph_of mid).made) → IsGoing (quiet + 1) s' new' out' bytes' after
-        unfolding AreQuiet
-        going_on new' more told unsaid same count there long each others clock sound few =
-            let o : Outcome Kept = event_at (event_with_texts p) (said_by p) unended_threads graph_of place mid in
-            let a : IsAnswered 0 o end mid s' out' = answered_is 0 o end mid s' out' (answers_now h) in
-            let made : (graph_of s').made ≡ (graph_of mid).made = same ∙ sym g.same_objects in
-            let is : IsQuiet (event_with_texts p) (said_by p) unended_threads graph_of place (e + quiet) mid s' new new' = record {
-              done = a.next ∙ done;
-              state = a.state;
-              told = sym a.told ∙ told;
-              unsaid = said_none end _ bytes' done (going_native h) (says_now says) unsaid;
-              made = made;
-              count = count ∙ sym g.same_threads;
-              turn = there ∙ sym g.same_thread;
-              marks = quiet_marks (e + quiet) (graph_of mid) (graph_of s') lost new new' made led each others;
-              long = long;
-            } in
-            let all : AreQuiet (event_with_texts p) (said_by p) unended_threads graph_of place (suc quiet) e s s' old new' = (mid, new, g.events, is) in
-            let next : suc quiet ≡ quiet + 1 = omega arith in
-            let comes_there = comes few in
-            let state : s' ≡ state_after mid o = a.state in
-            let grown : (graph_of (state_after mid (event_with_texts p mid thread))).made ≡ (graph_of mid).made =
-            ap (λ (t : ℕ). (graph_of (state_after mid (event_with_texts p mid t))).made) (sym g.same_thread) ∙ (ap (λ (x : Kept). (graph_of x).made) (sym state) ∙ made) in
-            record {
-              few = more;
-              events = subst (λ (k : ℕ). AreQuiet (event_with_texts p) (said_by p) unended_threads graph_of place k e s s' old new') next all;
-              clock = omega (arith, clock);
-              sound = sound;
-              made = step_there (graph_of mid) (graph_of s') lost g.made led;
-              stamps = record { few = omega (arith, g.stamps.few, made); places = omega (arith, g.stamps.places, made, long) };
-              empty = told;
-              unsaid = unsaid;
-              same_objects = same;
-              same_threads = count;
-              same_thread = there;
-              allowed = omega (arith, few, grown, g.allowed);
-            }
+      pub going_on : (new' : List ℕ) → quiet + 1 < most → out' ≡ [] → bytes' ≡ [] → (graph_of s').made ≡ objects → length (unended_threads s') ≡ threads → slice_index (unended_threads s') place ≡ thread
+          → length new' ≡ length new → ((o : ℕ) → Contains lost o → slice_index new' o ≡ e + quiet) → ((o : ℕ) → ¬ Contains lost o → slice_index new' o ≡ slice_index new o)
+          → s'.guest.clock ≡ e + quiet + 1 → IsSoundRun p s' → after ≤ visits + 8 + ((graph_of (state_after mid (event_with_texts p mid thread))).made - (graph_of mid).made) → IsGoing p place most e s old thread threads objects before (quiet + 1) s' new' out' bytes' after
+      unfolding AreQuiet
+      going_on new' more told unsaid same count there long each others clock sound few =
+          let o : Outcome Kept = event_at (event_with_texts p) (said_by p) unended_threads graph_of place mid in
+          let a : IsAnswered 0 o end mid s' out' = answered_is 0 o end mid s' out' (answers_now h) in
+          let made : (graph_of s').made ≡ (graph_of mid).made = same ∙ sym g.same_objects in
+          let is : IsQuiet (event_with_texts p) (said_by p) unended_threads graph_of place (e + quiet) mid s' new new' = record {
+            done = a.next ∙ done;
+            state = a.state;
+            told = sym a.told ∙ told;
+            unsaid = said_none end _ bytes' done (going_native h) (says_now says) unsaid;
+            made = made;
+            count = count ∙ sym g.same_threads;
+            turn = there ∙ sym g.same_thread;
+            marks = quiet_marks (e + quiet) (graph_of mid) (graph_of s') lost new new' made led each others;
+            long = long;
+          } in
+          let all : AreQuiet (event_with_texts p) (said_by p) unended_threads graph_of place (suc quiet) e s s' old new' = (mid, new, g.events, is) in
+          let next : suc quiet ≡ quiet + 1 = omega arith in
+          let comes_there = comes few in
+          let state : s' ≡ state_after mid o = a.state in
+          let grown : (graph_of (state_after mid (event_with_texts p mid thread))).made ≡ (graph_of mid).made =
+          ap (λ (t : ℕ). (graph_of (state_after mid (event_with_texts p mid t))).made) (sym g.same_thread) ∙ (ap (λ (x : Kept). (graph_of x).made) (sym state) ∙ made) in
+          record {
+            few = more;
+            events = subst (λ (k : ℕ). AreQuiet (event_with_texts p) (said_by p) unended_threads graph_of place k e s s' old new') next all;
+            clock = omega (arith, clock);
+            sound = sound;
+            made = step_there (graph_of mid) (graph_of s') lost g.made led;
+            stamps = record { few = omega (arith, g.stamps.few, made); places = omega (arith, g.stamps.places, made, long) };
+            empty = told;
+            unsaid = unsaid;
+            same_objects = same;
+            same_threads = count;
+            same_thread = there;
+            allowed = omega (arith, few, grown, g.allowed);
+          }

@@ -1,6 +1,6 @@
 -- Which turns are of texts, and what the table of events says of the others.
 use Rattle.std.proofs.Common.{◌≡◌, ℕ, Bool, true, false, inl, inr, List, [], length, append-nil, Option, Some, None, Result, Ok, Err, refl, sym, ◌∙◌, ap, subst}
-use Rattle.std.specs.Prelude.{◌⊎◌, if◌then◌else◌, is_some, option_and_then, option_map, unwrap_or, IsSome}
+use Rattle.std.specs.Prelude.{◌⊎◌, if◌then◌else◌, is_some, option_and_then, option_map, unwrap_or, IfOk, IsSome}
 use Rattle.std.specs.Option.{option_or, option_map_or}
 use Rattle.et_base.specs.declared.value.Value.{Value}
 use Rattle.et_code.specs.declared.instr.Instr.{Instr}
@@ -13,7 +13,7 @@ use Rattle.et_state.specs.declared.ends.EventEnd.{EventEnd}
 use Rattle.et_state.specs.declared.ends.EventEnd.TheVariants as ends
 use Rattle.et_state.specs.declared.records.Record.{Record}
 use Rattle.et_state.specs.declared.stage.Turn.{Turn}
-use Rattle.et_state.specs.declared.stage.Turn.TheVariants.{Unwind, EndThread, Entry, Initialize, Instruction}
+use Rattle.et_state.specs.declared.stage.Turn.TheVariants.{Instruction}
 use Rattle.et_state.specs.Answers.{SaysWhereDone}
 use Rattle.et_state.specs.Outcome.{Outcome, state_after}
 use Rattle.et_state.specs.Outcome as outcome
@@ -24,7 +24,7 @@ use Rattle.et_state.specs.Threads.{turn_of}
 use Rattle.et_state.specs.Words.{top}
 use Rattle.et_event.specs.declared.families.Family.{Family}
 use Rattle.et_event.specs.declared.families.Family.TheVariants.{Calls, Refs}
-use Rattle.et_event.specs.declared.rows.CallRow.TheVariants.{Invoke, Return}
+use Rattle.et_event.specs.declared.rows.CallRow.TheVariants.{Invoke}
 use Rattle.et_event.specs.declared.rows.Row.{Row}
 use Rattle.et_event.specs.declared.rows.Row.TheVariants as row
 use Rattle.et_event.specs.Answered.{EventAnswers, DefersOrAnswers, TextAnswers}
@@ -37,67 +37,39 @@ use Rattle.et_event.specs.Sites.{Site, decoded_at, site_of}
 use Rattle.et_event.specs.Table.{row_of}
 use Rattle.et_event.specs.TextRows.{said_in}
 use Rattle.et_event.specs.Told.{event_with_texts, keeping, said_by}
+use Rattle.et_event.proofs.Answering.{if_ok}
+use Rattle.et_event.proofs.Deferrals.{answered, none_deferred}
 use Rattle.et_event.proofs.Told.{beside-table, call-blind}
 use Rattle.et_event.proofs.Beside.{texts-answered}
 use Rattle.et_run.specs.WithTexts.{text_turn}
 
--- A TURN OF ANOTHER FAMILY than calls calls no deferred method
+-- A TURN OF ANOTHER FAMILY than calls calls no deferred method, and one of another family than fields doesn't read System.out
 
-uncalled_row : (e : Moment) (at : Site) (r : Option Row) → (family_of_row r ≡ Calls → ⊥) → option_and_then (deferred_at e at) r ≡ None
-uncalled_row e at None other = refl
-uncalled_row e at (Some (row.Frame r)) other = refl
-uncalled_row e at (Some row.PoolConstant) other = refl
-uncalled_row e at (Some (row.Divide n o)) other = refl
-uncalled_row e at (Some (row.Heap r)) other = refl
-uncalled_row e at (Some (row.Call r)) other = absurd (other refl)
-uncalled_row e at (Some row.Throw) other = refl
-uncalled_row e at (Some (row.Monitor r)) other = refl
+other_row : (e : Moment) (at : Site) (r : Option Row) → ((family_of_row r ≡ Calls → ⊥) → option_and_then (deferred_at e at) r ≡ None) × ((family_of_row r ≡ Refs → ⊥) → option_and_then (out_at e at) r ≡ None)
+other_row e at (Some (row.Heap r)) = (λ other. refl, λ other. absurd (other refl))
+other_row e at (Some (row.Call r)) = (λ other. absurd (other refl), λ other. refl)
+other_row e at r = (λ other. refl, λ other. refl)
 
-uncalled_decoded : (e : Moment) (d : Result (Instr × ℕ) CodeFault) → (family_of_row (row_at d) ≡ Calls → ⊥) → deferred_by e d ≡ None
-uncalled_decoded e (Err fault) other = refl
-uncalled_decoded e (Ok x) other = uncalled_row e (site_of e.program (current_frame e) x) (row_of x.0.opcode) other
+other_decoded : (e : Moment) (d : Result (Instr × ℕ) CodeFault) → ((family_of_row (row_at d) ≡ Calls → ⊥) → deferred_by e d ≡ None) × ((family_of_row (row_at d) ≡ Refs → ⊥) → out_by e d ≡ None)
+other_decoded e (Err fault) = (λ other. refl, λ other. refl)
+other_decoded e (Ok x) = other_row e (site_of e.program (current_frame e) x) (row_of x.0.opcode)
 
-uncalled_turn : (e : Moment) (turn : Turn) → (family_of_turn turn (row_at (decoded_at e.program (current_frame e))) ≡ Calls → ⊥) → deferred_in e turn ≡ None
-uncalled_turn e Unwind other = refl
-uncalled_turn e EndThread other = refl
-uncalled_turn e Entry other = refl
-uncalled_turn e Initialize other = refl
-uncalled_turn e Instruction other = uncalled_decoded e (decoded_at e.program (current_frame e)) other
+other_turn : (e : Moment) (turn : Turn)
+    → ((family_of_turn turn (row_at (decoded_at e.program (current_frame e))) ≡ Calls → ⊥) → deferred_in e turn ≡ None) × ((family_of_turn turn (row_at (decoded_at e.program (current_frame e))) ≡ Refs → ⊥) → out_in e turn ≡ None)
+other_turn e Instruction = other_decoded e (decoded_at e.program (current_frame e))
+other_turn e turn = (λ other. refl, λ other. refl)
 
 pub uncalled : (p : Linked) (s : Kept) (t : ℕ) → (family_of p s t ≡ Calls → ⊥) → deferred_call p s t ≡ None
 unfolding deferred_call
 uncalled p s t other =
     let e : Moment = record { program = p; before = s; thread = t } in
-    uncalled_turn e (turn_of (thread_of e)) other
-
--- .. and one of another family than fields doesn't read System.out
-
-unread_row : (e : Moment) (at : Site) (r : Option Row) → (family_of_row r ≡ Refs → ⊥) → option_and_then (out_at e at) r ≡ None
-unread_row e at None other = refl
-unread_row e at (Some (row.Frame r)) other = refl
-unread_row e at (Some row.PoolConstant) other = refl
-unread_row e at (Some (row.Divide n o)) other = refl
-unread_row e at (Some (row.Heap r)) other = absurd (other refl)
-unread_row e at (Some (row.Call r)) other = refl
-unread_row e at (Some row.Throw) other = refl
-unread_row e at (Some (row.Monitor r)) other = refl
-
-unread_decoded : (e : Moment) (d : Result (Instr × ℕ) CodeFault) → (family_of_row (row_at d) ≡ Refs → ⊥) → out_by e d ≡ None
-unread_decoded e (Err fault) other = refl
-unread_decoded e (Ok x) other = unread_row e (site_of e.program (current_frame e) x) (row_of x.0.opcode) other
-
-unread_turn : (e : Moment) (turn : Turn) → (family_of_turn turn (row_at (decoded_at e.program (current_frame e))) ≡ Refs → ⊥) → out_in e turn ≡ None
-unread_turn e Unwind other = refl
-unread_turn e EndThread other = refl
-unread_turn e Entry other = refl
-unread_turn e Initialize other = refl
-unread_turn e Instruction other = unread_decoded e (decoded_at e.program (current_frame e)) other
+    (other_turn e (turn_of (thread_of e))).0 other
 
 pub unread : (p : Linked) (s : Kept) (t : ℕ) → (family_of p s t ≡ Refs → ⊥) → out_turn p s t ≡ None
 unfolding out_turn
 unread p s t other =
     let e : Moment = record { program = p; before = s; thread = t } in
-    unread_turn e (turn_of (thread_of e)) other
+    (other_turn e (turn_of (thread_of e))).1 other
 
 abbrev is_of_texts : Linked → ℕ → Bool
 is_of_texts p m = is_some (text_method_of p m)
@@ -111,11 +83,20 @@ unread_method : (p : Linked) (s : Kept) (t : ℕ) → out_turn p s t ≡ None �
 unread_method p s t none = ap (λ (o : Option OutRead). option_map (λ (x : OutRead). unwrap_or (top s.guest t).method 0) o) none
 
 -- none of another family
-pub other_family : (p : Linked) (s : Kept) (t : ℕ) (f : Family) → family_of p s t ≡ f → (f ≡ Calls → ⊥) → (f ≡ Refs → ⊥) → text_turn p s t ≡ None
+other_family : (p : Linked) (s : Kept) (t : ℕ) (f : Family) → family_of p s t ≡ f → (f ≡ Calls → ⊥) → (f ≡ Refs → ⊥) → text_turn p s t ≡ None
 other_family p s t f is calls refs =
     by_call p (deferred_call p s t) (out_method p s t)
     (ap (kept (is_of_texts p)) (uncalled p s t (λ e. calls (sym is ∙ e))))
     (unread_method p s t (unread p s t (λ e. refs (sym is ∙ e))))
+
+-- .. so what its event call answers is answered for it
+pub other_answers : (p : Linked) (t : ℕ) (f : Family) (m m' : MachineState) (out out' : List Record) {E : Type 0} (r : Result EventEnd E) → family_of p (kept_of m) t ≡ f → (f ≡ Calls → ⊥) → (f ≡ Refs → ⊥)
+    → IfOk r (λ end. EventAnswers (event p (kept_of m) t) end m m' out out') → IfOk r (λ end. DefersOrAnswers (text_turn p (kept_of m) t) (event p (kept_of m) t) end m m' out out')
+other_answers p t f m m' out out' r is calls refs h =
+    if_ok r (λ end a. answered (text_turn p (kept_of m) t) (event p (kept_of m) t) end m m' out out' (other_family p (kept_of m) t f is calls refs) a) h
+
+pub other_not : (p : Linked) (s : Kept) (t : ℕ) (f : Family) → family_of p s t ≡ f → (f ≡ Calls → ⊥) → (f ≡ Refs → ⊥) → IsSome (text_turn p s t) → ⊥
+other_not p s t f is calls refs some = none_deferred (text_turn p s t) (other_family p s t f is calls refs) some
 
 mapped : (f : OutRead → ℕ) (o : Option OutRead) → IsSome (option_map f o) → IsSome o
 mapped f None h = h
@@ -185,77 +166,35 @@ text_deferred p s t is some = deferred_some p (deferred_call p s t) (out_method 
 
 -- WHAT A TURN OF TEXTS IS
 
-text_called : (at : Site) (arguments : List Value) (p : Linked) (c : Option ℕ) → IsSome (kept (is_of_texts p) c) → IsSome (option_and_then (λ m. text_call_of at arguments (text_method_of p m)) c)
-text_called at arguments p None h = h
-text_called at arguments p (Some m) h = by_method (text_method_of p m) h
+text_called : (at : Site) (arguments : List Value) (p : Linked) (c : Option ℕ) → is_some (option_and_then (λ m. text_call_of at arguments (text_method_of p m)) c) ≡ is_some (kept (is_of_texts p) c)
+text_called at arguments p None = refl
+text_called at arguments p (Some m) = by_method (text_method_of p m)
   where
-    by_method : (x : Option TextMethod) → IsSome (if is_some x then Some m else None) → IsSome (text_call_of at arguments x)
-    by_method None h = h
-    by_method (Some x) h = refl
+    by_method : (x : Option TextMethod) → is_some (text_call_of at arguments x) ≡ is_some (if is_some x then Some m else None)
+    by_method None = refl
+    by_method (Some x) = refl
 
-no_text_called : (at : Site) (arguments : List Value) (p : Linked) (c : Option ℕ) → kept (is_of_texts p) c ≡ None → option_and_then (λ m. text_call_of at arguments (text_method_of p m)) c ≡ None
-no_text_called at arguments p None h = refl
-no_text_called at arguments p (Some m) h = by_method (text_method_of p m) h
-  where
-    by_method : (x : Option TextMethod) → (if is_some x then Some m else None) ≡ None → text_call_of at arguments x ≡ None
-    by_method None h = refl
-    by_method (Some x) h = cc
+text_row : (e : Moment) (at : Site) (r : Option Row) → is_some (option_and_then (text_call_at e at) r) ≡ is_some (kept (is_of_texts e.program) (option_and_then (deferred_at e at) r))
+text_row e at (Some (row.Call (Invoke kind))) = text_called at (passed_at e at kind) e.program (deferred_at e at (row.Call (Invoke kind)))
+text_row e at r = refl
 
-text_row : (e : Moment) (at : Site) (r : Option Row) → IsSome (kept (is_of_texts e.program) (option_and_then (deferred_at e at) r)) → IsSome (option_and_then (text_call_at e at) r)
-text_row e at None h = h
-text_row e at (Some (row.Frame r)) h = h
-text_row e at (Some row.PoolConstant) h = h
-text_row e at (Some (row.Divide n o)) h = h
-text_row e at (Some (row.Heap r)) h = h
-text_row e at (Some (row.Call (Invoke kind))) h = text_called at (passed_at e at kind) e.program (deferred_at e at (row.Call (Invoke kind))) h
-text_row e at (Some (row.Call (Return kind))) h = h
-text_row e at (Some row.Throw) h = h
-text_row e at (Some (row.Monitor r)) h = h
+text_decoded : (e : Moment) (d : Result (Instr × ℕ) CodeFault) → is_some (text_call_by e d) ≡ is_some (kept (is_of_texts e.program) (deferred_by e d))
+text_decoded e (Err fault) = refl
+text_decoded e (Ok x) = text_row e (site_of e.program (current_frame e) x) (row_of x.0.opcode)
 
-no_text_row : (e : Moment) (at : Site) (r : Option Row) → kept (is_of_texts e.program) (option_and_then (deferred_at e at) r) ≡ None → option_and_then (text_call_at e at) r ≡ None
-no_text_row e at None h = refl
-no_text_row e at (Some (row.Frame r)) h = refl
-no_text_row e at (Some row.PoolConstant) h = refl
-no_text_row e at (Some (row.Divide n o)) h = refl
-no_text_row e at (Some (row.Heap r)) h = refl
-no_text_row e at (Some (row.Call (Invoke kind))) h = no_text_called at (passed_at e at kind) e.program (deferred_at e at (row.Call (Invoke kind))) h
-no_text_row e at (Some (row.Call (Return kind))) h = refl
-no_text_row e at (Some row.Throw) h = refl
-no_text_row e at (Some (row.Monitor r)) h = refl
+text_in : (e : Moment) (turn : Turn) → is_some (text_call_in e turn) ≡ is_some (kept (is_of_texts e.program) (deferred_in e turn))
+text_in e Instruction = text_decoded e (decoded_at e.program (current_frame e))
+text_in e turn = refl
 
-text_decoded : (e : Moment) (d : Result (Instr × ℕ) CodeFault) → IsSome (kept (is_of_texts e.program) (deferred_by e d)) → IsSome (text_call_by e d)
-text_decoded e (Err fault) h = h
-text_decoded e (Ok x) h = text_row e (site_of e.program (current_frame e) x) (row_of x.0.opcode) h
-
-no_text_decoded : (e : Moment) (d : Result (Instr × ℕ) CodeFault) → kept (is_of_texts e.program) (deferred_by e d) ≡ None → text_call_by e d ≡ None
-no_text_decoded e (Err fault) h = refl
-no_text_decoded e (Ok x) h = no_text_row e (site_of e.program (current_frame e) x) (row_of x.0.opcode) h
-
-text_in : (e : Moment) (turn : Turn) → IsSome (kept (is_of_texts e.program) (deferred_in e turn)) → IsSome (text_call_in e turn)
-text_in e Unwind h = h
-text_in e EndThread h = h
-text_in e Entry h = h
-text_in e Initialize h = h
-text_in e Instruction h = text_decoded e (decoded_at e.program (current_frame e)) h
-
-no_text_in : (e : Moment) (turn : Turn) → kept (is_of_texts e.program) (deferred_in e turn) ≡ None → text_call_in e turn ≡ None
-no_text_in e Unwind h = refl
-no_text_in e EndThread h = refl
-no_text_in e Entry h = refl
-no_text_in e Initialize h = refl
-no_text_in e Instruction h = no_text_decoded e (decoded_at e.program (current_frame e)) h
-
-text_there : (p : Linked) (s : Kept) (t : ℕ) → IsSome (kept (is_of_texts p) (deferred_call p s t)) → IsSome (text_call p s t)
+text_there : (p : Linked) (s : Kept) (t : ℕ) → is_some (text_call p s t) ≡ is_some (kept (is_of_texts p) (deferred_call p s t))
 unfolding deferred_call text_call
-text_there p s t h =
+text_there p s t =
     let e : Moment = record { program = p; before = s; thread = t } in
-    text_in e (turn_of (thread_of e)) h
+    text_in e (turn_of (thread_of e))
 
-no_text_there : (p : Linked) (s : Kept) (t : ℕ) → kept (is_of_texts p) (deferred_call p s t) ≡ None → text_call p s t ≡ None
-unfolding deferred_call text_call
-no_text_there p s t h =
-    let e : Moment = record { program = p; before = s; thread = t } in
-    no_text_in e (turn_of (thread_of e)) h
+not_some : (o : Option TextCall) → is_some o ≡ false → o ≡ None
+not_some None h = refl
+not_some (Some x) h = cc
 
 some_of_two : (a b : Option ℕ) → IsSome (option_or a b) → IsSome a ⊎ IsSome b
 some_of_two None b h = inr h
@@ -268,14 +207,14 @@ none_of_two (Some m) b h = cc
 pub of_texts : (p : Linked) (s : Kept) (t : ℕ) → IsSome (text_turn p s t) → IsSome (text_call p s t) ⊎ IsSome (out_turn p s t)
 of_texts p s t h =
     elim (some_of_two (kept (is_of_texts p) (deferred_call p s t)) (out_method p s t) h) [
-      | inl called ↦ inl (text_there p s t called)
+      | inl called ↦ inl (text_there p s t ∙ called)
       | inr read ↦ inr (mapped (λ (x : OutRead). unwrap_or (top s.guest t).method 0) (out_turn p s t) read)
     ]
 
 of_no_texts : (p : Linked) (s : Kept) (t : ℕ) → text_turn p s t ≡ None → (text_call p s t ≡ None) × (out_turn p s t ≡ None)
 of_no_texts p s t h =
     let none = none_of_two (kept (is_of_texts p) (deferred_call p s t)) (out_method p s t) h in
-    (no_text_there p s t none.0, unmapped (λ (x : OutRead). unwrap_or (top s.guest t).method 0) (out_turn p s t) none.1)
+    (not_some (text_call p s t) (text_there p s t ∙ ap (λ (o : Option ℕ). is_some o) none.0), unmapped (λ (x : OutRead). unwrap_or (top s.guest t).method 0) (out_turn p s t) none.1)
 
 -- A TURN THAT IS OF NO TEXTS: what the table says of it is told of the state with texts, and nothing is printed
 module _ (p : Linked) (x : Texts) (m : MachineState) (t : ℕ) (silent_now : m.guest.texts ≡ no_texts) (none : text_turn p (kept_of m) t ≡ None) where

@@ -1,22 +1,14 @@
-use Rattle.std.proofs.Common.{◌≡◌, None, sym, ◌∙◌, arith}
+use Rattle.std.proofs.Common.{sym, ◌∙◌, arith}
 use Rattle.et_state.specs.State.{Kept, kept_of}
 use Rattle.et_event.specs.Event.{event}
 use Rattle.et_event.specs.declared.families.Family.TheVariants.{Ops, Throw, Sync}
-use Rattle.et_event.proofs.Deferrals.{answered, none_deferred}
 use Rattle.et_event.proofs.Answering.{if_ok}
-use Rattle.et_run.specs.WithTexts.{text_turn}
-use Rattle.et_run.proofs.TextTurns.{other_family, heap_answers, heap_read}
+use Rattle.et_run.proofs.TextTurns.{other_answers, other_not, heap_answers, heap_read}
 use Rattle.et_run.proofs.turns.event_by_family.Goals as goal
 
 pub returns-in-Ops-clause-event : goal.returns-in-Ops-clause-event
 returns-in-Ops-clause-event g c =
-    let p = c.args.program.now in
-    let m = c.args.machine.now in
-    let s : Kept = kept_of m in
-    let none : text_turn p s c.args.thread ≡ None = other_family p s c.args.thread Ops (sym c.turn_family.ensures ∙ c.in-Ops.is) (λ e. cc) (λ e. cc) in
-    if_ok c.ops_event.result
-    (λ end a. answered (text_turn p s c.args.thread) (event p s c.args.thread) end m c.ops_event.new.machine c.args.out.now c.ops_event.new.out none a)
-    c.ops_event.ensures.event
+    other_answers c.args.program.now c.args.thread Ops c.args.machine.now c.ops_event.new.machine c.args.out.now c.ops_event.new.out c.ops_event.result (sym c.turn_family.ensures ∙ c.in-Ops.is) (λ e. cc) (λ e. cc) c.ops_event.ensures.event
 
 pub returns-in-Refs-clause-event : goal.returns-in-Refs-clause-event
 returns-in-Refs-clause-event g c =
@@ -36,32 +28,14 @@ returns-in-Refs-clause-deferred g c = λ some.
 
 pub returns-in-Throw-clause-event : goal.returns-in-Throw-clause-event
 returns-in-Throw-clause-event g c =
-    let p = c.args.program.now in
-    let m = c.args.machine.now in
-    let s : Kept = kept_of m in
-    let none : text_turn p s c.args.thread ≡ None = other_family p s c.args.thread Throw (sym c.turn_family.ensures ∙ c.in-Throw.is) (λ e. cc) (λ e. cc) in
-    if_ok c.throw_event.result
-    (λ end a. answered (text_turn p s c.args.thread) (event p s c.args.thread) end m c.throw_event.new.machine c.args.out.now c.throw_event.new.out none a)
-    c.throw_event.ensures.event
+    other_answers c.args.program.now c.args.thread Throw c.args.machine.now c.throw_event.new.machine c.args.out.now c.throw_event.new.out c.throw_event.result (sym c.turn_family.ensures ∙ c.in-Throw.is) (λ e. cc) (λ e. cc) c.throw_event.ensures.event
 
 pub returns-in-Throw-clause-deferred : goal.returns-in-Throw-clause-deferred
-returns-in-Throw-clause-deferred g c = λ some.
-    let p = c.args.program.now in
-    let s : Kept = kept_of c.args.machine.now in
-    absurd (none_deferred (text_turn p s c.args.thread) (other_family p s c.args.thread Throw (sym c.turn_family.ensures ∙ c.in-Throw.is) (λ e. cc) (λ e. cc)) some)
+returns-in-Throw-clause-deferred g c = λ some. absurd (other_not c.args.program.now (kept_of c.args.machine.now) c.args.thread Throw (sym c.turn_family.ensures ∙ c.in-Throw.is) (λ e. cc) (λ e. cc) some)
 
 pub returns-in-Sync-clause-event : goal.returns-in-Sync-clause-event
 returns-in-Sync-clause-event g c =
-    let p = c.args.program.now in
-    let m = c.args.machine.now in
-    let s : Kept = kept_of m in
-    let none : text_turn p s c.args.thread ≡ None = other_family p s c.args.thread Sync (sym c.turn_family.ensures ∙ c.in-Sync.is) (λ e. cc) (λ e. cc) in
-    if_ok c.sync_event.result
-    (λ end a. answered (text_turn p s c.args.thread) (event p s c.args.thread) end m c.sync_event.new.machine c.args.out.now c.sync_event.new.out none a)
-    c.sync_event.ensures.event
+    other_answers c.args.program.now c.args.thread Sync c.args.machine.now c.sync_event.new.machine c.args.out.now c.sync_event.new.out c.sync_event.result (sym c.turn_family.ensures ∙ c.in-Sync.is) (λ e. cc) (λ e. cc) c.sync_event.ensures.event
 
 pub returns-in-Sync-clause-deferred : goal.returns-in-Sync-clause-deferred
-returns-in-Sync-clause-deferred g c = λ some.
-    let p = c.args.program.now in
-    let s : Kept = kept_of c.args.machine.now in
-    absurd (none_deferred (text_turn p s c.args.thread) (other_family p s c.args.thread Sync (sym c.turn_family.ensures ∙ c.in-Sync.is) (λ e. cc) (λ e. cc)) some)
+returns-in-Sync-clause-deferred g c = λ some. absurd (other_not c.args.program.now (kept_of c.args.machine.now) c.args.thread Sync (sym c.turn_family.ensures ∙ c.in-Sync.is) (λ e. cc) (λ e. cc) some)

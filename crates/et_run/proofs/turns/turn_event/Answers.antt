@@ -17,6 +17,7 @@ use Rattle.et_run.proofs.Answering.{on_ok, sound_after, texts_after, unended_wit
 use Rattle.et_run.proofs.Flushing.{machine_sound}
 use Rattle.et_run.proofs.TextTurns.{left, not_left, of_texts, tabled, tabled_grown, tabled_unsaid}
 use Rattle.et_run.proofs.turns.turn_event.Given as given
+use Rattle.et_run.proofs.turns.turn_event.Goals.{In-Native}
 use Rattle.et_run.proofs.turns.turn_event.Goals as goal
 
 -- few objects are visited in a turn of texts, and in another as many objects are made
@@ -44,49 +45,41 @@ returns-in_err-end-clause-visits g c =
     few_visits (text_turn p s c.args.thread) c.args.visits.now c.event_by_family.new.visits (length (state_after (spoken x s) (event_with_texts p (spoken x s) c.args.thread)).heap) (length (state_after s (event p s c.args.thread)).heap) (length m.heap)
     (λ none. tabled_grown p x m c.args.thread c.has_no_texts.ensures none) c.in_err-end.ensures.deferred c.in_err-end.ensures.visits
 
+-- the event was left to the event call of texts
+left_text : (g : given.Over) (c : In-Native g) → IsSome (text_turn c.args.program.now (kept_of c.args.running.now.machine) c.args.thread) × (c.event_by_family.new.machine ≡ c.args.running.now.machine) × (c.event_by_family.new.out ≡ c.args.out.now.records)
+left_text g c =
+    let p = c.args.program.now in
+    let m = c.args.running.now.machine in
+    left (text_turn p (kept_of m) c.args.thread) (event p (kept_of m) c.args.thread) c.in_ok-end.end c.in-Native.method m c.event_by_family.new.machine c.args.out.now.records c.event_by_family.new.out c.in-Native.is c.in_ok-end.ensures.event
+
 pub strings_event-requires-clause-begins : goal.strings_event-requires-clause-begins
 strings_event-requires-clause-begins g c =
     let p = c.args.program.now in
-    let m = c.args.running.now.machine in
-    let s : Kept = kept_of m in
-    let is = left (text_turn p s c.args.thread) (event p s c.args.thread) c.in_ok-end.end c.in-Native.method m c.event_by_family.new.machine c.args.out.now.records c.event_by_family.new.out c.in-Native.is c.in_ok-end.ensures.event in
-    subst (λ (x : MachineState). BeginsEvent p x c.args.thread) (sym is.1) (record {
+    subst (λ (x : MachineState). BeginsEvent p x c.args.thread) (sym (left_text g (goal.at.strings_event-requires-clause-begins g c).In-Native).1) (record {
       program = c.requires.program;
-      sound = machine_sound p c.args.running.now.texts m c.has_no_texts.ensures c.requires.sound;
+      sound = machine_sound p c.args.running.now.texts c.args.running.now.machine c.has_no_texts.ensures c.requires.sound;
       clock = c.requires.clock;
       thread = c.requires.thread;
     })
 
 pub strings_event-requires-clause-texts : goal.strings_event-requires-clause-texts
 strings_event-requires-clause-texts g c =
-    let p = c.args.program.now in
-    let m = c.args.running.now.machine in
-    let s : Kept = kept_of m in
-    let is = left (text_turn p s c.args.thread) (event p s c.args.thread) c.in_ok-end.end c.in-Native.method m c.event_by_family.new.machine c.args.out.now.records c.event_by_family.new.out c.in-Native.is c.in_ok-end.ensures.event in
-    subst (λ (x : MachineState). HasSoundTexts p (spoken c.args.running.now.texts (kept_of x))) (sym is.1) c.requires.texts
+    subst (λ (x : MachineState). HasSoundTexts c.args.program.now (spoken c.args.running.now.texts (kept_of x))) (sym (left_text g (goal.at.strings_event-requires-clause-texts g c).In-Native).1) c.requires.texts
 
 pub strings_event-requires-clause-turn : goal.strings_event-requires-clause-turn
 strings_event-requires-clause-turn g c =
     let p = c.args.program.now in
-    let m = c.args.running.now.machine in
-    let s : Kept = kept_of m in
-    let is = left (text_turn p s c.args.thread) (event p s c.args.thread) c.in_ok-end.end c.in-Native.method m c.event_by_family.new.machine c.args.out.now.records c.event_by_family.new.out c.in-Native.is c.in_ok-end.ensures.event in
-    subst (λ (x : MachineState). IsSome (text_call p (kept_of x) c.args.thread) ⊎ IsSome (out_turn p (kept_of x) c.args.thread)) (sym is.1) (of_texts p s c.args.thread is.0)
+    let is = left_text g (goal.at.strings_event-requires-clause-turn g c).In-Native in
+    subst (λ (x : MachineState). IsSome (text_call p (kept_of x) c.args.thread) ⊎ IsSome (out_turn p (kept_of x) c.args.thread)) (sym is.1) (of_texts p (kept_of c.args.running.now.machine) c.args.thread is.0)
 
 pub returns-in-Native-clause-said : goal.returns-in-Native-clause-said
 returns-in-Native-clause-said g c =
-    let p = c.args.program.now in
-    let m = c.args.running.now.machine in
-    let s : Kept = kept_of m in
-    let is = left (text_turn p s c.args.thread) (event p s c.args.thread) c.in_ok-end.end c.in-Native.method m c.event_by_family.new.machine c.args.out.now.records c.event_by_family.new.out c.in-Native.is c.in_ok-end.ensures.event in
-    subst (λ (x : MachineState). IfOk c.strings_event.result (λ end. SaysWhereDone end (said_by p (spoken c.args.running.now.texts (kept_of x)) c.args.thread) c.args.out.now.said.items c.strings_event.new.out.said.items)) is.1 c.strings_event.ensures.said
+    let is = left_text g (goal.at.returns-in-Native-clause-said g c).In-Native in
+    subst (λ (x : MachineState). IfOk c.strings_event.result (λ end. SaysWhereDone end (said_by c.args.program.now (spoken c.args.running.now.texts (kept_of x)) c.args.thread) c.args.out.now.said.items c.strings_event.new.out.said.items)) is.1 c.strings_event.ensures.said
 
 pub returns-in-Native-clause-visits : goal.returns-in-Native-clause-visits
 returns-in-Native-clause-visits g c =
-    let p = c.args.program.now in
-    let m = c.args.running.now.machine in
-    let s : Kept = kept_of m in
-    let is = left (text_turn p s c.args.thread) (event p s c.args.thread) c.in_ok-end.end c.in-Native.method m c.event_by_family.new.machine c.args.out.now.records c.event_by_family.new.out c.in-Native.is c.in_ok-end.ensures.event in
+    let is = left_text g (goal.at.returns-in-Native-clause-visits g c).In-Native in
     let few = c.in_ok-end.ensures.deferred is.0 in
     omega (arith, few, c.strings_event.ensures.visits)
 
