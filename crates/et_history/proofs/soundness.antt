@@ -1,3 +1,4 @@
+mod Finding
 pub mod Growing
 pub mod Wholes
 pub mod Threads

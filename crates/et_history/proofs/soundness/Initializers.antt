@@ -1,8 +1,7 @@
 -- A step of an initializer.
-use Rattle.std.proofs.Common.{◌≡◌, ℕ, ◌<◌, ◌≤◌, ◌^◌, Bool, true, false, not, List, [], ◌∷◌, length, Option, Some, None, refl, sym, ap, subst}
-use Rattle.std.specs.Prelude.{All, fold, find, take_while, if◌then◌else◌}
+use Rattle.std.proofs.Common.{◌≡◌, ℕ, ◌<◌, ◌≤◌, ◌^◌, not, List, [], ◌∷◌, length, Option, Some, None, refl, sym, ap, subst}
+use Rattle.std.specs.Prelude.{fold, find, take_while}
 use Rattle.std.specs.List.{slice_index_or}
-use Rattle.std.proofs.lemmas.List.Elements.{All-head, All-tail}
 use Rattle.et_code.specs.Bodies.{Body}
 use Rattle.et_program.specs.Entries.{Linked, class_at, method_at}
 use Rattle.et_state.specs.declared.stage.Stage.TheVariants.{Before}
@@ -19,6 +18,7 @@ use Rattle.et_history.specs.soundness.Outcomes.{KeepsSound}
 use Rattle.et_event.specs.Programs.{MakesSound, HasInitializers, IsInitializer}
 use Rattle.et_history.specs.soundness.WellFormed.{IsWellFormed, IsFurther}
 use Rattle.et_history.proofs.soundness.Frames.{with_first, clinit_frames}
+use Rattle.et_history.proofs.soundness.Finding.{find_holds}
 use Rattle.et_history.proofs.soundness.Initializing.{further_itself, further_then, all_done, initialized_sound, not_done}
 use Rattle.et_history.proofs.soundness.Monitors.{class_well}
 use Rattle.et_history.proofs.soundness.Outcomes.{begins_well, ends_sound}
@@ -39,20 +39,6 @@ prepared_by e (c ∷ cs) d initializers makes h =
     let x : Doing = quietly_if_untouched e c (state_of d c) d in
     let one : IsFurther e d x = quietly_by e c (state_of d c) d initializers makes h in
     further_then e d x (fold (λ y k. quietly_if_untouched e k (state_of y k) y) x cs) one (prepared_by e cs x initializers makes one.well)
-
-found_in : (P : ℕ → Type 0) (test : ℕ → Bool) (cs : List ℕ) (c : ℕ) → All P cs → find test cs ≡ Some c → P c
-found_in P test [] c all e = absurd (nothing e)
-  where
-    nothing : None ≡ Some c → ⊥
-    nothing q = cc
-found_in P test (x ∷ xs) c all e = by (test x) e (found_in P test xs c (All-tail P x xs all))
-  where
-    same : Some x ≡ Some c → x ≡ c
-    same q = cc
-
-    by : (b : Bool) → (if b then Some x else find test xs) ≡ Some c → (find test xs ≡ Some c → P c) → P c
-    by true q rest = subst P (same q) (All-head P x xs all)
-    by false q rest = rest q
 
 -- <clinit> IS ENTERED, or there is none and the class is done
 
@@ -104,5 +90,5 @@ step_sound e c sound clock has stage lt initializers makes =
     by : (d : Doing) → IsFurther e (begins e) d → (o : Option ℕ) → find (λ k. not (is_ready e (begins e) k)) (class_at e.program c).info.prerequisites ≡ o → KeepsSound e.program (step_by e c d o)
     by d f None q = enters d f (class_at e.program c).info.clinit refl
     by d f (Some k) q =
-        let inside : k < length e.program.classes = found_in (λ j. j < length e.program.classes) (λ j. not (is_ready e (begins e) j)) (class_at e.program c).info.prerequisites k (initializers.prerequisites c lt) q in
+        let inside : k < length e.program.classes = find_holds (λ j. j < length e.program.classes) (λ j. not (is_ready e (begins e) j)) (class_at e.program c).info.prerequisites k (initializers.prerequisites c lt) q in
         initialized_sound e d k ends_event sound clock initializers makes inside (record { well = f.well; thread = subst (λ (ts : List ThreadState). e.thread < length ts) (sym f.threads) has.thread }) (λ x going further touched. ends_sound e.program x going.well)

@@ -1,9 +1,8 @@
 -- What reads no slot and makes no object: casts, throwing and unwinding, monitors, the end of a thread.
 use Rattle.std.proofs.Common.{◌≡◌, ℕ, ◌+◌, ◌-◌, ◌<◌, ◌≤◌, ◌^◌, ◌&&◌, ◌||◌, ◌==◌, Bool, true, false, List, [], ◌∷◌, ◌++◌, length, Option, Some, None, refl, sym, ◌∙◌, ap, subst, inl, arith, rules, IsTrue, Contains}
-use Rattle.std.specs.Prelude.{ℤ, pos, All, nat_lt, int_le, if◌then◌else◌, find, unwrap_or, option_to_list, option_map}
+use Rattle.std.specs.Prelude.{ℤ, pos, nat_lt, int_le, if◌then◌else◌, find, unwrap_or, option_to_list, option_map}
 use Rattle.std.proofs.lemmas.Bool.{false≢true, ltb-true}
 use Rattle.std.proofs.lemmas.List.{length-set, get_or-append_right}
-use Rattle.std.proofs.lemmas.List.Elements.{All-head, All-tail}
 use Rattle.et_base.specs.declared.value.Value.{Value}
 use Rattle.et_base.specs.declared.value.Value.TheVariants.{Ref}
 use Rattle.et_class.specs.Names.{has}
@@ -46,6 +45,7 @@ use Rattle.et_event.specs.Initialization.{with_state}
 use Rattle.et_history.specs.soundness.Outcomes.{KeepsSound}
 use Rattle.et_event.specs.Programs.{MakesSound, MayHold}
 use Rattle.et_history.specs.soundness.WellFormed.{IsWellFormed, IsUnderWayAt, KeepsFrame, StandsAt, IsThere, MayBeThread}
+use Rattle.et_history.proofs.soundness.Finding.{find_holds}
 use Rattle.et_history.proofs.soundness.Fields.{going, operands_there, leaving_well, leaving_sound}
 use Rattle.et_history.proofs.soundness.Frames.{with_first, frames_still, left_frames, fewer_frames}
 use Rattle.et_history.proofs.soundness.Monitors.{entered_well, entered_fits, left_well, left_fits, monitor_count, class_well}
@@ -145,23 +145,9 @@ handler_by true false c false e h = absurd (false≢true h)
 handler_by true true false false e h = absurd (false≢true h)
 handler_by true true true false e h = absurd (false≢true h)
 
-found_holds : (P : TableRow → Type 0) (test : TableRow → Bool) (rows : List TableRow) (row : TableRow) → All P rows → find test rows ≡ Some row → P row
-found_holds P test [] row all e = absurd (nothing e)
-  where
-    nothing : None ≡ Some row → ⊥
-    nothing q = cc
-found_holds P test (x ∷ xs) row all e = by (test x) e (found_holds P test xs row (All-tail P x xs all))
-  where
-    same : Some x ≡ Some row → x ≡ row
-    same q = cc
-
-    by : (b : Bool) → (if b then Some x else find test xs) ≡ Some row → (find test xs ≡ Some row → P row) → P row
-    by true q rest = subst P (same q) (All-head P x xs all)
-    by false q rest = rest q
-
 pub handler_pc : (b : Body) (tags : List ℕ) (test : TableRow → Bool) (row : TableRow) → IsKeptCode b tags → find test b.table ≡ Some row → IsPc b row.handler
 handler_pc b tags test row kept e =
-    let holds : row_holds (length b.code) tags (is_start b.code) row ≡ true = found_holds (λ r. row_holds (length b.code) tags (is_start b.code) r ≡ true) test b.table row kept.rows e in
+    let holds : row_holds (length b.code) tags (is_start b.code) row ≡ true = find_holds (λ r. row_holds (length b.code) tags (is_start b.code) r ≡ true) test b.table row kept.rows e in
     let start : is_start b.code row.handler ≡ true =
     handler_by (is_start b.code row.start) (nat_lt row.start row.end) (is_start b.code row.end || (row.end == length b.code)) (is_start b.code row.handler) ((row.catch == 0) || (tag_in tags (pos row.catch) == 7)) holds in
     let t : IsTrue (is_start b.code row.handler) = search (rules, start) in

@@ -1,9 +1,9 @@
 -- Values that fields and elements may hold.
-use Rattle.std.proofs.Common.{◌≡◌, ℕ, ◌==◌, true, false, Option, Some, refl, sym, ◌∙◌, ap, subst, inl, inr}
+use Rattle.std.proofs.Common.{◌≡◌, ℕ, ◌==◌, true, Option, Some, refl, sym, ◌∙◌, ap, subst, inl, inr}
 use mathlib.Core.Logic.{⊎_elim}
 use Rattle.std.proofs.lemmas.Bool.{eqb-true, or_cases, false≢true}
 use Rattle.et_base.specs.declared.value.Value.{Value}
-use Rattle.et_base.specs.declared.value.Value.TheVariants.{Unset, Int, Long, LongHigh, Null, Ref}
+use Rattle.et_base.specs.declared.value.Value.TheVariants.{Int}
 use Rattle.et_program.specs.Entries.{Linked, class_at, field_at}
 use Rattle.et_program.specs.declared.info.Element.{Element}
 use Rattle.et_program.specs.declared.info.Element.TheVariants.{NoArray, Base, Class}
@@ -63,27 +63,10 @@ elements_are_array kind (Class c) h = refl
 
 -- what an element keeps of a value is of the same kind
 kept_kind : (kind : Elements) (v : Value) → is_of_kind (Some (kind_of_elements kind)) v ≡ true → is_of_kind (Some (kind_of_elements kind)) (kept_element kind v) ≡ true
-kept_kind elements.Int v h = h
-kept_kind elements.Long v h = h
-kept_kind elements.Reference v h = h
-kept_kind elements.Byte Unset h = h
 kept_kind elements.Byte (Int n) h = refl
-kept_kind elements.Byte (Long n) h = h
-kept_kind elements.Byte LongHigh h = h
-kept_kind elements.Byte Null h = h
-kept_kind elements.Byte (Ref o) h = h
-kept_kind elements.Char Unset h = h
 kept_kind elements.Char (Int n) h = refl
-kept_kind elements.Char (Long n) h = h
-kept_kind elements.Char LongHigh h = h
-kept_kind elements.Char Null h = h
-kept_kind elements.Char (Ref o) h = h
-kept_kind elements.Short Unset h = h
 kept_kind elements.Short (Int n) h = refl
-kept_kind elements.Short (Long n) h = h
-kept_kind elements.Short LongHigh h = h
-kept_kind elements.Short Null h = h
-kept_kind elements.Short (Ref o) h = h
+kept_kind other v h = h
 
 not_bare : (e : Element) → is_array_element e ≡ true → e ≡ NoArray → ⊥
 not_bare e h none = false≢true (sym (ap (λ (x : Element). is_array_element x) none) ∙ h)

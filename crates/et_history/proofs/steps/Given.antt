@@ -1,6 +1,6 @@
 -- What a row gives refers to what is held.
 use Rattle.et_base.specs.declared.value.Value.{Value}
-use Rattle.et_base.specs.declared.value.Value.TheVariants.{Int, Long, LongHigh, Null, Ref, Unset}
+use Rattle.et_base.specs.declared.value.Value.TheVariants.{Int}
 use Rattle.et_event.specs.Heap.{truth, with_lengths}
 use Rattle.et_event.specs.Kinds.{kept_element}
 use Rattle.et_event.specs.declared.rows.Elements.{Elements}
@@ -12,27 +12,10 @@ use Rattle.std.specs.Prelude.{ℤ}
 use Rattle.et_event.specs.declared.rows.Elements.TheVariants as elements
 
 pub kept_fine : (h : Objects) (kind : Elements) (v : Value) → Fine h v → Fine h (kept_element kind v)
-kept_fine h elements.Int v f = f
-kept_fine h elements.Long v f = f
-kept_fine h elements.Reference v f = f
-kept_fine h elements.Byte Unset f = f
 kept_fine h elements.Byte (Int n) f = tt
-kept_fine h elements.Byte (Long n) f = f
-kept_fine h elements.Byte LongHigh f = f
-kept_fine h elements.Byte Null f = f
-kept_fine h elements.Byte (Ref o) f = f
-kept_fine h elements.Char Unset f = f
 kept_fine h elements.Char (Int n) f = tt
-kept_fine h elements.Char (Long n) f = f
-kept_fine h elements.Char LongHigh f = f
-kept_fine h elements.Char Null f = f
-kept_fine h elements.Char (Ref o) f = f
-kept_fine h elements.Short Unset f = f
 kept_fine h elements.Short (Int n) f = tt
-kept_fine h elements.Short (Long n) f = f
-kept_fine h elements.Short LongHigh f = f
-kept_fine h elements.Short Null f = f
-kept_fine h elements.Short (Ref o) f = f
+kept_fine h other v f = f
 
 pub truth_fine : (h : Objects) (b : Bool) → Fine h (truth b)
 truth_fine h true = tt

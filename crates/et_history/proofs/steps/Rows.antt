@@ -23,7 +23,7 @@ use Rattle.et_event.specs.declared.rows.MonitorRow.{MonitorRow}
 use Rattle.et_event.specs.declared.rows.Number.{Number}
 use Rattle.et_graph.specs.Graph.{IsReached}
 use Rattle.et_state.specs.Roots.{graph_of}
-use Rattle.et_heap.specs.Objects.{IsHeld, at, found, object_at, slot_of}
+use Rattle.et_heap.specs.Objects.{IsHeld, at, object_at, slot_of}
 use Rattle.et_pool.specs.Descriptors.{is_field_descriptor}
 use Rattle.et_program.specs.Entries.{Linked, class_at, field_at}
 use Rattle.et_program.specs.Members.{base_array, is_subclass}

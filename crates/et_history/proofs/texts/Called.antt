@@ -16,7 +16,7 @@ use Rattle.et_program.specs.Resolution.{resolve_class, resolve_method, select, s
 use Rattle.et_state.specs.State.{Kept}
 use Rattle.et_state.specs.Threads.{turn_of}
 use Rattle.et_state.specs.declared.stage.Turn.{Turn}
-use Rattle.et_state.specs.declared.stage.Turn.TheVariants.{Unwind, EndThread, Entry, Initialize, Instruction}
+use Rattle.et_state.specs.declared.stage.Turn.TheVariants.{Instruction}
 use Rattle.et_event.specs.Calls.{arguments_of, call_fits, entry_count, fits_resolved, is_as, is_static_call, special_class}
 use Rattle.et_event.specs.Frames.{first_reference}
 use Rattle.et_event.specs.Moments.{Moment, begins, current_frame, object_class, thread_of}
@@ -25,9 +25,9 @@ use Rattle.et_event.specs.Sites.{Member, Site, decoded_at, names_interface, site
 use Rattle.et_event.specs.Table.{row_of}
 use Rattle.et_event.specs.declared.rows.CallKind.{CallKind}
 use Rattle.et_event.specs.declared.rows.CallKind.TheVariants.{Interface, Special, Static, Virtual}
-use Rattle.et_event.specs.declared.rows.CallRow.TheVariants.{Invoke, Return}
+use Rattle.et_event.specs.declared.rows.CallRow.TheVariants.{Invoke}
 use Rattle.et_event.specs.declared.rows.Row.{Row}
-use Rattle.et_event.specs.declared.rows.Row.TheVariants.{Call, Divide, Frame, Heap, Monitor, PoolConstant, Throw}
+use Rattle.et_event.specs.declared.rows.Row.TheVariants.{Call}
 use Rattle.et_history.specs.soundness.Methods.{IsInstanceMethod, IsMethod}
 use Rattle.et_history.proofs.soundness.Invoking.{as_wanted}
 use Rattle.et_history.proofs.soundness.Resolving.{resolved_method, selected_method, selected_special}
@@ -118,14 +118,8 @@ called_at e x kind call turn is row h =
     called_by e x kind call a.0 b.0 c.0 turn is row (given at (passed_at e at kind) (text_method_of p a.0) call a.2) b.1 c.1 d.0 d.1
 
 by_its_row : (e : Moment) (x : Instr × ℕ) (r : Row) (call : TextCall) → turn_of (thread_of e) ≡ Instruction → decoded_at e.program (current_frame e) ≡ Ok x → row_of x.0.opcode ≡ Some r → text_call_at e (site_of e.program (current_frame e) x) r ≡ Some call → IsTextCall e call
-by_its_row e x (Frame r) call turn is row h = absurd (none-some call h)
-by_its_row e x PoolConstant call turn is row h = absurd (none-some call h)
-by_its_row e x (Divide n o) call turn is row h = absurd (none-some call h)
-by_its_row e x (Heap r) call turn is row h = absurd (none-some call h)
 by_its_row e x (Call (Invoke kind)) call turn is row h = called_at e x kind call turn is row h
-by_its_row e x (Call (Return kind)) call turn is row h = absurd (none-some call h)
-by_its_row e x Throw call turn is row h = absurd (none-some call h)
-by_its_row e x (Monitor r) call turn is row h = absurd (none-some call h)
+by_its_row e x other call turn is row h = absurd (none-some call h)
 
 by_decoded : (e : Moment) (x : Result (Instr × ℕ) CodeFault) (call : TextCall) → turn_of (thread_of e) ≡ Instruction → decoded_at e.program (current_frame e) ≡ x → text_call_by e x ≡ Some call → IsTextCall e call
 by_decoded e (Err fault) call turn is h = absurd (none-some call h)
@@ -134,11 +128,8 @@ by_decoded e (Ok x) call turn is h =
     by_its_row e x r.0 call turn is r.1 r.2
 
 by_its_turn : (e : Moment) (turn : Turn) (call : TextCall) → turn_of (thread_of e) ≡ turn → text_call_in e turn ≡ Some call → IsTextCall e call
-by_its_turn e Unwind call is h = absurd (none-some call h)
-by_its_turn e EndThread call is h = absurd (none-some call h)
-by_its_turn e Entry call is h = absurd (none-some call h)
-by_its_turn e Initialize call is h = absurd (none-some call h)
 by_its_turn e Instruction call is h = by_decoded e (decoded_at e.program (current_frame e)) call is refl h
+by_its_turn e other call is h = absurd (none-some call h)
 
 pub text_called : (p : Linked) (s : Kept) (t : ℕ) (call : TextCall) → text_call p s t ≡ Some call → IsTextCall (record { program = p; before = s; thread = t }) call
 unfolding text_call

@@ -15,7 +15,7 @@ use Rattle.et_state.specs.Words.{class_state_at}
 use Rattle.et_state.specs.declared.class_state.ClassState.{ClassState}
 use Rattle.et_state.specs.declared.class_state.ClassState.TheVariants.{Untouched, Begun, Done, Failed}
 use Rattle.et_state.specs.declared.stage.Turn.{Turn}
-use Rattle.et_state.specs.declared.stage.Turn.TheVariants.{Unwind, EndThread, Entry, Initialize, Instruction}
+use Rattle.et_state.specs.declared.stage.Turn.TheVariants.{Instruction}
 use Rattle.et_event.specs.Heap.{field_fits, is_out, is_static_at}
 use Rattle.et_event.specs.Moments.{Moment, current_frame, thread_of}
 use Rattle.et_event.specs.Out.{OutRead, field_read, is_done, out_at, out_by, out_in, out_of, out_turn}
@@ -24,7 +24,7 @@ use Rattle.et_event.specs.Table.{row_of}
 use Rattle.et_event.specs.declared.rows.HeapRow.{HeapRow}
 use Rattle.et_event.specs.declared.rows.HeapRow.TheVariants as heap
 use Rattle.et_event.specs.declared.rows.Row.{Row}
-use Rattle.et_event.specs.declared.rows.Row.TheVariants.{Call, Divide, Frame, Heap, Monitor, PoolConstant, Throw}
+use Rattle.et_event.specs.declared.rows.Row.TheVariants.{Heap}
 use Rattle.et_history.proofs.soundness.Fields.{IsField, field_found}
 use Rattle.et_history.proofs.texts.Called.{and_then_some, if_some, result_some}
 
@@ -83,27 +83,11 @@ read_at e x y turn is row h =
 
 by_heap_row : (e : Moment) (x : Instr × ℕ) (r : HeapRow) (y : OutRead) → turn_of (thread_of e) ≡ Instruction → decoded_at e.program (current_frame e) ≡ Ok x → row_of x.0.opcode ≡ Some (Heap r) → out_at e (site_of e.program (current_frame e) x) (Heap r) ≡ Some y → IsOutRead e y
 by_heap_row e x heap.GetStatic y turn is row h = read_at e x y turn is row h
-by_heap_row e x heap.PutStatic y turn is row h = absurd (none-some y h)
-by_heap_row e x heap.GetField y turn is row h = absurd (none-some y h)
-by_heap_row e x heap.PutField y turn is row h = absurd (none-some y h)
-by_heap_row e x (heap.LoadElement kind) y turn is row h = absurd (none-some y h)
-by_heap_row e x (heap.StoreElement kind) y turn is row h = absurd (none-some y h)
-by_heap_row e x heap.New y turn is row h = absurd (none-some y h)
-by_heap_row e x heap.NewArray y turn is row h = absurd (none-some y h)
-by_heap_row e x heap.NewReferenceArray y turn is row h = absurd (none-some y h)
-by_heap_row e x heap.NewMultiArray y turn is row h = absurd (none-some y h)
-by_heap_row e x heap.ArrayLength y turn is row h = absurd (none-some y h)
-by_heap_row e x heap.CheckCast y turn is row h = absurd (none-some y h)
-by_heap_row e x heap.InstanceOf y turn is row h = absurd (none-some y h)
+by_heap_row e x other y turn is row h = absurd (none-some y h)
 
 by_its_row : (e : Moment) (x : Instr × ℕ) (r : Row) (y : OutRead) → turn_of (thread_of e) ≡ Instruction → decoded_at e.program (current_frame e) ≡ Ok x → row_of x.0.opcode ≡ Some r → out_at e (site_of e.program (current_frame e) x) r ≡ Some y → IsOutRead e y
-by_its_row e x (Frame r) y turn is row h = absurd (none-some y h)
-by_its_row e x PoolConstant y turn is row h = absurd (none-some y h)
-by_its_row e x (Divide n o) y turn is row h = absurd (none-some y h)
 by_its_row e x (Heap r) y turn is row h = by_heap_row e x r y turn is row h
-by_its_row e x (Call r) y turn is row h = absurd (none-some y h)
-by_its_row e x Throw y turn is row h = absurd (none-some y h)
-by_its_row e x (Monitor r) y turn is row h = absurd (none-some y h)
+by_its_row e x other y turn is row h = absurd (none-some y h)
 
 by_decoded : (e : Moment) (x : Result (Instr × ℕ) CodeFault) (y : OutRead) → turn_of (thread_of e) ≡ Instruction → decoded_at e.program (current_frame e) ≡ x → out_by e x ≡ Some y → IsOutRead e y
 by_decoded e (Err fault) y turn is h = absurd (none-some y h)
@@ -112,11 +96,8 @@ by_decoded e (Ok x) y turn is h =
     by_its_row e x r.0 y turn is r.1 r.2
 
 by_its_turn : (e : Moment) (turn : Turn) (y : OutRead) → turn_of (thread_of e) ≡ turn → out_in e turn ≡ Some y → IsOutRead e y
-by_its_turn e Unwind y is h = absurd (none-some y h)
-by_its_turn e EndThread y is h = absurd (none-some y h)
-by_its_turn e Entry y is h = absurd (none-some y h)
-by_its_turn e Initialize y is h = absurd (none-some y h)
 by_its_turn e Instruction y is h = by_decoded e (decoded_at e.program (current_frame e)) y is refl h
+by_its_turn e other y is h = absurd (none-some y h)
 
 pub out_found : (p : Linked) (s : Kept) (t : ℕ) (y : OutRead) → out_turn p s t ≡ Some y → IsOutRead (record { program = p; before = s; thread = t }) y
 unfolding out_turn

@@ -94,13 +94,8 @@ module _ (e : Moment) (ready : Ready e) (framed : IsFramed e) where
   where_not_null (Some o) go h = h o
 
   where_int : (vs : List Value) (go : ℤ → List Value → Outcome Kept) → ((i : ℤ) (below : List Value) → LeadsBeside e (go i below)) → LeadsBeside e (with_int (ill_typed e) vs go)
-  where_int [] go h = tt
-  where_int (value.Unset ∷ below) go h = tt
   where_int (value.Int n ∷ below) go h = h n below
-  where_int (value.Long n ∷ below) go h = tt
-  where_int (value.LongHigh ∷ below) go h = tt
-  where_int (value.Null ∷ below) go h = tt
-  where_int (value.Ref o ∷ below) go h = tt
+  where_int other go h = tt
 
   pub unless_ill_typed : (b : Bool) (go : Outcome Kept) → (b ≡ true → LeadsBeside e go) → LeadsBeside e (ill_typed_unless e b go)
   unless_ill_typed true go h = h refl
