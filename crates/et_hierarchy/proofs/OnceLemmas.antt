@@ -1,14 +1,13 @@
 -- Lists that have each class once.
-use Rattle.std.proofs.Common.{◌≡◌, ℕ, ◌==◌, ◌||◌, Bool, true, false, cond, List, [], ◌∷◌, ◌++◌, Option, None, Some, IfSome, refl, sym, ◌∙◌, ap, arith}
+use Rattle.std.proofs.Common.{◌≡◌, ℕ, ◌==◌, ◌||◌, Bool, true, false, cond, List, [], ◌∷◌, ◌++◌, Option, None, Some, IfSome, drop, refl, sym, ◌∙◌, ap, arith}
 use mathlib.Core.Logic.{⊎_elim}
-use Rattle.std.specs.Prelude.{Contains, length}
-use Rattle.std.specs.Bool.{OnTrue}
+use Rattle.std.specs.Prelude.{Contains}
 use Rattle.std.specs.List.{list_any, flat_map}
 use Rattle.std.specs.Option.{option_to_list}
-use Rattle.std.proofs.lemmas.Bool.{cases_Bool, or_parts, OnTrue_at, OnTrue_from}
+use Rattle.std.proofs.lemmas.Bool.{cases_Bool, or_parts}
 use Rattle.et_hierarchy.specs.Links.{LinkEntry}
-use Rattle.et_hierarchy.specs.Ancestry.{Ancestry, ancestry_at, class_added, added_all, once, field_order_over, ancestry_of, LooksUpward}
-use Rattle.et_hierarchy.proofs.AddLemmas.{added_all-append, no_elements}
+use Rattle.et_hierarchy.specs.Ancestry.{Ancestry, ancestry_at, class_added, added_all, once, supers_over, field_order_over, ancestry_of, LooksUpward}
+use Rattle.et_hierarchy.proofs.AddLemmas.{added_all-append}
 
 once_class : (seen : List ℕ) (x : ℕ) → once seen ≡ seen → once (class_added seen x) ≡ class_added seen x
 once_class seen x h =
@@ -41,22 +40,17 @@ behind_all k seen (x ∷ xs) h =
 once_behind : (k : ℕ) (xs : List ℕ) → list_any (λ y. y == k) xs ≡ false → once xs ≡ xs → once (k ∷ xs) ≡ k ∷ xs
 once_behind k xs h e = behind_all k [] xs h ∙ ap (λ ys. k ∷ ys) e
 
-pub looks_up : (l : LinkEntry) (rows : List Ancestry) (k : ℕ) (supers ints over : List ℕ) (above : Option ℕ) (b : Bool) → ints ≡ l.interfaces → length ints ≡ 0 → above ≡ l.above → over ≡ field_order_over rows above → list_any (λ y. y == k) supers ≡ false
-    → OnTrue b (over ≡ supers) → OnTrue b (LooksUpward l rows k supers)
-looks_up l rows k supers ints over above b ei none ea eo new h =
-    OnTrue_from b (LooksUpward l rows k supers)
-    (λ t.
-    record {
-      no_interfaces = sym ei ∙ no_elements ints none;
-      over = sym (ap (field_order_over rows) ea) ∙ (sym eo ∙ OnTrue_at t h);
-      new = new;
-    })
+over_upward : (rows : List Ancestry) (o : Option ℕ) → IfSome o (λ s. (ancestry_at rows s).field_order ≡ s ∷ drop 1 (ancestry_at rows s).field_order) → IfSome o (λ s. drop 1 (ancestry_at rows s).field_order ≡ (ancestry_at rows s).supers) → field_order_over rows o ≡ supers_over rows o
+over_upward rows None first h = refl
+over_upward rows (Some s) first h = first ∙ ap (λ (xs : List ℕ). s ∷ xs) h
 
 -- where a class looks for a field is the list of itself and of its superclasses
-pub upward_is : (l : LinkEntry) (rows : List Ancestry) (k : ℕ) (upward supers : List ℕ) → LooksUpward l rows k supers → once (field_order_over rows l.above) ≡ field_order_over rows l.above → upward ≡ k ∷ supers → upward ≡ (ancestry_of l rows k).field_order
-upward_is l rows k upward supers x same e =
-    let w : once (k ∷ field_order_over rows l.above) ≡ k ∷ field_order_over rows l.above = once_behind k (field_order_over rows l.above) (ap (list_any (λ y. y == k)) x.over ∙ x.new) same in
-    e ∙ (ap (λ s. k ∷ s) (sym x.over) ∙ (sym w ∙ ap (λ is. once (k ∷ flat_map (λ i. (ancestry_at rows i).field_order) is ++ field_order_over rows l.above)) (sym x.no_interfaces)))
+pub upward_is : (l : LinkEntry) (rows : List Ancestry) (k : ℕ) (upward : List ℕ) → LooksUpward l rows → once (field_order_over rows l.above) ≡ field_order_over rows l.above
+    → IfSome l.above (λ s. (ancestry_at rows s).field_order ≡ s ∷ drop 1 (ancestry_at rows s).field_order) → list_any (λ y. y == k) (supers_over rows l.above) ≡ false → upward ≡ k ∷ supers_over rows l.above → upward ≡ (ancestry_of l rows k).field_order
+upward_is l rows k upward x same first new e =
+    let over : field_order_over rows l.above ≡ supers_over rows l.above = over_upward rows l.above first x.over in
+    let w : once (k ∷ field_order_over rows l.above) ≡ k ∷ field_order_over rows l.above = once_behind k (field_order_over rows l.above) (ap (list_any (λ y. y == k)) over ∙ new) same in
+    e ∙ (ap (λ s. k ∷ s) (sym over) ∙ (sym w ∙ ap (λ is. once (k ∷ flat_map (λ i. (ancestry_at rows i).field_order) is ++ field_order_over rows l.above)) (sym x.no_interfaces)))
 
 pub above_is : (P : ℕ → Type 0) (o : Option ℕ) (ys : List ℕ) → ((p : ℕ) → Contains (option_to_list o ++ ys) p → P p) → IfSome o P
 above_is P None ys h = tt

@@ -24,7 +24,7 @@ class_behind seen x =
     (λ n. (x ∷ [], ap (λ b. cond b seen (seen ++ x ∷ [])) n))
     (cases_Bool (list_any (λ y. x == y) seen))
 
-added_behind : (seen xs : List ℕ) → (more : List ℕ) × (added_all seen xs ≡ seen ++ more)
+pub added_behind : (seen xs : List ℕ) → (more : List ℕ) × (added_all seen xs ≡ seen ++ more)
 added_behind seen [] = ([], sym (append-nil seen))
 added_behind seen (x ∷ xs) =
     let one = class_behind seen x in

@@ -1,20 +1,21 @@
 -- Lists of superclasses upward.
-use Rattle.std.proofs.Common.{◌≡◌, ℕ, zero, suc, ◌+◌, ◌<◌, ◌⊎◌, Bool, true, false, List, [], ◌∷◌, ◌++◌, length, drop, get_or, set, replicate, Option, None, Some, IfSome, refl, sym, ◌∙◌, ap, subst, arith, append-nil, append_assoc, inl, inr, get_or-set_same, get_or-set_other}
+use Rattle.std.proofs.Common.{◌≡◌, ℕ, zero, suc, ◌+◌, ◌<◌, ◌⊎◌, ◌==◌, Bool, true, false, List, [], ◌∷◌, ◌++◌, length, drop, get_or, set, replicate, Option, None, Some, IfSome, refl, sym, ◌∙◌, ap, subst, arith, append-nil, append_assoc, inl, inr, get_or-set_same, get_or-set_other}
 use mathlib.Core.Logic.{⊎_elim}
 use Rattle.std.specs.Prelude.{All, Contains}
-use Rattle.std.specs.List.{slice_index_or}
+use Rattle.std.specs.List.{slice_index_or, list_any, flat_map}
 use Rattle.std.specs.Option.{option_to_list}
-use Rattle.std.proofs.lemmas.Bool.{cases_Bool, cases_eq}
+use Rattle.std.proofs.lemmas.Bool.{cases_Bool, cases_eq, eqb-true}
 use Rattle.std.proofs.lemmas.List.{length-set, length-replicate, get_or_default}
 use Rattle.std.proofs.lemmas.List.Elements.{All-nil, All-cons, All-head, All-tail, All-push, All-contains, Contains-push_cases}
-use Rattle.et_base.proofs.Lists.{Contains-none, Contains-here, Contains-there}
+use Rattle.et_base.proofs.Lists.{Contains-none, Contains-here, Contains-there, Contains-cons, any_contains}
 use Rattle.et_hierarchy.specs.Links.{LinkEntry, no_links, parents, IsAncestorIn, IsAncestor, IsAcyclic, HasLinksWithin}
 use Rattle.et_hierarchy.specs.Search.{IsMarkedIn, unmarked}
 use Rattle.et_hierarchy.specs.Sorting.{is_done, IsAmong, IsSorted}
-use Rattle.et_hierarchy.specs.Ancestry.{Ancestry, ancestry_at, supers_over}
+use Rattle.et_hierarchy.specs.Ancestry.{Ancestry, ancestry_at, once, supers_over, field_order_over}
 use Rattle.et_hierarchy.specs.Upward.{LeadsUp, HasListUp, AreListsUp, ListsGrow}
 use Rattle.et_hierarchy.proofs.Marks.{unmarked-set, marked_before, no_marks}
 use Rattle.et_hierarchy.proofs.OnceLemmas.{above_is}
+use Rattle.et_hierarchy.proofs.OrderParts.{added_behind}
 use Rattle.et_hierarchy.proofs.Rounds.{IsMaking}
 use Rattle.et_hierarchy.proofs.OrderedRows.{same_sorted}
 
@@ -212,3 +213,54 @@ ordered_upward table order order' done rows rows' i l lists x upward sorted same
     let read : upward ≡ slice_index_or lists k [] = is ∙ (ex ∙ get_or_default lists k x [] (omega arith)) in
     let here : slice_index_or lists k [] ≡ k ∷ supers_over rows (slice_index_or table k no_links).above = leads_over table rows (IsAmong order' i) making k (slice_index_or lists k []) (λ p h. s.sorted.above i p lt h) (up i 0 lt) in
     read ∙ (here ∙ (ap (λ (y : LinkEntry). k ∷ supers_over rows y.above) (sym links) ∙ ap (λ (rs : List Ancestry). k ∷ supers_over rs l.above) (sym er)))
+
+-- what a list leads to is above
+leads_above : (table : List LinkEntry) (k v : ℕ) (o : Option ℕ) (xs : List ℕ) → ((s : ℕ) → o ≡ Some s → IsAncestor table k s) → LeadsUp table o xs → Contains xs v → IsAncestor table k v
+leads_above table k v o [] way h c = absurd (Contains-none v c)
+leads_above table k v o (x ∷ xs) way h c =
+    let l : LinkEntry = slice_index_or table x no_links in
+    let here : IsAncestor table k x = way x h.0 in
+    ⊎_elim
+    (λ e. subst (λ u. IsAncestor table k u) e here)
+    (λ d. leads_above table k v l.above xs (λ s e. (suc here.0, (x, here.1, to_parent l.above l.interfaces s e))) h.1 d)
+    (Contains-cons x xs v c)
+
+-- .. so the next class of the order is none of its superclasses
+pub ordered_new : (table : List LinkEntry) (order order' : List ℕ) (done : List Bool) (rows rows' : List Ancestry) (i : ℕ) (l : LinkEntry) (lists : List (List ℕ)) (x upward : List ℕ) → IsSorted table order done → order' ≡ order → i < length order' → IsMaking table rows (IsAmong order' i) → rows' ≡ rows
+    → l ≡ get_or table (slice_index_or order' i 0) l → length lists ≡ length table → All (HasListUp table lists) order' → x ≡ get_or lists (slice_index_or order' i 0) x → upward ≡ x → IsAcyclic table → list_any (λ y. y == slice_index_or order' i 0) (supers_over rows' l.above) ≡ false
+ordered_new table order order' done rows rows' i l lists x upward sorted same lt making er el size up ex is acyclic =
+    let s : IsSorted table order' done = same_sorted table order order' done same sorted in
+    let k : ℕ = slice_index_or order' i 0 in
+    let at : LinkEntry = slice_index_or table k no_links in
+    let inside : k < length table = s.sorted.inside i lt in
+    let over : List ℕ = supers_over rows' l.above in
+    let read : upward ≡ slice_index_or lists k [] = is ∙ (ex ∙ get_or_default lists k x [] (omega arith)) in
+    let whole : slice_index_or lists k [] ≡ k ∷ over = sym read ∙ ordered_upward table order order' done rows rows' i l lists x upward sorted same lt making er el size up ex is in
+    let leads : LeadsUp table (Some k) (k ∷ over) = subst (λ (xs : List ℕ). LeadsUp table (Some k) xs) whole (up i 0 lt) in
+    ⊎_elim
+    (λ t.
+    absurd
+    (acyclic k inside
+    (leads_above table k k at.above over (λ p e. (0, to_parent at.above at.interfaces p e)) leads.1 (any_contains (λ y. y == k) k (λ y e. eqb-true y k e) over t))))
+    (λ n. n)
+    (cases_Bool (list_any (λ y. y == k) over))
+
+first_once : (k : ℕ) (xs ys : List ℕ) → ys ≡ once (k ∷ xs) → ys ≡ k ∷ drop 1 ys
+first_once k xs ys e =
+    let more = added_behind (k ∷ []) xs in
+    let is : ys ≡ k ∷ more.0 = e ∙ more.1 in
+    is ∙ ap (λ (zs : List ℕ). k ∷ drop 1 zs) (sym is)
+
+-- a superclass looks for a field in itself first
+pub ordered_first : (table : List LinkEntry) (order order' : List ℕ) (done : List Bool) (rows rows' : List Ancestry) (i : ℕ) (l : LinkEntry) → IsSorted table order done → order' ≡ order → i < length order' → IsMaking table rows (IsAmong order' i) → rows' ≡ rows
+    → l ≡ get_or table (slice_index_or order' i 0) l → IfSome l.above (λ s. (ancestry_at rows' s).field_order ≡ s ∷ drop 1 (ancestry_at rows' s).field_order)
+ordered_first table order order' done rows rows' i l sorted same lt making er el =
+    let s : IsSorted table order' done = same_sorted table order order' done same sorted in
+    let k : ℕ = slice_index_or order' i 0 in
+    let at : LinkEntry = slice_index_or table k no_links in
+    let links : l ≡ at = el ∙ get_or_default table k l no_links (s.sorted.inside i lt) in
+    let IsFirst : List Ancestry → ℕ → Type 0 = λ rs p. (ancestry_at rs p).field_order ≡ p ∷ drop 1 (ancestry_at rs p).field_order in
+    let made : (p : ℕ) → Contains (parents table k) p → IsFirst rows p = λ p h.
+    first_once p (flat_map (λ j. (ancestry_at rows j).field_order) (slice_index_or table p no_links).interfaces ++ field_order_over rows (slice_index_or table p no_links).above) (ancestry_at rows p).field_order
+    (ap (λ (r : Ancestry). r.field_order) (making.each p (s.sorted.above i p lt h))) in
+    subst (λ (rs : List Ancestry). IfSome l.above (IsFirst rs)) (sym er) (subst (λ (y : LinkEntry). IfSome y.above (IsFirst rows)) (sym links) (above_is (IsFirst rows) at.above at.interfaces made))

@@ -1,6 +1,6 @@
 -- The superclasses and superinterfaces of each class, in the orders in which members are looked for (JVMS 5.4.3.2 to
 -- 5.4.3.4).
-use Rattle.std.specs.Prelude.{◌≡◌, ℕ, ◌<◌, ◌==◌, if◌then◌else◌, false, List, [], ◌∷◌, ◌++◌, Option, None, Some, length, All}
+use Rattle.std.specs.Prelude.{◌≡◌, ℕ, ◌<◌, ◌==◌, if◌then◌else◌, List, [], ◌∷◌, ◌++◌, Option, None, Some, IfSome, length, drop, All}
 use Rattle.std.specs.List.{slice_index_or, list_any, flat_map}
 use Rattle.et_hierarchy.specs.Links.{LinkEntry, no_links}
 
@@ -50,11 +50,10 @@ ancestry_of l rows k = record {
   field_order = once (k ∷ flat_map (λ i. (ancestry_at rows i).field_order) l.interfaces ++ field_order_over rows l.above);
 }
 
--- class k has no interfaces, isn't one of these superclasses, and they are where its superclass looks for a field
-pub record LooksUpward (l : LinkEntry) (rows : List Ancestry) (k : ℕ) (supers : List ℕ) : Type 0 where
+-- the class has no interfaces, and what its superclass looks in for a field behind itself are the superclasses of that one
+pub record LooksUpward (l : LinkEntry) (rows : List Ancestry) : Type 0 where
   pub no_interfaces : l.interfaces ≡ []
-  pub over : field_order_over rows l.above ≡ supers
-  pub new : list_any (λ y. y == k) supers ≡ false
+  pub over : IfSome l.above (λ s. drop 1 (ancestry_at rows s).field_order ≡ (ancestry_at rows s).supers)
 
 -- each class has the lists that those right above it give
 pub record IsAncestry (table : List LinkEntry) (rows : List Ancestry) : Type 0 where

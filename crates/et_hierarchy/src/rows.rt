@@ -1,6 +1,7 @@
 //! The lists of a class.
 
-ghost use Rattle.std.specs.Prelude.{◌≡◌};
+ghost use Rattle.std.specs.Prelude.{◌≡◌, drop};
+ghost use Rattle.std.specs.Bool.{OnTrue};
 
 use crate::lists::ClassList;
 use et_base::ClassId;
@@ -12,9 +13,13 @@ pub struct Row {
     supers: ClassList,
     superinterfaces: Vec<u32>,
     field_order: ClassList,
+    /// Whether the class looks for a field in itself and its superclasses alone.
+    looks_upward: bool,
 }
 
 impl Model for Row {
+    ghost use Rattle.std.specs.Prelude.{◌≡◌, drop};
+    ghost use Rattle.std.specs.Bool.{OnTrue};
     ghost use Rattle.et_hierarchy.specs.Ancestry.{Ancestry};
 
     ghost Value = { Ancestry };
@@ -24,10 +29,19 @@ impl Model for Row {
       superinterfaces = r.superinterfaces.items;
       field_order = r.field_order;
     } };
+
+    ghost invariant = { λ r. OnTrue r.looks_upward (drop 1 r.field_order ≡ r.supers) };
 }
 
 impl Row {
-    pub(crate) fn new(supers: ClassList, superinterfaces: Vec<u32>, field_order: ClassList) -> Self
+    /// A row of these lists. Where the class looks for a field in itself and its superclasses alone, this may be told.
+    pub(crate) fn new(
+        supers: ClassList,
+        superinterfaces: Vec<u32>,
+        field_order: ClassList,
+        looks_upward: bool,
+    ) -> Self
+        requires { OnTrue looks_upward (drop 1 field_order ≡ supers) }
         ensures { result ≡ record {
           supers = supers;
           superinterfaces = superinterfaces.items;
@@ -38,7 +52,15 @@ impl Row {
             supers,
             superinterfaces,
             field_order,
+            looks_upward,
         }
+    }
+
+    /// Whether it was told that the class looks for a field in itself and its superclasses alone.
+    pub(crate) fn looks_upward(&self) -> bool
+        ensures { OnTrue result (drop 1 self.now.field_order ≡ self.now.supers) }
+    {
+        self.looks_upward
     }
 
     /// The superclasses, nearest first.

@@ -1,8 +1,8 @@
 //! The superclasses and superinterfaces of each class.
 
-ghost use Rattle.std.specs.Prelude.{◌≡◌, ℕ, ◌<◌, ◌^◌, List, [], ◌∷◌, ◌++◌, length, All, OnOk, IfOk, IfSome, Option};
+ghost use Rattle.std.specs.Prelude.{◌≡◌, ℕ, ◌<◌, ◌^◌, ◌==◌, false, List, [], ◌∷◌, ◌++◌, length, drop, All, OnOk, IfOk, IfSome, Option};
 ghost use Rattle.std.specs.Bool.{OnTrue};
-ghost use Rattle.std.specs.List.{slice_index_or, flat_map};
+ghost use Rattle.std.specs.List.{slice_index_or, list_any, flat_map};
 ghost use Rattle.et_hierarchy.specs.Links.{LinkEntry, parents_of, parents, no_links, IsAcyclic, HasLinksWithin};
 ghost use Rattle.et_hierarchy.specs.Ancestry.{ancestry_at, added_all, once, supers_over, superinterfaces_over, field_order_over, ancestry_of, IsAncestry, IsBelow, LooksUpward};
 
@@ -176,51 +176,23 @@ fn searched(
     Ok(order)
 }
 
-/// Whether two lists are the same.
-fn are_same(classes: &[ClassId], others: &[ClassId]) -> bool
-    ensures { OnTrue result (classes.now ≡ others.now) }
-{
-    classes == others
-}
-
-/// Whether a class has no interfaces, isn't one of these superclasses, and they are where its superclass looks for a field.
-fn looks_upward(links: &Links, rows: &[Row], class: u32, supers: &[ClassId]) -> bool
+/// Whether a class has no interfaces, and its superclass, if it has one, looks for a field in itself and its superclasses
+/// alone, as the row of it tells.
+fn looks_upward(links: &Links, rows: &[Row]) -> bool
     requires { IfSome links.now.above (λ s. s < length rows.now) }
-    ensures { OnTrue result (LooksUpward links.now rows.now class supers.now) }
+    ensures { OnTrue result (LooksUpward links.now rows.now) }
 {
     if !links.interfaces().is_empty() {
         return false;
     }
-    if supers.contains(&ClassId::new(class)) {
-        return false;
+    match links.above() {
+        Some(superclass) => rows[superclass as usize].looks_upward(),
+        None => true,
     }
-    are_same(field_order_over(rows, links.above()), supers)
 }
 
-/// Where a class looks for a field. Where that is the class and its superclasses, it is the very list of these.
-fn field_order(
-    alloc: Global,
-    list: &mut DistinctClasses,
-    links: &Links,
-    rows: &[Row],
-    class: u32,
-    upward: ClassList,
-    supers: &ClassList,
-) -> Result<ClassList, AllocError>
-    requires above { IfSome links.now.above (λ s. s < length rows.now) }
-    requires interfaces { All (λ i. i < length rows.now) links.now.interfaces }
-    requires once { once (field_order_over rows.now links.now.above)
-        ≡ field_order_over rows.now links.now.above }
-    requires upward { upward ≡ class ∷ supers.now }
-    ensures { IfOk result (λ found. found ≡ (ancestry_of links.now rows.now class).field_order) }
-{
-    if looks_upward(links, rows, class, supers.as_slice()) {
-        return Ok(upward);
-    }
-    searched(alloc, list, links, rows, class)
-}
-
-/// The lists of a class, by those of the classes right above it, and by the list of itself and its superclasses.
+/// The lists of a class, by those of the classes right above it, and by the list of itself and its superclasses. Where the
+/// class looks for a field in these alone, that list is the very one.
 fn row_of(
     alloc: Global,
     list: &mut DistinctClasses,
@@ -233,13 +205,19 @@ fn row_of(
     requires interfaces { All (λ i. i < length rows.now) links.now.interfaces }
     requires once { once (field_order_over rows.now links.now.above)
         ≡ field_order_over rows.now links.now.above }
+    requires first { IfSome links.now.above (λ s. (ancestry_at rows.now s).field_order
+        ≡ s ∷ drop 1 (ancestry_at rows.now s).field_order) }
     requires upward { upward ≡ class ∷ supers_over rows.now links.now.above }
+    requires new { list_any (λ y. y == class) (supers_over rows.now links.now.above) ≡ false }
     ensures { IfOk result (λ row. row ≡ ancestry_of links.now rows.now class) }
 {
     let supers = upward.behind(1)?;
     let superinterfaces = superinterfaces(alloc, list, links, rows, class)?;
-    let field_order = field_order(alloc, list, links, rows, class, upward, &supers)?;
-    Ok(Row::new(supers, superinterfaces, field_order))
+    if looks_upward(links, rows) {
+        return Ok(Row::new(supers, superinterfaces, upward, true));
+    }
+    let field_order = searched(alloc, list, links, rows, class)?;
+    Ok(Row::new(supers, superinterfaces, field_order, false))
 }
 
 /// The superclasses and superinterfaces of each class, and where it looks for a field (JVMS 5.4.3.2, 5.4.3.3), by the
@@ -273,7 +251,7 @@ fn empty_rows(alloc: Global, count: usize) -> Result<Vec<Row>, AllocError>
     let nothing = ClassList::of(Vec::new(alloc))?;
     let mut rows = Vec::with_capacity(alloc, count)?;
     for _ in 0..count {
-        let row = Row::new(nothing.share()?, Vec::new(alloc), nothing.share()?);
+        let row = Row::new(nothing.share()?, Vec::new(alloc), nothing.share()?, false);
         rows.push(row)?;
     }
     Ok(rows)

@@ -2,7 +2,7 @@ use Rattle.std.proofs.Common.{◌<◌, length, get_or, refl, sym, ◌∙◌, ap,
 use Rattle.std.proofs.lemmas.List.{get_or_default}
 use Rattle.et_hierarchy.proofs.Rounds.{next_above, next_interfaces}
 use Rattle.et_hierarchy.proofs.OrderedRows.{ordered_start, ordered_once, ordered_turn, ordered_end, ordered_below, ordered_inside}
-use Rattle.et_hierarchy.proofs.UpLemmas.{ordered_upward}
+use Rattle.et_hierarchy.proofs.UpLemmas.{ordered_upward, ordered_new, ordered_first}
 use Rattle.et_hierarchy.proofs.tables.ancestries.Goals as goal
 
 pub lists_upward-requires-clause-order : goal.lists_upward-requires-clause-order
@@ -57,3 +57,14 @@ returns-clause-rows c = ordered_end c.args.table.now _ _ _ _ c.loop-class.class-
 
 pub returns-clause-below : goal.returns-clause-below
 returns-clause-below c = ordered_below c.args.table.now _ _ _ _ c.loop-class.class-index c.requires.within c.in_ok-sorting.ensures c.order-order.ensures c.requires.acyclic (omega arith) c.loop-class.invariant
+
+pub row_of-requires-clause-new : goal.row_of-requires-clause-new
+row_of-requires-clause-new c =
+    let lt : c.loop-class.class-index < length c.order-order.result.now = omega arith in
+    ordered_new c.args.table.now _ _ _ _ _ c.loop-class.class-index _ _ _ _ c.in_ok-sorting.ensures c.order-order.ensures lt c.loop-class.invariant c.as_slice.ensures.value c.index-table-class.is
+    c.in_ok-lists.ensures.length c.in_ok-lists.ensures.upward c.index.ensures c.in_ok-upward.ensures c.requires.acyclic
+
+pub row_of-requires-clause-first : goal.row_of-requires-clause-first
+row_of-requires-clause-first c =
+    let lt : c.loop-class.class-index < length c.order-order.result.now = omega arith in
+    ordered_first c.args.table.now _ _ _ _ _ c.loop-class.class-index _ c.in_ok-sorting.ensures c.order-order.ensures lt c.loop-class.invariant c.as_slice.ensures.value c.index-table-class.is
