@@ -3,15 +3,12 @@ use Rattle.std.specs.Prelude.{◌≡◌, ℕ, zero, suc, ◌+◌, Bool, true, fa
 use Rattle.et_code.specs.declared.instr.Instr.{Instr}
 use Rattle.et_code.specs.declared.instr.CodeFault.{CodeFault}
 use Rattle.et_code.specs.Decoding.{instruction_at}
-use Rattle.et_program.specs.Entries.{Linked}
-use Rattle.et_state.specs.Running.{RunningState, MovesInFrame, passed}
+use Rattle.et_state.specs.Running.{RunningState, MovesInFrame}
 use Rattle.et_state.specs.Threads.{FrameState}
-use Rattle.et_state.specs.State.{MachineState}
-use Rattle.et_state.specs.Words.{top, with_top}
 use Rattle.et_event.specs.declared.rows.Row.{Row}
 use Rattle.et_event.specs.declared.rows.Row.TheVariants as row
 use Rattle.et_event.specs.Plain.{frame_after}
-use Rattle.et_event.specs.Sites.{Site, code_of_frame}
+use Rattle.et_event.specs.Sites.{Site}
 use Rattle.et_event.specs.Table.{row_of}
 
 -- the frame after an instruction of this row, where that reads and changes nothing else
@@ -48,9 +45,3 @@ pub record IsFrameStep (code : List ℕ) (e : ℕ) (f f' : FrameState) (old new 
 unfoldable pub AreFrameSteps : List ℕ → ℕ → ℕ → FrameState → FrameState → List ℕ → List ℕ → Type 0
 AreFrameSteps code zero e f f' old new = (f' ≡ f) × (new ≡ old)
 AreFrameSteps code (suc k) e f f' old new = (mid : FrameState) × (between : List ℕ) × AreFrameSteps code k e f mid old between × IsFrameStep code (e + k) mid f' between new
-
--- So many events of thread t were such instructions of its topmost frame, and nothing else changed.
-pub record RunsFrame (p : Linked) (t count : ℕ) (m m' : MachineState) (old new : List ℕ) : Type 0 where
-  pub frame : FrameState
-  pub steps : AreFrameSteps (code_of_frame p (top m.guest t)).code count m.guest.clock (top m.guest t) frame old new
-  pub now : m' ≡ record { heap = m.heap; guest = with_top (passed count m.guest) t frame; lost = [] }

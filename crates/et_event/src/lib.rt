@@ -39,7 +39,7 @@ pub use monitors::{
     owns_some,
 };
 pub use objects::{class_called, slots_of};
-pub use operands::{give, put, replace, take};
+pub use operands::{give, put, take};
 pub use places::{Place, place_of};
 pub use rows::{
     Arithmetic, CallKind, CallRow, Comparison, Condition, Conversion, Division, Elements, FrameRow,

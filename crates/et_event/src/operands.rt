@@ -7,8 +7,6 @@ ghost use Rattle.et_state.specs.Words.{HasFrame, top, with_top, ticked, steps_to
 ghost use Rattle.et_state.specs.Sound.{IsSound};
 ghost use Rattle.et_state.specs.Moves.{Led};
 ghost use Rattle.et_event.specs.Tops.{AreIn};
-ghost use Rattle.et_event.specs.Answered.{StepsFrame};
-ghost use Rattle.et_event.specs.Plain.{put as put_operands};
 
 use et_base::{ThreadId, Value};
 use et_state::Machine;
@@ -69,34 +67,4 @@ pub fn put(machine: &mut Machine, thread: ThreadId, taken: u32, values: &[Value]
     take(machine, thread, taken);
     give(machine, thread, values);
     machine.set_pc(thread, pc);
-}
-
-/// The event in which so many operands are taken, these are put in their place, the first of them topmost, and the pc goes
-/// on; `false`, and nothing is done, where they don't fit.
-#[inline(always)]
-pub fn replace(
-    machine: &mut Machine,
-    thread: ThreadId,
-    taken: u32,
-    values: &[Value],
-    pc: u32,
-) -> bool
-    requires frame { HasFrame machine.old.guest thread }
-    requires sound { IsSound (kept_of machine.old) }
-    requires clock { machine.old.guest.clock < 2 ^ 40 }
-    requires operands { taken ≤ length (top machine.old.guest thread).operands }
-    requires few { taken ≤ 16 }
-    requires small { length values.now ≤ 16 }
-    requires there { AreIn (top machine.old.guest thread) values.now }
-    ensures { StepsFrame
-        (put_operands pc (values.now ++ drop taken (top machine.old.guest thread).operands)
-        (top machine.old.guest thread)) result thread machine.old machine.new }
-{
-    let room = machine.room(thread) as u32;
-    let left = machine.depth(thread) - taken;
-    if values.len() as u32 + left > room {
-        return false;
-    }
-    put(machine, thread, taken, values, pc);
-    true
 }
