@@ -45,7 +45,7 @@ pub use rows::{
     Arithmetic, CallKind, CallRow, Comparison, Condition, Conversion, Division, Elements, FrameRow,
     HeapRow, Local, MonitorRow, Number, Rearrangement, Row, Shift,
 };
-pub use table::row_of;
+pub use table::{row_behind, row_of};
 pub use telling::{add_array, add_instance, make_array, make_instance, tell_instance, tell_update};
 pub use throws::throw_error;
 pub use tops::{int_at, long_at, operand_at, reference_at};

@@ -1,6 +1,7 @@
 //! The row of each opcode.
 
 ghost use Rattle.std.specs.Prelude.{◌≡◌, length, slice_index_or, None as no_row};
+ghost use Rattle.std.specs.Option.{option_copied};
 ghost use Rattle.et_event.specs.Table.{row_of as row_in_table};
 
 use crate::rows::CallKind::{Interface, Special, Static, Virtual};
@@ -303,17 +304,24 @@ static ROWS: [Option<Row>; 256] = [
     None,
 ];
 
-fn row_in(rows: &[Option<Row>], opcode: u8) -> Option<Row>
+fn row_in(rows: &[Option<Row>], opcode: u8) -> Option<&Row>
     requires { length rows.now ≡ 256 }
-    ensures { result ≡ slice_index_or rows.now opcode no_row }
+    ensures { option_copied result ≡ slice_index_or rows.now opcode no_row }
 {
-    rows[opcode as usize]
+    rows[opcode as usize].as_ref()
+}
+
+/// The row of an opcode, as it stands in the table; `None` where no class file of the profile has that opcode.
+#[tactic(auto, using(crate::proofs::AllRows::row_at))]
+pub fn row_behind(opcode: u8) -> Option<&'static Row>
+    ensures { option_copied result ≡ row_in_table opcode }
+{
+    row_in(&ROWS, opcode)
 }
 
 /// The row of an opcode; `None` where no class file of the profile has that opcode.
-#[tactic(auto, using(crate::proofs::AllRows::row_at))]
 pub fn row_of(opcode: u8) -> Option<Row>
     ensures { result ≡ row_in_table opcode }
 {
-    row_in(&ROWS, opcode)
+    row_behind(opcode).copied()
 }

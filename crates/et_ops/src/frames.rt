@@ -47,18 +47,18 @@ fn index_of(local: Local, instr: &Instr) -> u32
 #[inline(always)]
 pub(crate) fn frame_event(
     running: &mut Running,
-    row: FrameRow,
+    row: &FrameRow,
     code: &[u8],
     instr: &Instr,
     next: u32,
 ) -> bool
     requires pc { running.old.frame.pc < 2 ^ 31 }
-    requires switch { row ≡ rows.Switch → IsSwitch code.now instr.now }
+    requires switch { row.now ≡ rows.Switch → IsSwitch code.now instr.now }
     ensures { (pool : List (Option Item)) (class : ℕ) → StepsRunning (frame_after
-        (record { instr = instr.now; next = next; code = code.now; pool = pool; class = class }) row
+        (record { instr = instr.now; next = next; code = code.now; pool = pool; class = class }) row.now
         running.old.frame) result running.old running.new }
 {
-    match row {
+    match *row {
         FrameRow::Null => push_null(running, next),
         FrameRow::Int(n) => push_int(running, n, next),
         FrameRow::Long(n) => push_long(running, n, next),

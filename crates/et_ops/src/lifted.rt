@@ -41,7 +41,7 @@ fn plain_step(running: &mut Running, place: &Place<'_>, row: Row) -> PlainEnd
     ensures { RunsPlain (site_at place.now) row result running.old running.new }
 {
     match row {
-        Row::Frame(row) => end_of(frame_event(running, row, place.code, &place.instr, place.next)),
+        Row::Frame(row) => end_of(frame_event(running, &row, place.code, &place.instr, place.next)),
         Row::PoolConstant => {
             let index = natural(place.instr.first) as u16;
             push_constant(running, place.pool, index, place.next)

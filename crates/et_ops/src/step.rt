@@ -6,7 +6,7 @@ ghost use Rattle.et_event.specs.FrameSteps.{AreFrameSteps, StepsRunning, frame_n
 
 use crate::frames::frame_event;
 use et_code::decode;
-use et_event::{Row, row_of};
+use et_event::{Row, row_behind};
 use et_graph::{Stamps, stamp_each};
 use et_state::Running;
 
@@ -24,7 +24,7 @@ fn step(code: &[u8], running: &mut Running) -> bool
     let Ok((instr, next)) = decode(code, pc) else {
         return false;
     };
-    let Some(Row::Frame(row)) = row_of(instr.opcode) else {
+    let Some(Row::Frame(row)) = row_behind(instr.opcode) else {
         return false;
     };
     frame_event(running, row, code, &instr, next as u32)
