@@ -12,7 +12,8 @@ use Rattle.et_heap.specs.Remaining.{is_cleared, left_place, remaining}
 use Rattle.et_heap.proofs.HeapLists.{held_within, held_set}
 use Rattle.et_state.specs.Enqueuing.{is_free_to_wait, has_queue, has_this_queue, newcomers_from, newcomers, begins_to_wait, joined_place, flushed_heap}
 use Rattle.et_state.proofs.Enqueued.{length-joined, joined_now, remaining_at}
-use Rattle.et_flush.specs.Flushes.{loses_referent, cleared_references, all_enqueued}
+use Rattle.et_heap.specs.Cleared.{loses_referent, cleared_references}
+use Rattle.et_flush.specs.Flushes.{all_enqueued}
 use Rattle.et_flush.proofs.Clearing.{cleared_at}
 
 -- TESTS

@@ -6,7 +6,7 @@ use Rattle.std.proofs.lemmas.Bool.{cases_lt}
 use Rattle.std.proofs.lemmas.List.Elements.{Contains-append_cases}
 use Rattle.et_base.proofs.Lists.{Contains-none, Contains-cons}
 use Rattle.et_heap.specs.Objects.{ObjectState, Objects, IsHeld, is_there, at}
-use Rattle.et_flush.specs.Flushes.{loses_referent, cleared_references}
+use Rattle.et_heap.specs.Cleared.{loses_referent, cleared_references}
 use Rattle.et_flush.proofs.Sweeping.{swept, place_before}
 
 -- the object at number k, where its referent becomes null

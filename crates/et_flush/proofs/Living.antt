@@ -6,7 +6,7 @@ use Rattle.et_base.proofs.Lists.{Contains-none}
 use Rattle.et_heap.specs.Objects.{ObjectState, Objects, IsHeld, object_at}
 use Rattle.et_heap.specs.Remaining.{kept_referent, left_place, remaining}
 use Rattle.et_flush.specs.declared.times.TheConstants.{NOW}
-use Rattle.et_flush.specs.Flushes.{loses_referent, cleared_references}
+use Rattle.et_heap.specs.Cleared.{loses_referent, cleared_references}
 use Rattle.et_flush.specs.Searches.{AreDyingIn}
 use Rattle.et_flush.specs.Sweeps.{is_now}
 use Rattle.et_flush.proofs.Reaching.{remaining_same, cleared_same}

@@ -15,7 +15,8 @@ use Rattle.et_flush.specs.declared.times.TheConstants.{NOW}
 use Rattle.et_flush.specs.Searches.{AreDyingIn}
 use Rattle.et_flush.specs.Sweeps.{is_now, visits_of, visits_from}
 use Rattle.et_flush.specs.Works.{IsSettled}
-use Rattle.et_flush.specs.Flushes.{loses_referent, cleared_references, heap_graph}
+use Rattle.et_heap.specs.Cleared.{loses_referent, cleared_references}
+use Rattle.et_flush.specs.Flushes.{heap_graph}
 use Rattle.et_flush.proofs.Targets.{held_above}
 use Rattle.et_flush.proofs.Settling.{lead_held}
 use Rattle.et_flush.proofs.Orders.{cases_held}

@@ -8,7 +8,7 @@ use Rattle.std.proofs.lemmas.Bool.{le-leb, cases_lt}
 use Rattle.et_base.specs.declared.value.Value.TheVariants.{Ref}
 use Rattle.et_heap.specs.Objects.{ObjectState, Objects, IsHeld, is_there, at, found, object_at, referent_value, referents_in, referent_count}
 use Rattle.et_heap.specs.Remaining.{is_cleared, kept_referent, left_place, remaining}
-use Rattle.et_flush.specs.Flushes.{loses_referent}
+use Rattle.et_heap.specs.Cleared.{loses_referent}
 use Rattle.et_flush.specs.declared.times.TheConstants.{NOW}
 use Rattle.et_flush.specs.declared.ranks.Ranks.{Ranks}
 use Rattle.et_flush.specs.Sweeps.{is_now, ReferentsWithin, visits_of, visits_from}

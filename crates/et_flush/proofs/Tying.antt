@@ -11,7 +11,8 @@ use Rattle.std.specs.Option.{option_to_list}
 use Rattle.et_heap.specs.Refs.{refs_of, leads_to, pairs_of}
 use Rattle.et_heap.specs.Remaining.{remaining}
 use Rattle.et_heap.proofs.HeapLists.{pair_at, at_pair, pair_held, held_within, held_set}
-use Rattle.et_flush.specs.Flushes.{cleared_references, all_enqueued, heap_graph}
+use Rattle.et_heap.specs.Cleared.{cleared_references}
+use Rattle.et_flush.specs.Flushes.{all_enqueued, heap_graph}
 use Rattle.et_state.proofs.UnderWay.{lead_pair, queue_pair, waiting_pair, set_pair_same, set_pair_other}
 use Rattle.et_state.proofs.Wholes.{remaining_held, held_remaining, remaining_pair}
 use Rattle.et_flush.proofs.Clearing.{cleared_stays}

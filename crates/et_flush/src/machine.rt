@@ -4,7 +4,7 @@ ghost use Rattle.et_graph.specs.Graph.{AreDead, IsReached};
 ghost use Rattle.et_heap.specs.Objects.{IsHeld, held_count};
 ghost use Rattle.et_state.specs.State.{kept_of};
 ghost use Rattle.et_state.specs.Enqueuing.{flushed_heap};
-ghost use Rattle.et_flush.specs.Flushes.{cleared_references};
+ghost use Rattle.et_heap.specs.Cleared.{cleared_references};
 ghost use Rattle.et_state.specs.Roots.{graph_of};
 ghost use Rattle.et_state.specs.Sound.{IsSound};
 ghost use Rattle.et_graph.specs.Listed.{AreListed};

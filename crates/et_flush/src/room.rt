@@ -4,7 +4,8 @@ ghost use Rattle.et_graph.specs.Graph.{AreDead, IsReached};
 ghost use Rattle.et_heap.specs.Objects.{IsHeld, object_at, made_count, held_count};
 ghost use Rattle.et_graph.specs.Listed.{AreListed};
 ghost use Rattle.et_state.specs.Enqueuing.{flushed_heap};
-ghost use Rattle.et_flush.specs.Flushes.{cleared_references, heap_graph};
+ghost use Rattle.et_heap.specs.Cleared.{cleared_references};
+ghost use Rattle.et_flush.specs.Flushes.{heap_graph};
 ghost use Rattle.et_flush.specs.Searches.{ArePairsHeld};
 
 use crate::queues::enqueue_all;

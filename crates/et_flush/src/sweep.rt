@@ -3,7 +3,7 @@ ghost use Rattle.std.specs.Prelude.{◌≡◌, ℕ, ◌+◌, ◌≤◌, length, 
 ghost use Rattle.et_graph.specs.Listing.{death_pairs};
 ghost use Rattle.et_heap.specs.Objects.{IsHeld, at, object_at};
 ghost use Rattle.et_heap.specs.Remaining.{left_place, remaining};
-ghost use Rattle.et_flush.specs.Flushes.{loses_referent, cleared_references};
+ghost use Rattle.et_heap.specs.Cleared.{loses_referent, cleared_references};
 ghost use Rattle.et_flush.specs.Ranks.{AreRanked, time_of};
 ghost use Rattle.et_flush.specs.Searches.{AreAllHeld, AreDyingIn};
 ghost use Rattle.et_flush.specs.Sweeps.{is_now, ReferentsWithin, visits_of, visits_from};

@@ -7,4 +7,5 @@ pub mod Pages
 pub mod Inside
 pub mod RefsInside
 pub mod Remaining
+pub mod Cleared
 pub mod References

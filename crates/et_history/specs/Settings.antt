@@ -11,7 +11,7 @@ use Rattle.et_state.specs.History.{Setting}
 use Rattle.et_state.specs.declared.options.Options.{Options}
 use Rattle.et_program.specs.Entries.{Linked}
 use Rattle.et_program.specs.Tables.{IsTabled}
-use Rattle.et_flush.specs.Flushes.{cleared_references}
+use Rattle.et_heap.specs.Cleared.{cleared_references}
 pub use Rattle.et_event.specs.Told.{said_by}
 use Rattle.et_event.specs.Told.{event_with_texts}
 use Rattle.et_event.specs.Runnable.{IsRunnable}

@@ -3,7 +3,7 @@ use Rattle.std.proofs.Common.{◌≡◌, ℕ, ◌+◌, ◌*◌, ◌≤◌, lengt
 use Rattle.std.specs.Prelude.{◌↔◌, IsTrue, OnOk}
 use Rattle.et_graph.specs.Graph.{Graph, IsReached}
 use Rattle.et_heap.specs.Objects.{held_count}
-use Rattle.et_flush.specs.Flushes.{cleared_references}
+use Rattle.et_heap.specs.Cleared.{cleared_references}
 use Rattle.et_state.specs.Enqueuing.{flushed_heap}
 use Rattle.et_state.specs.State.{Kept, MachineState, kept_of}
 use Rattle.et_program.specs.Entries.{Linked}

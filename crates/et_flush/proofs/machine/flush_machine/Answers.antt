@@ -5,7 +5,7 @@ use Rattle.et_heap.specs.Refs.{pairs_of}
 use Rattle.et_heap.proofs.HeapLists.{held_within}
 use Rattle.et_heap.specs.Remaining.{remaining}
 use Rattle.et_state.specs.Enqueuing.{flushed_heap}
-use Rattle.et_flush.specs.Flushes.{cleared_references}
+use Rattle.et_heap.specs.Cleared.{cleared_references}
 use Rattle.et_state.specs.State.{MachineState, kept_of}
 use Rattle.et_state.specs.Roots.{graph_of}
 use Rattle.et_state.specs.Sound.{IsSound}

@@ -6,7 +6,7 @@ use Rattle.et_flush.specs.Ranks.{time_of}
 use Rattle.et_flush.specs.Sweeps.{is_now, visits_from}
 use Rattle.et_flush.proofs.Holding.{here_held, gap_first, gap_next, next_later}
 use Rattle.et_flush.proofs.Sweeping.{swept_to, swept_step, held_before, within_before, visits_to, visits_step, swept_end, visits_end}
-use Rattle.et_flush.specs.Flushes.{loses_referent, cleared_references}
+use Rattle.et_heap.specs.Cleared.{loses_referent, cleared_references}
 use Rattle.et_flush.proofs.Searching.{time_ranked}
 use Rattle.et_flush.proofs.Clearing.{cleared_to, cleared_step, listed_where, unlisted_where, all_cleared}
 use Rattle.et_flush.proofs.sweep.sweep_all.Goals as goal

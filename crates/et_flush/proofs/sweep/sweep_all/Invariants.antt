@@ -1,6 +1,6 @@
 -- The objects so far are swept, up to the next one.
 use Rattle.std.proofs.Common.{◌≡◌, ◌+◌, ◌≤◌, ◌++◌, drop, get_or, length, vec_capacity}
-use Rattle.et_flush.specs.Flushes.{cleared_references}
+use Rattle.et_heap.specs.Cleared.{cleared_references}
 use Rattle.et_flush.specs.Ranks.{time_of}
 use Rattle.et_flush.specs.Sweeps.{is_now, visits_from}
 use Rattle.et_flush.proofs.Sweeping.{swept}

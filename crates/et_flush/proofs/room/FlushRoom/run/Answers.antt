@@ -10,7 +10,8 @@ use Rattle.et_flush.specs.Sweeps.{is_now, visits_from}
 use Rattle.et_flush.specs.Searches.{AreAllHeld, AreDyingIn, ArePairsHeld}
 use Rattle.et_flush.specs.Works.{IsSettled}
 use Rattle.et_flush.specs.Rooms.{Room}
-use Rattle.et_flush.specs.Flushes.{heap_graph, cleared_references, all_enqueued}
+use Rattle.et_heap.specs.Cleared.{cleared_references}
+use Rattle.et_flush.specs.Flushes.{heap_graph, all_enqueued}
 use Rattle.et_flush.proofs.Working.{places_least}
 use Rattle.et_flush.proofs.Holding.{all_counted}
 use Rattle.et_flush.proofs.Reaching.{below_listed, below_dead, now_reached, tests_same, remaining_same, cleared_same, visits_bound}
