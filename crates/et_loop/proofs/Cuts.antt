@@ -12,9 +12,6 @@ use Rattle.et_loop.proofs.Headers.{lines_whole}
 use Rattle.et_loop.proofs.RunLemmas.{Running, more_twice}
 
 module _ {S : Type 0} (reached : Graph → ℕ → Bool) (given : Setting S) (flush_visits : (ℕ → Bool) → S → ℕ) (start : S) (made : List Record) (before : Log) (old new : ℕ) where
-  -- before the first turn nothing was visited
-  pub cut_first : (after : Log) → new ≡ old → IsCut reached given flush_visits start made before after old new
-  cut_first after same = inl same
 
   module _ (e : ℕ) (s : S) (last : ℕ → ℕ) (m : Mentions) (now : Log) (runs : Running reached given start made e s last m before now) (few : new ≤ old + visits_to reached given flush_visits start made e) where
     -- what was taken so far

@@ -19,22 +19,6 @@ pub record IsNew (old new : List ℕ) (before n t : ℕ) : Type 0 where
   pub each : (o : ℕ) → before < o → o ≤ n → get_or new o 0 ≡ t
   pub others : (o : ℕ) → (o ≤ before) ⊎ (n < o) → get_or new o 0 ≡ get_or old o 0
 
-pub new_none : (old : List ℕ) (before t : ℕ) → IsNew old old before before t
-new_none old before t = record { long = refl; each = λ o a b. absurd (omega arith); others = λ o s. refl }
-
-pub new_more : (old new : List ℕ) (before n t : ℕ) → IsNew old new before n t → before ≤ n → n + 1 < length new → IsNew old (set new (n + 1) t) before (n + 1) t
-new_more old new before n t is le lt = record {
-  long = length-set new (n + 1) t ∙ is.long;
-  each = λ o a b. elim (cases_eq o (n + 1)) [
-    | inl e ↦ subst (λ (j : ℕ). get_or (set new (n + 1) t) j 0 ≡ t) (sym e) (get_or-set_same new (n + 1) t 0 lt)
-    | inr ne ↦ get_or-set_other new (n + 1) o t 0 ne ∙ is.each o a (omega (arith, ne))
-  ];
-  others = λ o side. elim side [
-    | inl a ↦ let ne : o ≡ n + 1 → ⊥ = λ e. absurd (omega (arith, e)) in get_or-set_other new (n + 1) o t 0 ne ∙ is.others o (inl a)
-    | inr a ↦ let ne : o ≡ n + 1 → ⊥ = λ e. absurd (omega (arith, e)) in get_or-set_other new (n + 1) o t 0 ne ∙ is.others o (inr (omega arith))
-  ];
-}
-
 -- the stamps after an event, in three steps
 pub restamps_from : (e before made : ℕ) (lost old grown marked new : List ℕ) → ((o : ℕ) → get_or grown o 0 ≡ get_or old o 0) → ((o : ℕ) → Contains lost o → get_or marked o 0 ≡ e) → ((o : ℕ) → ¬ Contains lost o → get_or marked o 0 ≡ get_or grown o 0)
     → ((o : ℕ) → before < o → o ≤ made → get_or new o 0 ≡ e + 1) → ((o : ℕ) → (o ≤ before) ⊎ (made < o) → get_or new o 0 ≡ get_or marked o 0)

@@ -76,13 +76,6 @@ same_quotient q over start e k some is from within =
     let small : e + k - start < q = omega arith in
     ap (λ (x : ℕ). x / q) at ∙ div-mul-add over q (e + k - start) small
 
--- there are no more rounds than events
-pub few_rounds : (rounds events n : ℕ) → 0 < events → rounds * events ≤ n → rounds ≤ n
-few_rounds rounds events n some le = let more = mul-le-mul_left rounds some in omega (arith, more, le)
-
-pub rounds_on : (over start events rounds : ℕ) → start ≡ over * events → start + rounds * events ≡ (over + rounds) * events
-rounds_on over start events rounds is = grind arith
-
 -- THE PLACE OF THE NEXT EVENTS
 
 pub one_place : (a b count : ℕ) → count ≡ 1 → a % count ≡ b % count
@@ -95,6 +88,3 @@ turn_quantum schedule q over start e k count is some starts from within =
     let first : e / q ≡ over = subst (λ (n : ℕ). n / q ≡ over) same (same_quotient q over start e 0 some at from (omega (arith, within))) in
     subst (λ (x : Schedule). pick_of x (e + k) % count ≡ pick_of x e % count) (sym is)
     (ap (λ (n : ℕ). n % count) (same_quotient q over start e k some at from within ∙ sym first))
-
-pub turn_first : (schedule : Schedule) (e k count : ℕ) → k < 1 → pick_of schedule (e + k) % count ≡ pick_of schedule e % count
-turn_first schedule e k count lt = let same : e + k ≡ e = omega (arith, lt) in ap (λ (n : ℕ). pick_of schedule n % count) same

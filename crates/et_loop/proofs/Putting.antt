@@ -91,9 +91,6 @@ module _ (f : Format) (e : ℕ) (deaths : List graph.Death) where
       subst (λ (t : List ℕ). TakesPrefix old new t) (append_assoc front (lines_up_to (i + 1)) rest ∙ ap (λ (t : List ℕ). front ++ t) (sym (lines_split (i + 1))))
       (longer old new (front ++ lines_up_to (i + 1)) rest next)
 
-  pub deaths_put : (front : List ℕ) (old mid : Log) (gathered : List ℕ) (i : ℕ) → length deaths ≤ i → TakesUpTo old mid (front ++ lines_up_to i) gathered → TakesUpTo old mid (front ++ lines_written_in f (flush_lines e (death_pairs deaths))) gathered
-  deaths_put front old mid gathered i le up = subst (λ (t : List ℕ). TakesUpTo old mid (front ++ t) gathered) (no_line_more i le) up
-
 -- THE LAST LINES
 
 -- the Z line follows a flush, unless there was one before

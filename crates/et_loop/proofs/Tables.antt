@@ -57,7 +57,3 @@ more_cases seen old grown id n x are kept within new next (inr h) =
 pub numbers_more : (seen : List ℕ) (old grown : List (Option ℕ)) (id n : ℕ) → AreNumbersOf seen old → ((o : ℕ) → get_or grown o None ≡ get_or old o None) → id < length grown → list_any (λ y. id == y) seen ≡ false → n ≡ length seen + 1
     → AreNumbersOf (seen ++ id ∷ []) (set grown id (Some n))
 numbers_more seen old grown id n are kept within new next x = more_cases seen old grown id n x are kept within new next (eqb_tells x id)
-
--- .. and as before where places are made
-pub numbers_kept : (seen : List ℕ) (old grown : List (Option ℕ)) → AreNumbersOf seen old → ((o : ℕ) → get_or grown o None ≡ get_or old o None) → AreNumbersOf seen grown
-numbers_kept seen old grown are kept x = kept x ∙ are x

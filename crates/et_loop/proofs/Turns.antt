@@ -173,12 +173,6 @@ module _ (graphs : ℕ → Graph) where
       told_step e p.0 h stamps stamps' now.0 now.1 p.2.1.0 p.2.0 p.2.1.1 p.2.2 at
 
   -- WHAT THE STAMPS TELL
-  -- what is reached was made
-  pub told_made : (e : ℕ) (g : Graph) (stamps : ℕ → ℕ) → IsToldByStamps graphs e g stamps → (o : ℕ) → IsReached g o → IsMade g o
-  told_made e g stamps told o r =
-      let made = reached_made (graph_after told.0) (history_sound told.0 told.1.history) o (reached_whole g (graph_after told.0) told.1.kept o r) in
-      (made.0, omega (arith, made.1, told.1.kept.made))
-
   -- of each dead object the greatest stamp is the last event after which it was reached
   pub told_dates : (e : ℕ) (g : Graph) (stamps : ℕ → ℕ) → IsToldByStamps graphs e g stamps → (o : ℕ) → IsDead g o
       → (t : ℕ) × (t ≤ e) × IsReached (graphs t) o × ((k : ℕ) → k ≤ e → IsReached (graphs k) o → k ≤ t) × IsGreatest g stamps o t

@@ -354,7 +354,3 @@ constant_still e f (Some (AString bytes)) d h =
     let x : Doing = interned e bytes d in
     let made = interned_still e bytes d h in
     written_static_still e f.slot (Ref (string_object bytes x)) x made.still made.held
-
-pub constants_still : (e : Moment) {w : Way} (c : ℕ) (d : Doing) → Still e w d.state → Still e w (constants_set e c d).state
-constants_still e c d h =
-    fold_still e (field_set e) (λ x f g. constant_still e (field_at e.program f) (constant_at (pool_of_class e.program (field_at e.program f).class) (field_at e.program f).constant) x g) (class_at e.program c).info.constants d h
