@@ -8,7 +8,7 @@ use Rattle.et_heap.specs.Objects.{object_at, new_object, with_slot, has_room, sl
 use Rattle.et_program.specs.Entries.{class_at}
 use Rattle.et_event.specs.Heap.{arrays_made, filled, element_class}
 use Rattle.et_event.specs.Moments.{Moment, Doing, next_object, array_made, slot_written, fits_heap}
-use Rattle.et_refs.proofs.Fitting.{fits_array}
+use Rattle.et_event.proofs.Making.{fits_made}
 use Rattle.et_refs.specs.declared.filling.Filling.{Filling}
 use Rattle.et_refs.specs.Filling.{filled_from, inner_dimensions, rest_from, with_filled, first_filling, next_filling}
 use Rattle.et_refs.proofs.Making.{made_grows, same_slots}
@@ -153,7 +153,7 @@ next_fits e xs f n ns ms d lt at some fit =
     let child = first_filling e (next_object d) f.inner n ns in
     let x = array_made e f.inner n d in
     let all : fits_heap (with_filled e (xs ++ f ∷ child ∷ []) ms x).state.heap ≡ true = ap (λ (y : Doing). fits_heap y.state.heap) (pushed e xs f n ns ms d lt at) ∙ fit in
-    sym (fits_array d.state.heap f.inner n some) ∙ fits_kept x (with_filled e (xs ++ f ∷ child ∷ []) ms x) (finished_keeps e (xs ++ f ∷ child ∷ []) ms x) all
+    sym (fits_made d.state.heap f.inner n n) ∙ fits_kept x (with_filled e (xs ++ f ∷ child ∷ []) ms x) (finished_keeps e (xs ++ f ∷ child ∷ []) ms x) all
 
 -- .. and so does the first one
 pub first_fits : (e : Moment) (c n : ℕ) (ns : List ℕ) (d : Doing) → 0 < length d.state.heap → fits_heap (arrays_made e c (n ∷ ns) d).state.heap ≡ true → has_room d.state.heap 1 n ≡ true
@@ -161,7 +161,7 @@ first_fits e c n ns d some fit =
     let child = first_filling e (next_object d) c n ns in
     let x = array_made e c n d in
     let all : fits_heap (with_filled e (child ∷ []) ns x).state.heap ≡ true = ap (λ (y : Doing). fits_heap y.state.heap) (opened e c n ns d) ∙ fit in
-    sym (fits_array d.state.heap c n some) ∙ fits_kept x (with_filled e (child ∷ []) ns x) (finished_keeps e (child ∷ []) ns x) all
+    sym (fits_made d.state.heap c n n) ∙ fits_kept x (with_filled e (child ∷ []) ns x) (finished_keeps e (child ∷ []) ns x) all
 
 -- HOW MANY OBJECTS THERE ARE IN THE END: no fewer than there are now, and where one is still to be made, one more
 

@@ -1,5 +1,4 @@
 pub mod Below
-pub mod Fitting
 pub mod Leading
 pub mod Ending
 pub mod Reading

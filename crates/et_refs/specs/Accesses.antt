@@ -19,9 +19,10 @@ use Rattle.et_event.specs.Heap.{leaving_values}
 use Rattle.et_event.specs.Initialization.{initialized}
 use Rattle.et_event.specs.Kinds.{or_zero}
 use Rattle.et_event.specs.Operands.{operand_kind}
-use Rattle.et_event.specs.Moments.{Moment, Doing, current_frame, begins, next_object, instance_made, static_written, updated, ends_event}
+use Rattle.et_event.specs.Moments.{Moment, Doing, current_frame, begins, next_object, instance_made, static_written, ends_event}
 use Rattle.et_event.specs.Sites.{Site}
 use Rattle.et_event.specs.Sound.{is_of_kind}
+use Rattle.et_event.specs.Telling.{TellsUpdate}
 use Rattle.et_event.specs.Tops.{IsIn}
 use Rattle.et_refs.specs.declared.accesses.Read.{Read}
 use Rattle.et_refs.specs.declared.accesses.Write.{Write}
@@ -121,13 +122,8 @@ access_written t next x m =
 abbrev pub makes : Linked → ℕ → ℕ → ℕ → MachineState → MachineState
 makes p t next class m = replaces t next 0 (Ref (length m.heap) ∷ []) (with_new_object m (new_object class 0 (class_at p class).info.slots))
 
--- what is told of a static slot that is written, at this time
-abbrev pub TellsStatic : ℕ → ℕ → ℕ → Value → Value → List Record → List Record → Type 0
-TellsStatic clock t slot old value out out' =
-    (p : Linked) (b s : Kept) → s.guest.clock ≡ clock → out' ≡ (updated (record { program = p; before = b; thread = t }) 0 slot old value (record { state = s; records = out })).records
-
 abbrev pub Accesses : Linked → ℕ → ℕ → ℕ → Access → MachineState → MachineState → List Record → List Record → Type 0
 Accesses p t next class (access.Read x) m m' out out' = (m' ≡ reads t next x m) × (out' ≡ out)
-Accesses p t next class (access.Write x) m m' out out' = (m' ≡ access_written t next x m) × TellsStatic m.guest.clock t x.slot (static_at m.guest x.slot) x.value out out'
+Accesses p t next class (access.Write x) m m' out out' = (m' ≡ access_written t next x m) × TellsUpdate m.guest.clock t 0 x.slot (static_at m.guest x.slot) x.value out out'
 Accesses p t next class access.Make m m' out out' =
     (m' ≡ makes p t next class m) × (out' ≡ out ++ Alloc m.guest.clock t (length m.heap) class (16 + 8 * (class_at p class).info.slots) 0 ∷ [])

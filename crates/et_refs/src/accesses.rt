@@ -5,15 +5,15 @@ ghost use Rattle.et_heap.specs.Objects.{has_room, new_object};
 ghost use Rattle.et_state.specs.Words.{HasFrame, top, static_at, with_new_object};
 ghost use Rattle.et_program.specs.Entries.{class_at};
 ghost use Rattle.et_state.specs.declared.records.Record.TheVariants.{Alloc};
-ghost use Rattle.et_refs.specs.Accesses.{CanRead, CanWrite, CanMake, CanAccess, Accesses, TellsStatic, replaces, reads, access_written, makes, objects_in, slots_accessed};
+ghost use Rattle.et_event.specs.Telling.{TellsUpdate};
+ghost use Rattle.et_refs.specs.Accesses.{CanRead, CanWrite, CanMake, CanAccess, Accesses, replaces, reads, access_written, makes, objects_in, slots_accessed};
 
-use crate::changes::{number_of, replace_top};
+use crate::changes::replace_top;
 use crate::kinds::or_zero;
-use et_base::{ClassId, NoMemory, ObjectId, ThreadId, Value};
-use et_event::{Operand, Place, slots_of, take};
-use et_heap::MakeFault;
+use et_base::{ClassId, NoMemory, ThreadId, Value};
+use et_event::{Operand, Place, add_instance, slots_of, take, tell_update};
 use et_program::Program;
-use et_state::{Lines, Machine, Record};
+use et_state::{Lines, Machine};
 
 /// The value of a static slot is put on top, 0 or null of its kind where nothing was written to it.
 #[derive(Clone, Copy)]
@@ -78,31 +78,6 @@ fn read_static(machine: &mut Machine, thread: ThreadId, next: u32, x: Read)
     replace_top(machine, thread, 0, value, next);
 }
 
-/// Tells in the event under way that a value was written to a static slot over another, where it is a reference. After
-/// `NoMemory` the records are as before.
-fn tell_static(
-    out: &mut Lines,
-    event: u64,
-    thread: ThreadId,
-    slot: u32,
-    old: Value,
-    value: Value,
-) -> Result<(), NoMemory>
-    ensures { OnOk result (TellsStatic event thread slot old value out.old out.new) }
-{
-    match value {
-        Value::Null | Value::Ref(_) => out.push(Record::Update {
-            event,
-            thread: thread.number(),
-            object: 0,
-            slot,
-            old: number_of(old),
-            new: number_of(value),
-        }),
-        Value::Unset | Value::Int(_) | Value::Long(_) | Value::LongHigh => Ok(()),
-    }
-}
-
 /// In the event under way, so many operands are taken and the pc is set.
 fn leave(machine: &mut Machine, thread: ThreadId, next: u32, taken: u32)
     requires frame { HasFrame machine.old.guest thread }
@@ -127,46 +102,12 @@ fn write_static(
     requires lost { length machine.old.lost + 3 ≤ lost_room }
     requires can { CanWrite machine.old (top machine.old.guest thread) x }
     ensures machine { OnOk result (machine.new ≡ access_written thread next x machine.old) }
-    ensures told { OnOk result (TellsStatic machine.old.guest.clock thread x.slot
+    ensures told { OnOk result (TellsUpdate machine.old.guest.clock thread 0 x.slot
         (static_at machine.old.guest x.slot) x.value out.old out.new) }
 {
     leave(machine, thread, next, x.taken);
     let old = machine.set_static(x.slot, x.value);
-    tell_static(out, machine.clock(), thread, x.slot, old, x.value)
-}
-
-/// Makes an instance of a class in the event under way, and tells of it. It fits.
-#[inline(always)]
-pub(crate) fn make_object(
-    program: &Program,
-    machine: &mut Machine,
-    thread: ThreadId,
-    class: ClassId,
-    out: &mut Lines,
-) -> Result<ObjectId, NoMemory>
-    requires class { class < length program.now.classes }
-    requires room { has_room machine.old.heap 1 (class_at program.now class).info.slots ≡ true }
-    ensures object { IfOk result (λ o. o ≡ length machine.old.heap) }
-    ensures made { OnOk result (machine.new ≡ with_new_object machine.old
-        (new_object class 0 (class_at program.now class).info.slots)) }
-    ensures told { OnOk result (out.new ≡ out.old ++ Alloc machine.old.guest.clock thread
-        (length machine.old.heap) class (16 + 8 * (class_at program.now class).info.slots) 0 ∷ []) }
-{
-    let slots = slots_of(program, class);
-    let object = match machine.heap.make_object(class, slots) {
-        Ok(object) => object,
-        Err(MakeFault::NoMemory) => return Err(NoMemory),
-        Err(MakeFault::Full) => unreachable!(),
-    };
-    out.push(Record::Alloc {
-        event: machine.clock(),
-        thread: thread.number(),
-        object: object.number(),
-        class,
-        size: 16 + 8 * slots as u64,
-        length: 0,
-    })?;
-    Ok(object)
+    tell_update(out, machine.clock(), thread, None, x.slot, old, x.value)
 }
 
 /// In the event under way, an instance of a class is made and put on top.
@@ -186,7 +127,7 @@ fn make_instance(
     ensures told { OnOk result (out.new ≡ out.old ++ Alloc machine.old.guest.clock thread
         (length machine.old.heap) class (16 + 8 * (class_at program.now class).info.slots) 0 ∷ []) }
 {
-    let object = make_object(program, machine, thread, class, out)?;
+    let object = add_instance(program, machine, thread, class, out)?;
     replace_top(machine, thread, 0, Value::Ref(object), next);
     Ok(())
 }

@@ -16,13 +16,11 @@ ghost use Rattle.et_event.specs.Making.{MakesObject};
 ghost use Rattle.et_event.specs.Places.{site_at};
 ghost use Rattle.et_refs.specs.Changes.{change_outcome, store_outcome, new_array_outcome, MayExchange, MayStore, MayMake, MayChange};
 
-use crate::kinds::element_width;
 use crate::slots::{SlotAt, slot_value};
 use et_base::{ClassId, NoMemory, ObjectId, Steps, ThreadId, Value};
-use et_event::{Place, give, take};
-use et_heap::MakeFault;
+use et_event::{Place, give, make_array, take, tell_update};
 use et_program::Program;
-use et_state::{EventEnd, Lines, Machine, Record};
+use et_state::{EventEnd, Lines, Machine};
 use std::sync::ledger::Ledger;
 
 /// So many operands are taken, and a value is put in their place.
@@ -113,45 +111,6 @@ fn put_value(machine: &mut Machine, thread: ThreadId, next: u32, x: Exchange)
     replace_top(machine, thread, x.taken, x.value, next);
 }
 
-/// The number of a reference in a record; 0 is null.
-pub fn number_of(value: Value) -> u32
-    ensures { result ≡ number_in value }
-{
-    match value {
-        Value::Ref(o) => o.number(),
-        Value::Unset | Value::Int(_) | Value::Long(_) | Value::LongHigh | Value::Null => 0,
-    }
-}
-
-/// Tells in an event that a value is written to a slot of an object over another, where it is a reference. After `NoMemory`
-/// the records are as before.
-fn tell_update(
-    out: &mut Lines,
-    event: u64,
-    thread: ThreadId,
-    object: ObjectId,
-    slot: u32,
-    old: Value,
-    value: Value,
-) -> Result<(), NoMemory>
-    ensures ok { OnOk result ((p : Linked) (b s : Kept) → s.guest.clock ≡ event → out.new
-        ≡ (updated (record { program = p; before = b; thread = thread }) object slot old value
-        (record { state = s; records = out.old })).records) }
-    ensures err { OnErr result (out.new ≡ out.old) }
-{
-    match value {
-        Value::Null | Value::Ref(_) => out.push(Record::Update {
-            event,
-            thread: thread.number(),
-            object: object.number(),
-            slot,
-            old: number_of(old),
-            new: number_of(value),
-        }),
-        Value::Unset | Value::Int(_) | Value::Long(_) | Value::LongHigh => Ok(()),
-    }
-}
-
 /// The event in which operands are taken and a slot is written, which stood there before.
 fn set_slot<L: Ledger>(
     machine: &mut Machine,
@@ -207,64 +166,9 @@ fn write_slot<L: Ledger>(
     };
     let old = slot_value(&machine.heap, &at, visits);
     let event = machine.clock() + 1;
-    tell_update(out, event, thread, x.object, x.slot, old, x.value)?;
+    tell_update(out, event, thread, Some(x.object), x.slot, old, x.value)?;
     set_slot(machine, thread, place.next, x, visits);
     Ok(EventEnd::Done)
-}
-
-/// How many bytes an element of an array of a class takes.
-pub fn width_in(program: &Program, class: ClassId) -> u64
-    ensures value { result ≡ width_of_element (class_at program.now class).info.element }
-    ensures small { result ≤ 8 }
-{
-    if class.number() < program.class_count() {
-        element_width(program.class(class).element)
-    } else {
-        0
-    }
-}
-
-/// How many bytes an array takes.
-pub fn array_size(elements: u32, width: u64) -> u64
-    requires { width ≤ 8 }
-    ensures { result ≡ bytes_of elements width }
-{
-    (24 + elements as u64 * width + 7) / 8 * 8
-}
-
-/// Makes an array of a class in the event that comes next, and tells of it; `None`, and nothing is done, exactly where it
-/// doesn't fit. After `NoMemory` the machine may have one object more, to which nothing refers.
-#[tactic(auto, using(crate::proofs::Fitting::fits_array))]
-fn make_array(
-    program: &Program,
-    machine: &mut Machine,
-    thread: ThreadId,
-    x: NewArray,
-    out: &mut Lines,
-) -> Result<Option<ObjectId>, NoMemory>
-    requires sound { IsSound (kept_of machine.old) }
-    requires clock { machine.old.guest.clock < 2 ^ 40 }
-    ensures err { OnErr result (machine.new.guest ≡ machine.old.guest) }
-    ensures made { IfOk result (λ made.
-        MakesObject (array_made (moment program.now machine.old thread) x.class x.elements (begins
-        (moment program.now machine.old thread))) made machine.old machine.new out.old out.new) }
-{
-    let width = width_in(program, x.class);
-    let event = machine.clock() + 1;
-    let object = match machine.heap.make_array(x.class, x.elements) {
-        Ok(object) => object,
-        Err(MakeFault::Full) => return Ok(None),
-        Err(MakeFault::NoMemory) => return Err(NoMemory),
-    };
-    out.push(Record::Alloc {
-        event,
-        thread: thread.number(),
-        object: object.number(),
-        class: x.class,
-        size: array_size(x.elements, width),
-        length: x.elements,
-    })?;
-    Ok(Some(object))
 }
 
 /// The event in which an array is made. After `NoMemory` the machine may have one object more, to which nothing refers, and
@@ -286,7 +190,7 @@ fn add_array(
         end machine.old machine.new out.old out.new) }
     ensures err { OnErr result (machine.new.guest ≡ machine.old.guest) }
 {
-    let Some(array) = make_array(program, machine, thread, x, out)? else {
+    let Some(array) = make_array(program, machine, thread, x.class, x.elements, out)? else {
         return Ok(EventEnd::ObjectLimit);
     };
     machine.begin_event();

@@ -9,12 +9,11 @@ ghost use Rattle.et_state.specs.State.{Kept};
 ghost use Rattle.et_event.specs.Sites.{natural_of};
 ghost use Rattle.et_refs.specs.Filling.{doing_of, FillsTo, element_count, first_filling, next_filling, with_filled, inner_dimensions, AreFillings};
 
-use crate::changes::{array_size, number_of, width_in};
 use crate::kinds::natural;
 use et_base::{ClassId, NoMemory, ObjectId, Steps, ThreadId, Value};
-use et_heap::MakeFault;
+use et_event::{add_array, tell_update};
 use et_program::{Element, Program};
-use et_state::{Lines, Machine, Record};
+use et_state::{Lines, Machine};
 use std::alloc::Global;
 use std::sync::ledger::Ledger;
 
@@ -52,39 +51,6 @@ fn inner_of(program: &Program, class: ClassId) -> ClassId
     }
 }
 
-/// Makes an array in the event under way, and tells of it. It fits.
-fn make_array(
-    program: &Program,
-    machine: &mut Machine,
-    thread: ThreadId,
-    class: ClassId,
-    elements: u32,
-    out: &mut Lines,
-) -> Result<ObjectId, NoMemory>
-    requires { has_room machine.old.heap 1 elements ≡ true }
-    ensures object { IfOk result (λ o. o ≡ length machine.old.heap) }
-    ensures made { OnOk result (FillsTo (array_made (moment program.now machine.old thread)
-        class elements (doing_of machine.old out.old)) machine.old machine.new out.new) }
-    ensures grown { length machine.old.heap ≤ length machine.new.heap }
-    ensures one { length machine.new.heap ≤ length machine.old.heap + 1 }
-{
-    let width = width_in(program, class);
-    let object = match machine.heap.make_array(class, elements) {
-        Ok(object) => object,
-        Err(MakeFault::NoMemory) => return Err(NoMemory),
-        Err(MakeFault::Full) => unreachable!(),
-    };
-    out.push(Record::Alloc {
-        event: machine.clock(),
-        thread: thread.number(),
-        object: object.number(),
-        class,
-        size: array_size(elements, width),
-        length: elements,
-    })?;
-    Ok(object)
-}
-
 /// How many elements of an array are made at this level of the dimensions: none in the last one.
 #[tactic(auto, using(crate::proofs::Stacking::counted_deep, crate::proofs::Stacking::counted_last))]
 fn count_at(lengths: &[i32], level: usize, elements: u32) -> u32
@@ -99,6 +65,7 @@ fn count_at(lengths: &[i32], level: usize, elements: u32) -> u32
 }
 
 /// Makes an array of a class, at this level of the dimensions, in the event under way. It fits.
+#[tactic(auto, using(et_event::proofs::Making::left_grown, et_event::proofs::Making::left_one))]
 pub fn open_array(
     program: &Program,
     machine: &mut Machine,
@@ -122,7 +89,7 @@ pub fn open_array(
     ensures one { length machine.new.heap ≤ length machine.old.heap + 1 }
 {
     let elements = natural(lengths[level]);
-    let array = make_array(program, machine, thread, class, elements, out)?;
+    let array = add_array(program, machine, thread, class, elements, out)?;
     Ok(Filling {
         array,
         inner: inner_of(program, class),
@@ -192,18 +159,20 @@ fn ascend<L: Ledger>(
     ensures same { length machine.new.heap ≡ length machine.old.heap }
     ensures visits { visits.new ≡ visits.old + 1 }
 {
-    let value = Value::Ref(array);
+    let (object, slot) = (around.array, around.next);
     let old = machine
         .heap
-        .set_slot(around.array, around.next, value, visits);
-    out.push(Record::Update {
-        event: machine.clock(),
-        thread: thread.number(),
-        object: around.array.number(),
-        slot: around.next,
-        old: number_of(old),
-        new: array.number(),
-    })?;
+        .set_slot(object, slot, Value::Ref(array), visits);
+    let event = machine.clock();
+    tell_update(
+        out,
+        event,
+        thread,
+        Some(object),
+        slot,
+        old,
+        Value::Ref(array),
+    )?;
     Ok(Filling {
         next: around.next + 1,
         ..around

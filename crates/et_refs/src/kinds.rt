@@ -3,7 +3,6 @@ ghost use Rattle.std.specs.Prelude.{◌≡◌, ◌≤◌, pos, int_le};
 ghost use Rattle.et_event.specs.Kinds.{zero_of as zero, or_zero as zero_or, narrowed_letter as letter_narrowed, narrowed_int as int_narrowed, narrowed as narrowed_by, kind_of_elements as elements_kind, are_elements as are_such, is_array_element as is_such, kept_element as kept_by, in_bounds as is_within};
 ghost use Rattle.et_pool.specs.Descriptors.{width_of as descriptor_width};
 ghost use Rattle.et_event.specs.Sites.{natural_of};
-ghost use Rattle.et_event.specs.Moments.{base_width as width_of_base, element_width as width_of_element};
 
 use et_base::{Value, to_byte, to_char, to_short};
 use et_event::{Elements, Operand};
@@ -115,30 +114,6 @@ pub(crate) fn in_bounds(index: i32, length: u32) -> bool
     ensures { result ≡ is_within index length }
 {
     0 <= index && (index as i64) < length as i64
-}
-
-/// How many bytes an element of a base type takes.
-fn base_width(kind: u8) -> u64
-    ensures { result ≡ width_of_base kind }
-{
-    match kind {
-        4 | 8 => 1,
-        5 | 9 => 2,
-        6 | 10 => 4,
-        _ => 8,
-    }
-}
-
-/// How many bytes an element takes.
-pub(crate) fn element_width(element: Element) -> u64
-    ensures value { result ≡ width_of_element element }
-    ensures small { result ≤ 8 }
-{
-    match element {
-        Element::NoArray => 0,
-        Element::Base(kind) => base_width(kind),
-        Element::Class(_) => 8,
-    }
 }
 
 /// How many entries a field of a type takes (JVMS 2.6.2), by its descriptor.

@@ -13,12 +13,11 @@ ghost use Rattle.et_event.specs.Sites.{Site};
 ghost use Rattle.et_event.specs.Sound.{IsSoundFor};
 ghost use Rattle.et_event.specs.Places.{IsPlace};
 
-use crate::accesses::make_object;
 use crate::changes::replace_top;
 use crate::class_events::{has_room, ready_event};
 use crate::static_fields::read_field;
 use et_base::{NoMemory, ObjectId, ThreadId, Value};
-use et_event::{Place, class_called, place_of, slots_of};
+use et_event::{Place, add_instance, class_called, place_of, slots_of};
 use et_program::{BuiltInClass, Program};
 use et_state::{EventEnd, Lines, Machine};
 
@@ -58,7 +57,7 @@ fn made_event(
         return Ok(EventEnd::ObjectLimit);
     }
     machine.begin_event();
-    let stream = make_object(program, machine, thread, class, out)?;
+    let stream = add_instance(program, machine, thread, class, out)?;
     machine.set_static(slot, Value::Ref(stream));
     replace_top(machine, thread, 0, Value::Ref(stream), next);
     Ok(EventEnd::Done)
