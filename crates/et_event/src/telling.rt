@@ -40,8 +40,9 @@ pub fn tell_instance(
     })
 }
 
-/// Makes an instance of a class in the event that is so many events ahead of the machine's, 0 or 1, and tells of it; `None`,
-/// and nothing is done, exactly where it doesn't fit. After `NoMemory` the machine may have one object more, to which nothing refers and of which nothing is told.
+/// Makes an instance of a class in the event that is so many events ahead of the machine's, 0 or 1, and tells of it; `None`, and
+/// nothing is done, exactly where it doesn't fit. After `NoMemory` the machine may have one object more, to which nothing refers
+/// and of which nothing is told.
 #[inline(always)]
 #[tactic(auto, using(crate::proofs::Making::fits_made))]
 fn instance_in(
@@ -55,7 +56,8 @@ fn instance_in(
     requires { 0 < ahead → machine.old.guest.clock + ahead < 2 ^ 64 }
     ensures made { IfOk result (λ made.
         MakesObject (instance_made (moment program.now machine.old thread) class
-        (in_event (machine.old.guest.clock + ahead) machine.old)) made machine.old machine.new out.old out.new) }
+        (in_event (machine.old.guest.clock + ahead) machine.old))
+        made machine.old machine.new out.old out.new) }
     ensures left { OnErr result (MayHaveMade
         (new_object class 0 (class_at program.now class).info.slots) machine.old machine.new) }
     ensures untold { OnErr result (out.new ≡ out.old) }
@@ -72,7 +74,8 @@ fn instance_in(
 }
 
 /// Makes an array of a class in the event that is so many events ahead of the machine's, 0 or 1, and tells of it; `None`, and
-/// nothing is done, exactly where it doesn't fit. After `NoMemory` the machine may have one object more, to which nothing refers and of which nothing is told.
+/// nothing is done, exactly where it doesn't fit. After `NoMemory` the machine may have one object more, to which nothing refers
+/// and of which nothing is told.
 #[inline(always)]
 #[tactic(auto, using(crate::proofs::Making::fits_made))]
 fn array_in(
@@ -87,7 +90,8 @@ fn array_in(
     requires { 0 < ahead → machine.old.guest.clock + ahead < 2 ^ 64 }
     ensures made { IfOk result (λ made.
         MakesObject (array_made (moment program.now machine.old thread) class elements
-        (in_event (machine.old.guest.clock + ahead) machine.old)) made machine.old machine.new out.old out.new) }
+        (in_event (machine.old.guest.clock + ahead) machine.old))
+        made machine.old machine.new out.old out.new) }
     ensures left { OnErr result
         (MayHaveMade (new_object class elements elements) machine.old machine.new) }
     ensures untold { OnErr result (out.new ≡ out.old) }
