@@ -9,4 +9,3 @@ mod BenchHistory
 mod ConvertLemmas
 mod OneThing
 mod BehindLemmas
-pub use Rattle.et_loop.proofs.Dates as RunDates
