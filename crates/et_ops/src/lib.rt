@@ -25,5 +25,5 @@ pub use divisions::divide;
 pub use ends::PlainEnd;
 pub use event::ops_event;
 pub use lifted::lose_each;
-pub use operands::{give, int_at, reference_at, take};
+pub use operands::{give, int_at, long_at, reference_at, take};
 pub use step::run_frame;

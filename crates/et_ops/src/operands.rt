@@ -54,7 +54,7 @@ pub(crate) fn two_ints(running: &Running) -> Option<(i32, i32)>
 
 /// The long whose upper entry is so far below the top.
 #[inline(always)]
-pub(crate) fn long_at(running: &Running, k: u32) -> Option<i64>
+pub fn long_at(running: &Running, k: u32) -> Option<i64>
     requires { k + 1 < 2 ^ 32 }
     ensures { result ≡ long_of (operand_of running.now.frame k)
         (operand_of running.now.frame (k + 1)) }

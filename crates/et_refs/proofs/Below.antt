@@ -175,12 +175,15 @@ reference_named m t k r has sound e =
     (sound.roots o (top_root m.guest t o has inside), inside)
 
 -- .. and as a value it refers to that object alone
-pub named_in : (m : MachineState) (f : FrameState) (r : Reference) → IsNamedReference m f r → (o : ℕ) → Contains (refs_of_value (referent_value r)) o → Contains (frame_roots f) o
-named_in m f None named o c = absurd (Contains-none o c)
-named_in m f (Some x) named o c = (named o (only x o c)).1
+pub referent_in : (f : FrameState) (r : Reference) → ((o : ℕ) → r ≡ Some o → Contains (frame_roots f) o) → (o : ℕ) → Contains (refs_of_value (referent_value r)) o → Contains (frame_roots f) o
+referent_in f None there o c = absurd (Contains-none o c)
+referent_in f (Some x) there o c = there o (only x o c)
   where
     only : (x o : ℕ) → Contains (x ∷ []) o → Some x ≡ Some o
     only x o c = elim (Contains-cons x [] o c) [ inl same ↦ ap (λ (k : ℕ). Some k) same | inr d ↦ absurd (Contains-none o d) ]
+
+pub named_in : (m : MachineState) (f : FrameState) (r : Reference) → IsNamedReference m f r → (o : ℕ) → Contains (refs_of_value (referent_value r)) o → Contains (frame_roots f) o
+named_in m f r named o c = referent_in f r (λ u is. (named u is).1) o c
 
 pub int_in : (f : FrameState) (n : ℤ) (o : ℕ) → Contains (refs_of_value (Int n)) o → Contains (frame_roots f) o
 int_in f n o c = absurd (Contains-none o c)

@@ -1,5 +1,5 @@
 -- The rows in parts: what goes on behind each check.
-use Rattle.std.proofs.Common.{◌≡◌, ℕ, ◌++◌, ◌∷◌, ℤ, List, Some, Result, Ok, Err, IfOk, Bool, true, false, unwrap_or, drop, not, refl, sym, ◌∙◌, ap}
+use Rattle.std.proofs.Common.{◌≡◌, ℕ, ◌++◌, ◌∷◌, ℤ, List, Option, Some, Result, Ok, Err, IfOk, Bool, true, false, unwrap_or, drop, not, refl, sym, ◌∙◌, ap}
 use Rattle.std.specs.Prelude.{pos, ◌+◌, nat_le, length}
 use Rattle.et_class.specs.Descriptors.{width_of}
 use Rattle.et_state.specs.Threads.{FrameState}
@@ -18,6 +18,7 @@ use Rattle.et_event.specs.Checks.{Reference, with_int, with_reference, with_valu
 use Rattle.et_event.specs.Heap.{leaving_values, field_fits, resolved_field, is_static_at, with_holder, with_element, element_of_array, length_of, passes_element, resolved_class, cast, type_tested, truth, new_array_of}
 use Rattle.et_event.specs.Kinds.{kind_of_field, or_zero, narrowed, kind_of_elements, kept_element, is_array_element, are_elements, in_bounds}
 use Rattle.et_event.specs.Operands.{operand_kind}
+use Rattle.et_event.specs.PoolOperands.Operand.{Operand}
 use Rattle.et_event.specs.Sites.{Site, Member, natural_of}
 use Rattle.et_refs.specs.declared.refusals.Refusal.{Refusal}
 use Rattle.et_refs.specs.Changes.{put_outcome}
@@ -50,8 +51,14 @@ on_int e f go same = ap (λ (x : FrameState). with_int (ill_typed e) x.operands 
 pub on_reference : (e : Moment) (f : FrameState) (go : Reference → List Value → Outcome Kept) → current_frame e ≡ f → with_reference (ill_typed e) (current_frame e).operands go ≡ with_reference (ill_typed e) f.operands go
 on_reference e f go same = ap (λ (x : FrameState). with_reference (ill_typed e) x.operands go) same
 
+pub on_value : (e : Moment) (f : FrameState) (kind : Option Operand) (go : Value → List Value → Outcome Kept) → current_frame e ≡ f → with_value kind (ill_typed e) (current_frame e).operands go ≡ with_value kind (ill_typed e) f.operands go
+on_value e f kind go same = ap (λ (x : FrameState). with_value kind (ill_typed e) x.operands go) same
+
 pub on_fitting : (e : Moment) (f : FrameState) (m : Member) (below : List Value) (go : Outcome Kept) → current_frame e ≡ f → ill_typed_unless e (field_fits e below m) go ≡ ill_typed_unless e (nat_le (width_of m.descriptor + length below) f.room) go
 on_fitting e f m below go same = ap (λ (x : FrameState). ill_typed_unless e (nat_le (width_of m.descriptor + length below) x.room) go) same
+
+pub store_back : (e : Moment) (at : Site) (f : FrameState) (n o i : ℕ) (v : Value) → current_frame e ≡ f → goes (slot_written e o i v (leaving_values e at (drop n f.operands) (begins e))) ≡ goes (slot_written e o i v (leaving_values e at (drop n (current_frame e).operands) (begins e)))
+store_back e at f n o i v same = ap (λ (x : FrameState). goes (slot_written e o i v (leaving_values e at (drop n x.operands) (begins e)))) (sym same)
 
 pub put_back : (e : Moment) (at : Site) (f : FrameState) (n : ℕ) (v : Value) → current_frame e ≡ f → goes (leaving_values e at (entries_of v ++ drop n f.operands) (begins e)) ≡ put_outcome e at (drop n (current_frame e).operands) v
 put_back e at f n v same = ap (λ (x : FrameState). goes (leaving_values e at (entries_of v ++ drop n x.operands) (begins e))) (sym same)
@@ -172,3 +179,8 @@ sized e at class elements = ends_event (leaving_values e at (Ref (next_object (b
 pub whatever : {A E : Type 0} {P : Type 0} (r : Result A E) → P → IfOk r (λ a. P)
 whatever (Ok a) h = h
 whatever (Err e) h = tt
+
+-- .. or well with each
+pub each_well : {A E : Type 0} (P : A → Type 0) (r : Result A E) → ((a : A) → P a) → IfOk r P
+each_well P (Ok a) h = h a
+each_well P (Err e) h = tt

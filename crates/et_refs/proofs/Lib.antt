@@ -30,3 +30,4 @@ pub mod OutMaking
 pub mod OutReading
 pub mod Over
 pub mod Lifting
+pub mod Storing

@@ -1,5 +1,5 @@
 -- Instructions that read the heap, over lifted frames.
-use Rattle.std.proofs.Common.{◌≡◌, ℕ, true, List, [], ◌++◌, take, drop, Option, Some, None, refl, sym, ap, subst, ◌∙◌, append-nil, Contains}
+use Rattle.std.proofs.Common.{◌≡◌, ℕ, true, false, List, [], ◌++◌, take, drop, Option, Some, None, refl, sym, ap, subst, ◌∙◌, append-nil, Contains}
 use Rattle.std.specs.Prelude.{Result, Ok, option_and_then}
 use Rattle.et_base.specs.declared.value.Value.{Value}
 use Rattle.et_code.specs.declared.instr.Instr.{Instr}
@@ -42,6 +42,7 @@ use Rattle.et_ops.proofs.InFrame.{ran, ran_begin, ran_step}
 use Rattle.et_refs.specs.Changes.{MayExchange, exchange_outcome}
 use Rattle.et_refs.specs.Reads.{exchanged, is_read_row, moment_over}
 use Rattle.et_refs.specs.Refusals.{outcome_of}
+use Rattle.et_refs.specs.Rows.{is_get_static}
 use Rattle.et_refs.specs.Steps.{Instructs, IsStepOver, MovesOver, StepsOver, over}
 use Rattle.et_refs.specs.declared.changes.Exchange.{Exchange}
 use Rattle.et_refs.specs.declared.refusals.Refusal.{Refusal}
@@ -84,11 +85,11 @@ held_led s t f lost sound has moves =
 
 -- WHAT THE TABLE SAYS
 
--- no instruction that reads the heap so calls a method of texts, or reads System.out
+-- no instruction on fields, arrays and classes calls a method of texts, or but getstatic reads System.out
 no_text : (e : Moment) (at : Site) (r : HeapRow) → text_call_at e at (rows.Heap r) ≡ None
 no_text e at r = refl
 
-no_out : (e : Moment) (at : Site) (r : HeapRow) → is_read_row r ≡ true → out_at e at (rows.Heap r) ≡ None
+no_out : (e : Moment) (at : Site) (r : HeapRow) → is_get_static r ≡ false → out_at e at (rows.Heap r) ≡ None
 no_out e at heap_rows.GetStatic h = cc
 no_out e at heap_rows.PutStatic h = refl
 no_out e at heap_rows.GetField h = refl
@@ -103,18 +104,33 @@ no_out e at heap_rows.ArrayLength h = refl
 no_out e at heap_rows.CheckCast h = refl
 no_out e at heap_rows.InstanceOf h = refl
 
+read_no_static : (r : HeapRow) → is_read_row r ≡ true → is_get_static r ≡ false
+read_no_static heap_rows.GetStatic h = cc
+read_no_static heap_rows.PutStatic h = refl
+read_no_static heap_rows.GetField h = refl
+read_no_static heap_rows.PutField h = refl
+read_no_static (heap_rows.LoadElement k) h = refl
+read_no_static (heap_rows.StoreElement k) h = refl
+read_no_static heap_rows.New h = refl
+read_no_static heap_rows.NewArray h = refl
+read_no_static heap_rows.NewReferenceArray h = refl
+read_no_static heap_rows.NewMultiArray h = refl
+read_no_static heap_rows.ArrayLength h = refl
+read_no_static heap_rows.CheckCast h = refl
+read_no_static heap_rows.InstanceOf h = refl
+
 -- what stands in a method
 abbrev pub site_in : Linked → MethodInfo → Instr × ℕ → Site
 site_in p m x = record { instr = x.0; next = x.1; code = (present_body m.code).code; pool = pool_of_class p m.class; class = m.class }
 
-module _ (p : Linked) (heap : Objects) (f : FrameState) (x : Instr × ℕ) (row : HeapRow) (method : MethodInfo) (runs : method ≡ running_method p f) (decoded : instruction_at (present_body method.code).code f.pc ≡ Ok x) (at_row : row_of x.0.opcode ≡ Some (rows.Heap row)) (reads : is_read_row row ≡ true) where
+module _ (p : Linked) (heap : Objects) (f : FrameState) (x : Instr × ℕ) (row : HeapRow) (method : MethodInfo) (runs : method ≡ running_method p f) (decoded : instruction_at (present_body method.code).code f.pc ≡ Ok x) (at_row : row_of x.0.opcode ≡ Some (rows.Heap row)) (other : is_get_static row ≡ false) where
   decoded_there : (g : GuestState) (t : ℕ) → top g t ≡ f → decoded_at p (top g t) ≡ Ok x
   decoded_there g t same = ap (λ (y : FrameState). decoded_at p y) same ∙ (ap (λ (m : MethodInfo). instruction_at (present_body m.code).code f.pc) (sym runs) ∙ decoded)
 
   site_there : (g : GuestState) (t : ℕ) → top g t ≡ f → site_of p (top g t) x ≡ site_in p method x
   site_there g t same = ap (λ (y : FrameState). site_of p y x) same ∙ ap (λ (m : MethodInfo). site_in p m x) (sym runs)
 
-  event_over : (g : GuestState) (t : ℕ) → Instructs g t f → event p (over heap g) t ≡ heap_event (moment_over p heap g t) (site_in p method x) row
+  pub event_over : (g : GuestState) (t : ℕ) → Instructs g t f → event p (over heap g) t ≡ heap_event (moment_over p heap g t) (site_in p method x) row
   unfolding event
   event_over g t i =
       let e : Moment = moment_over p heap g t in
@@ -123,7 +139,7 @@ module _ (p : Linked) (heap : Objects) (f : FrameState) (x : Instr × ℕ) (row 
       ∙ (ap (λ (o : Option Row). by_row e (site_of p (top g t) x) o) at_row
       ∙ ap (λ (at : Site). heap_event e at row) (site_there g t i.frame)))
 
-  silent_over : (g : GuestState) (t : ℕ) → Instructs g t f → (text_call p (over heap g) t ≡ None) × (out_turn p (over heap g) t ≡ None)
+  pub silent_over : (g : GuestState) (t : ℕ) → Instructs g t f → (text_call p (over heap g) t ≡ None) × (out_turn p (over heap g) t ≡ None)
   unfolding text_call
   silent_over g t i =
       let e : Moment = moment_over p heap g t in (
@@ -134,7 +150,7 @@ module _ (p : Linked) (heap : Objects) (f : FrameState) (x : Instr × ℕ) (row 
         out_at_turn p (over heap g) t Instruction i.turn
             ∙ (ap (λ (d : Result (Instr × ℕ) CodeFault). out_by e d) (decoded_there g t i.frame)
             ∙ (ap (λ (r : Option Row). option_and_then (out_at e (site_of p (top g t) x)) r) at_row
-            ∙ no_out e (site_of p (top g t) x) row reads)),
+            ∙ no_out e (site_of p (top g t) x) row other)),
       )
 
   -- it is done
@@ -158,7 +174,7 @@ pub read_steps : (p : Linked) (heap : Objects) (x : Instr × ℕ) (row : HeapRow
     → ((g : GuestState) (t : ℕ) → top g t ≡ r.frame → heap_event (moment_over p heap g t) (site_in p method x) row ≡ exchange_outcome (moment_over p heap g t) (site_in p method x) y)
     → r' ≡ exchanged y x.1 r → StepsOver p heap heap true r r'
 read_steps p heap x row method y r r' runs decoded at_row reads may is e =
-    subst (λ (q : RunningState). StepsOver p heap heap true r q) (sym e) (refl, read_over p heap r.frame x row method runs decoded at_row reads y may is)
+    subst (λ (q : RunningState). StepsOver p heap heap true r q) (sym e) (refl, read_over p heap r.frame x row method runs decoded at_row (read_no_static row reads) y may is)
 
 -- of an answer that goes on, what goes on
 pub goes_on : (e : Moment) (o : Outcome Kept) (r : Result Exchange Refusal) (x : Exchange) (at : Site) → r ≡ Ok x → o ≡ outcome_of e r (exchange_outcome e at) → o ≡ exchange_outcome e at x

@@ -20,6 +20,8 @@ use Rattle.et_event.specs.declared.rows.Elements.TheVariants as elements
 use Rattle.et_event.specs.PoolOperands.Operand.{Operand}
 use Rattle.et_event.specs.PoolOperands.Operand.TheVariants as operand
 use Rattle.et_event.specs.Kinds.{or_zero, zero_of, narrowed, kept_element}
+use Rattle.et_event.specs.Sound.{is_of_kind}
+use Rattle.et_refs.specs.Changes.{is_number}
 use Rattle.et_refs.specs.Reads.{IsSoundHeap}
 
 -- OBJECTS
@@ -56,6 +58,61 @@ kept_refers type (Long n) o c = c
 kept_refers type LongHigh o c = c
 kept_refers type Null o c = c
 kept_refers type (Ref x) o c = c
+
+-- .. and is a number where the value is one
+pub kept_number : (type : List ℕ) (v : Value) → is_number (narrowed type v) ≡ true → is_number v ≡ true
+kept_number type Unset h = h
+kept_number type (Int n) h = refl
+kept_number type (Long n) h = h
+kept_number type LongHigh h = h
+kept_number type Null h = h
+kept_number type (Ref x) h = h
+
+pub element_number : (kind : Elements) (v : Value) → is_number (kept_element kind v) ≡ true → is_number v ≡ true
+element_number elements.Int v h = h
+element_number elements.Long v h = h
+element_number elements.Reference v h = h
+element_number elements.Byte Unset h = h
+element_number elements.Byte (Int n) h = refl
+element_number elements.Byte (Long n) h = h
+element_number elements.Byte LongHigh h = h
+element_number elements.Byte Null h = h
+element_number elements.Byte (Ref x) h = h
+element_number elements.Char Unset h = h
+element_number elements.Char (Int n) h = refl
+element_number elements.Char (Long n) h = h
+element_number elements.Char LongHigh h = h
+element_number elements.Char Null h = h
+element_number elements.Char (Ref x) h = h
+element_number elements.Short Unset h = h
+element_number elements.Short (Int n) h = refl
+element_number elements.Short (Long n) h = h
+element_number elements.Short LongHigh h = h
+element_number elements.Short Null h = h
+element_number elements.Short (Ref x) h = h
+
+-- no reference stands where numbers do
+no_number : (v : Value) → is_number v ≡ true → is_of_kind (Some operand.Reference) v ≡ true → ⊥
+no_number Unset h k = cc
+no_number (Int n) h k = cc
+no_number (Long n) h k = cc
+no_number LongHigh h k = cc
+no_number Null h k = cc
+no_number (Ref x) h k = cc
+
+no_such : (kind : Option Operand) (v : Value) (x : ℕ) → is_number v ≡ true → is_of_kind kind v ≡ true → is_of_kind kind (Ref x) ≡ true → ⊥
+no_such None v x h k old = cc
+no_such (Some operand.Int) v x h k old = cc
+no_such (Some operand.Long) v x h k old = cc
+no_such (Some operand.Reference) v x h k old = no_number v h k
+
+pub no_reference_there : (kind : Option Operand) (v old : Value) → is_number v ≡ true → is_of_kind kind v ≡ true → is_of_kind kind old ≡ true → refs_of_value old ≡ []
+no_reference_there kind v Unset h k old = refl
+no_reference_there kind v (Int n) h k old = refl
+no_reference_there kind v (Long n) h k old = refl
+no_reference_there kind v LongHigh h k old = refl
+no_reference_there kind v Null h k old = refl
+no_reference_there kind v (Ref x) h k old = absurd (no_such kind v x h k old)
 
 -- FIELDS: what resolution finds has the descriptor that was asked for
 

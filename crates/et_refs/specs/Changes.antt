@@ -1,9 +1,9 @@
 -- What an event on fields, arrays and classes does once no check refused: it puts a value in the place of operands, it
 -- writes a slot, or it makes an array.
-use Rattle.std.specs.Prelude.{◌≡◌, ℕ, ◌+◌, ◌<◌, ◌≤◌, List, ◌∷◌, ◌++◌, length, drop, Some, Contains}
+use Rattle.std.specs.Prelude.{◌≡◌, ℕ, ◌+◌, ◌<◌, ◌≤◌, Bool, true, false, List, [], ◌∷◌, ◌++◌, length, drop, Some, Contains}
 use Rattle.et_base.specs.declared.value.Value.{Value}
-use Rattle.et_base.specs.declared.value.Value.TheVariants.{Ref}
-use Rattle.et_heap.specs.Objects.{Objects, IsHeld, object_at}
+use Rattle.et_base.specs.declared.value.Value.TheVariants.{Int, Long, Ref}
+use Rattle.et_heap.specs.Objects.{Objects, IsHeld, object_at, slot_of}
 use Rattle.et_heap.specs.Refs.{refs_of_value}
 use Rattle.et_state.specs.Threads.{FrameState}
 use Rattle.et_state.specs.ThreadRoots.{frame_roots}
@@ -36,10 +36,15 @@ new_array_outcome e at x = ends_event (leaving_values e at (Ref (next_object (be
 
 abbrev pub change_outcome : Moment → Site → Change → Outcome Kept
 change_outcome e at (change.Put x) = exchange_outcome e at x
-change_outcome e at (change.Write x) = store_outcome e at x
 change_outcome e at (change.Make x) = new_array_outcome e at x
 
 -- WHAT HOLDS OF SUCH A CHANGE
+
+-- a number, of which no record tells that it is written
+abbrev pub is_number : Value → Bool
+is_number (Int n) = true
+is_number (Long n) = true
+is_number other = false
 
 -- the operands are there, the value that is put in their place fits, and what it refers to is held
 pub record MayExchange (heap : Objects) (f : FrameState) (x : Exchange) : Type 0 where
@@ -48,23 +53,24 @@ pub record MayExchange (heap : Objects) (f : FrameState) (x : Exchange) : Type 0
   pub room : length (entries_of x.value) + length (drop x.taken f.operands) ≤ f.room
   pub held : AreHeld heap (refs_of_value x.value)
 
--- the operands are there, the object stands in the frame and has the slot, and what the value refers to stands in the frame
-pub record MayStore (m : MachineState) (f : FrameState) (x : Store) : Type 0 where
+-- the operands are there, the object stands in the frame and has the slot, what the value refers to stands in the frame, and
+-- a number takes the place of no reference
+pub record MayStore (heap : Objects) (f : FrameState) (x : Store) : Type 0 where
   pub taken : x.taken ≤ length f.operands
   pub few : x.taken ≤ 8
   pub object : Contains (frame_roots f) x.object
-  pub slot : x.slot < length (object_at m.heap x.object).slots
+  pub slot : x.slot < length (object_at heap x.object).slots
   pub value : IsIn f x.value
+  pub number : is_number x.value ≡ true → refs_of_value (slot_of (object_at heap x.object) x.slot) ≡ []
 
 -- the length is there
 pub record MayMake (f : FrameState) : Type 0 where
   pub taken : 1 ≤ length f.operands
   pub room : length f.operands ≤ f.room
 
-abbrev pub MayChange : MachineState → FrameState → Change → Type 0
-MayChange m f (change.Put x) = MayExchange m.heap f x
-MayChange m f (change.Write x) = MayStore m f x
-MayChange m f (change.Make x) = MayMake f
+abbrev pub MayChange : Objects → FrameState → Change → Type 0
+MayChange heap f (change.Put x) = MayExchange heap f x
+MayChange heap f (change.Make x) = MayMake f
 
 -- the object that a reference names is held and stands in the frame
 abbrev pub IsNamedReference : MachineState → FrameState → Reference → Type 0

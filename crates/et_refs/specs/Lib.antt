@@ -2,6 +2,7 @@ pub mod Refusals
 pub mod Changes
 pub mod Steps
 pub mod Reads
+pub mod Writes
 pub mod Slots
 pub mod NamedFields
 pub mod NamedClasses

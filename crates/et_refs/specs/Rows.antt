@@ -1,7 +1,8 @@
 -- What the instructions on fields, arrays and classes come to, by their rows.
 use Rattle.std.specs.Prelude.{◌≡◌, Bool, true, false}
 use Rattle.et_state.specs.Threads.{FrameState}
-use Rattle.et_state.specs.State.{Kept, MachineState}
+use Rattle.et_heap.specs.Objects.{Objects}
+use Rattle.et_state.specs.State.{Kept}
 use Rattle.et_state.specs.Outcome.{Outcome}
 use Rattle.et_program.specs.Entries.{Linked}
 use Rattle.et_event.specs.declared.rows.HeapRow.{HeapRow}
@@ -21,10 +22,10 @@ plan_outcome e at (plan.Access x) = wanted_outcome e at x
 plan_outcome e at plan.Arrays = new_multi_array e at
 
 -- what holds of the plan of a row
-abbrev pub MayDo : Linked → MachineState → FrameState → HeapRow → Plan → Type 0
-MayDo p m f r (plan.Change x) = MayChange m f x
-MayDo p m f r (plan.Access x) = MayWant p f x
-MayDo p m f r plan.Arrays = r ≡ NewMultiArray
+abbrev pub MayDo : Linked → Objects → FrameState → HeapRow → Plan → Type 0
+MayDo p heap f r (plan.Change x) = MayChange heap f x
+MayDo p heap f r (plan.Access x) = MayWant p f x
+MayDo p heap f r plan.Arrays = r ≡ NewMultiArray
 
 -- the row of getstatic
 abbrev pub is_get_static : HeapRow → Bool

@@ -19,6 +19,7 @@ ghost use Rattle.et_event.specs.Sound.{IsSoundFor};
 ghost use Rattle.et_event.specs.Places.{site_at};
 ghost use Rattle.et_refs.specs.Changes.{IsNamedReference, MayExchange, exchange_outcome, put_outcome};
 ghost use Rattle.et_refs.specs.NamedClasses.{IsNamedAt};
+ghost use Rattle.et_refs.specs.Reads.{IsSoundHeap};
 ghost use Rattle.et_refs.specs.Refusals.{outcome_of};
 
 use crate::changes::Exchange;
@@ -27,6 +28,7 @@ use crate::operands::{operands_fit, take_reference};
 use crate::refusals::Refusal;
 use et_base::{ClassId, ObjectId, Steps, ThreadId, Value};
 use et_event::{GuestError, Place, class_operand, index_of};
+use et_heap::Heap;
 use et_program::Program;
 use et_state::Machine;
 use std::sync::ledger::Ledger;
@@ -65,18 +67,18 @@ pub(crate) fn class_named<'a>(place: &Place<'a>) -> Result<NamedClass<'a>, Refus
 /// Whether an object passes for one of a class.
 pub(crate) fn passes<L: Ledger>(
     program: &Program,
-    machine: &Machine,
+    heap: &Heap,
     object: ObjectId,
     class: ClassId,
     visits: &mut Steps<L>,
 ) -> bool
-    requires sound { IsSoundFor program.now (kept_of machine.now) }
-    requires held { IsHeld machine.now.heap object }
+    requires sound { IsSoundHeap program.now heap.now }
+    requires held { IsHeld heap.now object }
     requires class { class < length program.now.classes }
-    ensures value { result ≡ passing program.now (object_at machine.now.heap object).class class }
+    ensures value { result ≡ passing program.now (object_at heap.now object).class class }
     ensures visits { visits.new ≡ visits.old + 1 }
 {
-    let low = machine.heap.class_of(object, visits);
+    let low = heap.class_of(object, visits);
     program.passes(low, class)
 }
 
@@ -101,7 +103,7 @@ fn cast_object<L: Ledger>(
     ensures visits { visits.new ≤ visits.old + 1 }
 {
     let class = resolve_named(program, named)?;
-    let holds = passes(program, machine, object, class, visits);
+    let holds = passes(program, &machine.heap, object, class, visits);
     throws_unless(GuestError::ClassCastException, holds)?;
     Ok(Value::Ref(object))
 }
@@ -127,7 +129,7 @@ fn test_object<L: Ledger>(
     ensures visits { visits.new ≤ visits.old + 1 }
 {
     let class = resolve_named(program, named)?;
-    let holds = passes(program, machine, object, class, visits);
+    let holds = passes(program, &machine.heap, object, class, visits);
     Ok(truth(holds))
 }
 

@@ -50,7 +50,6 @@ pub struct NewArray {
 #[derive(Clone, Copy)]
 pub enum Change {
     Put(Exchange),
-    Write(Store),
     Make(NewArray),
 }
 
@@ -122,7 +121,7 @@ fn set_slot<L: Ledger>(
     requires frame { HasFrame machine.old.guest thread }
     requires sound { IsSound (kept_of machine.old) }
     requires clock { machine.old.guest.clock < 2 ^ 40 }
-    requires may { MayStore machine.old (top machine.old.guest thread) x }
+    requires may { MayStore machine.old.heap (top machine.old.guest thread) x }
     ensures led { Led (kept_of machine.old) (record {
       heap = with_object_at machine.old.heap
           x.object (with_slot x.slot x.value (object_at machine.old.heap x.object));
@@ -141,7 +140,7 @@ fn set_slot<L: Ledger>(
 }
 
 /// The event in which operands are taken and a slot is written. After `NoMemory` all is as before.
-fn write_slot<L: Ledger>(
+pub(crate) fn write_slot<L: Ledger>(
     program: &Program,
     machine: &mut Machine,
     thread: ThreadId,
@@ -153,7 +152,7 @@ fn write_slot<L: Ledger>(
     requires frame { HasFrame machine.old.guest thread }
     requires sound { IsSound (kept_of machine.old) }
     requires clock { machine.old.guest.clock < 2 ^ 40 }
-    requires may { MayStore machine.old (top machine.old.guest thread) x }
+    requires may { MayStore machine.old.heap (top machine.old.guest thread) x }
     ensures ok { IfOk result (λ end. EventAnswers
         (store_outcome (moment program.now machine.old thread) (site_at place.now) x)
         end machine.old machine.new out.old out.new) }
@@ -200,31 +199,28 @@ fn add_array(
 
 /// The event that does this change at a place. After `NoMemory` the machine may have one object more, to which nothing
 /// refers, and there may be its record; all else is as before.
-pub(crate) fn carry_out<L: Ledger>(
+pub(crate) fn carry_out(
     program: &Program,
     machine: &mut Machine,
     thread: ThreadId,
     place: &Place<'_>,
     change: Change,
     out: &mut Lines,
-    visits: &mut Steps<L>,
 ) -> Result<EventEnd, NoMemory>
     requires frame { HasFrame machine.old.guest thread }
     requires sound { IsSound (kept_of machine.old) }
     requires clock { machine.old.guest.clock < 2 ^ 40 }
-    requires may { MayChange machine.old (top machine.old.guest thread) change }
+    requires may { MayChange machine.old.heap (top machine.old.guest thread) change }
     ensures ok { IfOk result (λ end. EventAnswers
         (change_outcome (moment program.now machine.old thread) (site_at place.now) change)
         end machine.old machine.new out.old out.new) }
     ensures err { OnErr result (machine.new.guest ≡ machine.old.guest) }
-    ensures visits { visits.new ≤ visits.old + 2 }
 {
     match change {
         Change::Put(x) => {
             put_value(machine, thread, place.next, x);
             Ok(EventEnd::Done)
         }
-        Change::Write(x) => write_slot(program, machine, thread, place, x, out, visits),
         Change::Make(x) => add_array(program, machine, thread, place, x, out),
     }
 }

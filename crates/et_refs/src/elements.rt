@@ -1,20 +1,17 @@
 //! Elements of arrays (JVMS 6.5, arraylength, iaload, iastore and their kin).
 ghost use Rattle.std.specs.Prelude.{◌≡◌, ℕ, ◌+◌, ◌<◌, ◌≤◌, ◌^◌, true, length, pos, Some, IfOk};
 ghost use Rattle.et_base.specs.declared.value.Value.TheVariants.{Int, Ref};
-ghost use Rattle.et_state.specs.State.{GuestState, Kept, kept_of};
+ghost use Rattle.et_state.specs.State.{GuestState, Kept};
 ghost use Rattle.et_heap.specs.Refs.{refs_of_value};
 ghost use Rattle.et_program.specs.Entries.{Linked, class_at};
-ghost use Rattle.et_state.specs.Words.{HasFrame, top};
-ghost use Rattle.et_state.specs.Moves.{AreInHeap};
+ghost use Rattle.et_state.specs.Words.{top};
 ghost use Rattle.et_event.specs.Checks.{entries_of};
 ghost use Rattle.et_state.specs.Outcome.{Outcome};
 ghost use Rattle.et_heap.specs.Objects.{IsHeld, object_at, slot_of};
 ghost use Rattle.et_event.specs.Heap.{with_element, load_element, store_element, array_length, element_of_array as elements_of, passes_element as passing_element};
 ghost use Rattle.et_event.specs.Kinds.{kind_of_elements as elements_kind, or_zero as zero_or, is_array_element as is_such};
 ghost use Rattle.et_event.specs.Sites.{Site, natural_of};
-ghost use Rattle.et_event.specs.Sound.{IsSoundFor};
-ghost use Rattle.et_refs.specs.Changes.{MayExchange, MayStore, exchange_outcome, store_outcome};
-ghost use Rattle.et_event.specs.Moments.{moment};
+ghost use Rattle.et_refs.specs.Changes.{MayExchange, MayStore, exchange_outcome, is_number, store_outcome};
 ghost use Rattle.et_refs.specs.Reads.{AreHeld, IsReadable, IsSoundHeap, moment_over};
 ghost use Rattle.et_refs.specs.Refusals.{outcome_of};
 ghost use Rattle.et_refs.specs.Slots.{IsSlotAt};
@@ -23,16 +20,17 @@ ghost use Rattle.et_event.specs.Programs.{IsElementWithin, AreElementsWithin};
 use crate::casts::passes;
 use crate::changes::{Exchange, Store};
 use crate::checks::{ill_typed_unless, not_null, throws_unless};
-use crate::frame_operands::{running_int, running_operands_fit, running_reference};
+use crate::frame_operands::{
+    running_element, running_int, running_operands_fit, running_reference,
+};
 use crate::kinds::{are_elements, in_bounds, is_array, kept_element, kind_of_elements, natural};
-use crate::operands::{take_element, take_int, take_reference};
 use crate::refusals::Refusal;
 use crate::slots::{SlotAt, read_slot};
-use et_base::{ObjectId, Steps, ThreadId, Value};
+use et_base::{ObjectId, Steps, Value};
 use et_event::{Elements, GuestError};
 use et_heap::Heap;
 use et_program::{Element, Program};
-use et_state::{Machine, Running};
+use et_state::Running;
 use std::sync::ledger::Ledger;
 
 /// What an object has as its elements.
@@ -200,74 +198,81 @@ pub(crate) fn read_length<L: Ledger>(
 }
 
 /// Whether an object may be an element: whether it passes for one of the class of elements.
+#[inline(always)]
 fn passes_for<L: Ledger>(
     program: &Program,
-    machine: &Machine,
-    thread: ThreadId,
+    heap: &Heap,
     object: ObjectId,
     element: Element,
     visits: &mut Steps<L>,
 ) -> bool
-    requires sound { IsSoundFor program.now (kept_of machine.now) }
-    requires object { IsHeld machine.now.heap object }
+    requires sound { IsSoundHeap program.now heap.now }
+    requires object { IsHeld heap.now object }
     requires element { IsElementWithin (length program.now.classes) element }
-    ensures value { result
-        ≡ passing_element (moment program.now machine.now thread) (Ref object) element }
+    ensures value { (g : GuestState) (t : ℕ) → result
+        ≡ passing_element (moment_over program.now heap.now g t) (Ref object) element }
     ensures visits { visits.new ≤ visits.old + 1 }
 {
     match element {
-        Element::Class(class) => passes(program, machine, object, class, visits),
+        Element::Class(class) => passes(program, heap, object, class, visits),
         Element::NoArray | Element::Base(_) => true,
     }
 }
 
 /// Whether an array may have this value as an element: null, an object that passes for one of the class of its elements, and
 /// what is no reference.
+#[inline(always)]
 fn passes_element<L: Ledger>(
     program: &Program,
-    machine: &Machine,
-    thread: ThreadId,
+    heap: &Heap,
     value: Value,
     array: ObjectId,
     visits: &mut Steps<L>,
 ) -> bool
-    requires sound { IsSoundFor program.now (kept_of machine.now) }
+    requires sound { IsSoundHeap program.now heap.now }
     requires elements { AreElementsWithin program.now }
-    requires array { IsHeld machine.now.heap array }
-    requires value { AreInHeap machine.now (refs_of_value value) }
-    ensures value { result ≡ passing_element (moment program.now machine.now thread) value
-        (elements_of (moment program.now machine.now thread) array) }
+    requires array { IsHeld heap.now array }
+    requires value { AreHeld heap.now (refs_of_value value) }
+    ensures value { (g : GuestState) (t : ℕ) → result
+        ≡ passing_element (moment_over program.now heap.now g t) value
+        (elements_of (moment_over program.now heap.now g t) array) }
     ensures visits { visits.new ≤ visits.old + 2 }
+    ensures number { is_number value ≡ true → visits.new ≡ visits.old }
 {
-    let element = element_of(program, &machine.heap, array, visits);
     match value {
-        Value::Ref(object) => passes_for(program, machine, thread, object, element, visits),
+        Value::Ref(object) => {
+            let element = element_of(program, heap, array, visits);
+            passes_for(program, heap, object, element, visits)
+        }
         Value::Unset | Value::Int(_) | Value::Long(_) | Value::LongHigh | Value::Null => true,
     }
 }
 
 /// What `iastore` or one of its kin writes.
+#[inline(always)]
 pub(crate) fn write_element<L: Ledger>(
     program: &Program,
-    machine: &Machine,
-    thread: ThreadId,
+    heap: &Heap,
+    running: &Running,
     elements: Elements,
     visits: &mut Steps<L>,
 ) -> Result<Store, Refusal>
-    requires frame { HasFrame machine.now.guest thread }
-    requires sound { IsSoundFor program.now (kept_of machine.now) }
+    requires sound { IsReadable program.now heap.now running.now.frame }
     requires elements { AreElementsWithin program.now }
-    ensures is { (at : Site) → store_element (moment program.now machine.now thread) at elements
-        ≡ outcome_of (moment program.now machine.now thread) result
-        (store_outcome (moment program.now machine.now thread) at) }
-    ensures may { IfOk result (λ x. MayStore machine.now (top machine.now.guest thread) x) }
+    ensures is { (g : GuestState) (t : ℕ) (at : Site) → top g t ≡ running.now.frame →
+        store_element (moment_over program.now heap.now g t) at elements
+        ≡ outcome_of (moment_over program.now heap.now g t) result
+        (store_outcome (moment_over program.now heap.now g t) at) }
+    ensures may { IfOk result (λ x. MayStore heap.now running.now.frame x) }
     ensures visits { visits.new ≤ visits.old + 4 }
+    ensures number { IfOk result
+        (λ x. is_number x.value ≡ true → visits.new ≤ visits.old + 2) }
 {
-    let taken = take_element(machine, thread, elements)?;
-    let index = take_int(machine, thread, taken.width)?;
-    let reference = take_reference(machine, thread, taken.width + 1)?;
-    let at = element_slot(program, &machine.heap, elements, reference, index, visits)?;
-    let may_be = passes_element(program, machine, thread, taken.value, at.object, visits);
+    let taken = running_element(running, elements)?;
+    let index = running_int(running, taken.width)?;
+    let reference = running_reference(running, taken.width + 1)?;
+    let at = element_slot(program, heap, elements, reference, index, visits)?;
+    let may_be = passes_element(program, heap, taken.value, at.object, visits);
     throws_unless(GuestError::ArrayStoreException, may_be)?;
     Ok(Store {
         taken: taken.width + 2,

@@ -18,14 +18,16 @@ ghost use Rattle.et_state.specs.Threads.{turn_of};
 ghost use Rattle.et_state.specs.Words.{HasFrame, thread_at, top};
 ghost use Rattle.et_event.specs.Places.{IsPlace, site_at};
 ghost use Rattle.et_refs.specs.Reads.{is_read_row};
+ghost use Rattle.et_refs.specs.Writes.{is_write_row};
 
-use crate::changes::carry_out;
+use crate::changes::{carry_out, write_slot};
 use crate::class_events::access_event;
 use crate::events::multi_array_event;
 use crate::reads::{exchange, is_read, read_row};
 use crate::refusals::refuse;
 use crate::rows::{Plan, is_static_read, plan_of};
 use crate::static_fields::{is_out_class, read_field};
+use crate::writes::{is_number, is_write, store, write_row};
 use et_base::{MethodId, NoMemory, Steps, ThreadId};
 use et_event::{HeapRow, Place, Row, ill_typed, index_of, place_of};
 use et_ops::lose_each;
@@ -138,6 +140,58 @@ fn read_event<L: Ledger>(
     }
 }
 
+/// The event of an instruction that writes a slot of an object, at the place where the thread stands: what it writes is found over
+/// the frames of the thread while they are lifted out of the machine, and a number is written then. It visits objects six times
+/// at most. After `NoMemory` the machine may have one object more, to which nothing refers, and there may be its record; all else
+/// is as before.
+fn write_event<L: Ledger>(
+    program: &Program,
+    machine: &mut Machine,
+    thread: ThreadId,
+    place: &Place<'_>,
+    row: HeapRow,
+    out: &mut Lines,
+    visits: &mut Steps<L>,
+) -> Result<EventEnd, NoMemory>
+    requires begins { BeginsEvent program.now machine.old thread }
+    requires frame { HasFrame machine.old.guest thread }
+    requires place { IsPlace program.now (top machine.old.guest thread) place.now }
+    requires row { place.now.row ≡ row_kinds.Heap row }
+    requires write { is_write_row row ≡ true }
+    ensures event { IfOk result (λ end. EventAnswers
+        (heap_event (moment program.now machine.old thread) (site_at place.now) row)
+        end machine.old machine.new out.old out.new) }
+    ensures visits { visits.new ≤ visits.old + 6 }
+{
+    let mut running = machine.lift(thread);
+    let index = index_of(place);
+    match write_row(
+        program,
+        &machine.heap,
+        &running,
+        place.class,
+        index,
+        row,
+        visits,
+    ) {
+        Ok(x) => {
+            if !is_number(x.value) {
+                machine.land(thread, running);
+                return write_slot(program, machine, thread, place, x, out, visits);
+            }
+            store(&mut machine.heap, &mut running, x, place.next, visits);
+            machine.begin_event();
+            lose_each(machine, running.lost());
+            machine.land(thread, running);
+            Ok(EventEnd::Done)
+        }
+        Err(refusal) => {
+            machine.land(thread, running);
+            refuse(program, machine, thread, refusal, out)
+        }
+    }
+}
+
 /// The event of the instruction on fields, arrays and classes at a place; `Native` where a `getstatic` reads System.out, with
 /// nothing changed. It visits six objects at most, and one for each that the event makes. After `NoMemory` the event may be
 /// half done.
@@ -174,10 +228,11 @@ fn heap_row_event<L: Ledger>(
     if is_read(row) {
         return read_event(program, machine, thread, place, row, out, visits);
     }
+    if is_write(row) {
+        return write_event(program, machine, thread, place, row, out, visits);
+    }
     match plan_of(program, machine, thread, place, row, visits) {
-        Ok(Plan::Change(change)) => {
-            carry_out(program, machine, thread, place, change, out, visits)
-        }
+        Ok(Plan::Change(change)) => carry_out(program, machine, thread, place, change, out),
         Ok(Plan::Access(wanted)) => {
             access_event(alloc, program, machine, thread, place, &wanted, out)
         }

@@ -1,5 +1,5 @@
 //! Instance fields (JVMS 6.5, getfield, putfield).
-ghost use Rattle.std.specs.Prelude.{◌≡◌, ℕ, ◌+◌, ◌<◌, ◌≤◌, ◌^◌, true, false, not, length, option_map, Some, IfOk, IsSome};
+ghost use Rattle.std.specs.Prelude.{◌≡◌, ℕ, ◌+◌, ◌<◌, ◌≤◌, true, false, not, length, option_map, Some, IfOk, IsSome};
 ghost use Rattle.et_class.specs.Names.{has as has_flag};
 ghost use Rattle.et_class.specs.declared.flags.TheConstants.{STATIC as STATIC_FLAG};
 ghost use Rattle.et_pool.specs.Descriptors.{is_field_descriptor as is_of_field, width_of as descriptor_width};
@@ -7,19 +7,18 @@ ghost use Rattle.et_program.specs.Entries.{Linked, field_at as field_of};
 ghost use Rattle.et_program.specs.Referring.{member_described, pool_of_class};
 ghost use Rattle.et_program.specs.Resolved.{shown_names};
 ghost use Rattle.et_heap.specs.Objects.{IsHeld, object_at, slot_of};
-ghost use Rattle.et_state.specs.State.{GuestState, Kept, kept_of};
+ghost use Rattle.et_state.specs.State.{GuestState, Kept};
 ghost use Rattle.et_heap.specs.Refs.{refs_of_value};
-ghost use Rattle.et_state.specs.Words.{HasFrame, top};
+ghost use Rattle.et_state.specs.Words.{top};
 ghost use Rattle.et_state.specs.Outcome.{Outcome};
 ghost use Rattle.et_event.specs.declared.errors.GuestError.TheVariants.{IncompatibleClassChangeError};
 ghost use Rattle.et_event.specs.Checks.{entries_of, throws_unless as throwing_unless};
 ghost use Rattle.et_event.specs.Heap.{with_field, resolved_field, is_static_at, with_holder, get_field, put_field};
 ghost use Rattle.et_event.specs.Kinds.{or_zero as zero_or};
 ghost use Rattle.et_event.specs.Operands.{operand_kind as descriptor_kind};
-ghost use Rattle.et_event.specs.Moments.{Moment, moment, begins};
-ghost use Rattle.et_event.specs.Sites.{Member, Site, site_member, pool_index, natural_of};
-ghost use Rattle.et_event.specs.Sound.{IsSoundFor, HasField};
-ghost use Rattle.et_event.specs.Places.{site_at};
+ghost use Rattle.et_event.specs.Moments.{Moment, begins};
+ghost use Rattle.et_event.specs.Sites.{Member, Site, site_member, pool_index};
+ghost use Rattle.et_event.specs.Sound.{HasField};
 ghost use Rattle.et_refs.specs.Changes.{MayExchange, MayStore, exchange_outcome, store_outcome};
 ghost use Rattle.et_refs.specs.NamedFields.{IsAnswered, IsNamedBy, named_as};
 ghost use Rattle.et_refs.specs.Reads.{AreHeld, IsReadable, IsSoundHeap, moment_over};
@@ -28,18 +27,17 @@ ghost use Rattle.et_refs.specs.Slots.{IsInstanceField, IsSlotAt};
 
 use crate::changes::{Exchange, Store};
 use crate::checks::{ill_typed_unless, not_null, throws_unless};
-use crate::frame_operands::{running_reference, type_fits};
+use crate::frame_operands::{running_reference, running_typed, type_fits};
 use crate::kinds::narrowed;
-use crate::operands::{take_reference, take_typed};
 use crate::refusals::Refusal;
 use crate::slots::{SlotAt, read_slot};
-use et_base::{ClassId, FieldId, ObjectId, Steps, ThreadId, Value};
+use et_base::{ClassId, FieldId, ObjectId, Steps, Value};
 use et_class::flags::{STATIC, has};
-use et_event::{GuestError, Place, index_of};
+use et_event::GuestError;
 use et_heap::Heap;
 use et_pool::kind_of;
 use et_program::{LinkError, MemberAt, Program, member_at};
-use et_state::{Machine, Running};
+use et_state::Running;
 use std::sync::ledger::Ledger;
 
 /// A field as an instruction names it, with what it was resolved to when the program was linked.
@@ -246,31 +244,32 @@ pub(crate) fn read_field<L: Ledger>(
 }
 
 /// What `putfield` writes.
+#[inline(always)]
 pub(crate) fn write_field<L: Ledger>(
     program: &Program,
-    machine: &Machine,
-    thread: ThreadId,
-    place: &Place<'_>,
+    heap: &Heap,
+    running: &Running,
+    class: ClassId,
+    index: u16,
     visits: &mut Steps<L>,
 ) -> Result<Store, Refusal>
-    requires frame { HasFrame machine.now.guest thread }
-    requires sound { IsSoundFor program.now (kept_of machine.now) }
-    requires class { place.now.class < length program.now.classes }
-    requires index { natural_of place.now.instr.first < 2 ^ 16 }
-    requires pool { (site_at place.now).pool ≡ pool_of_class program.now place.now.class }
-    ensures is { put_field (moment program.now machine.now thread) (site_at place.now)
-        ≡ outcome_of (moment program.now machine.now thread) result
-        (store_outcome (moment program.now machine.now thread) (site_at place.now)) }
-    ensures may { IfOk result (λ x. MayStore machine.now (top machine.now.guest thread) x) }
+    requires sound { IsReadable program.now heap.now running.now.frame }
+    requires class { class < length program.now.classes }
+    ensures is { (g : GuestState) (t : ℕ) (at : Site) →
+        at.pool ≡ pool_of_class program.now class → pool_index at ≡ index →
+        top g t ≡ running.now.frame → put_field (moment_over program.now heap.now g t) at
+        ≡ outcome_of (moment_over program.now heap.now g t) result
+        (store_outcome (moment_over program.now heap.now g t) at) }
+    ensures may { IfOk result (λ x. MayStore heap.now running.now.frame x) }
     ensures visits { visits.new ≤ visits.old + 1 }
 {
-    let named = match field_named(program, place.class, index_of(place)) {
+    let named = match field_named(program, class, index) {
         Ok(named) => named,
         Err(refusal) => return Err(refusal),
     };
-    let taken = take_typed(machine, thread, named.descriptor)?;
-    let reference = take_reference(machine, thread, taken.width)?;
-    let at = field_slot(program, &machine.heap, &named, reference, visits)?;
+    let taken = running_typed(running, named.descriptor)?;
+    let reference = running_reference(running, taken.width)?;
+    let at = field_slot(program, heap, &named, reference, visits)?;
     Ok(Store {
         taken: taken.width + 1,
         object: at.object,

@@ -1,8 +1,12 @@
 //! The operands that a row takes of the frame that runs.
-ghost use Rattle.std.specs.Prelude.{◌≡◌, ℕ, ℤ, ◌+◌, ◌<◌, ◌≤◌, ◌^◌, List, length, drop, nat_le, Some, Contains, IfOk, OnOk};
+ghost use Rattle.std.specs.Prelude.{◌≡◌, ℕ, ℤ, ◌+◌, ◌<◌, ◌≤◌, ◌^◌, List, length, drop, nat_le, true, Some, Contains, IfOk, OnOk};
 ghost use Rattle.et_base.specs.declared.value.Value.{Value as Entry};
-ghost use Rattle.et_pool.specs.Descriptors.{width_of as descriptor_width};
-ghost use Rattle.et_event.specs.Checks.{Reference, with_int, with_reference, ill_typed_unless as ill_unless};
+ghost use Rattle.et_pool.specs.Descriptors.{is_field_descriptor, width_of as descriptor_width};
+ghost use Rattle.et_event.specs.Kinds.{kind_of_field, kind_of_elements as elements_kind};
+ghost use Rattle.et_event.specs.Operands.{operand_kind as descriptor_kind};
+ghost use Rattle.et_event.specs.Sound.{is_of_kind};
+ghost use Rattle.et_event.specs.Tops.{IsIn};
+ghost use Rattle.et_event.specs.Checks.{Reference, with_int, with_long, with_reference, with_value, ill_typed_unless as ill_unless};
 ghost use Rattle.et_event.specs.Moments.{Moment, ill_typed};
 ghost use Rattle.et_refs.specs.Refusals.{outcome_of};
 ghost use Rattle.et_state.specs.Outcome.{Outcome};
@@ -10,10 +14,14 @@ ghost use Rattle.et_state.specs.State.{Kept};
 ghost use Rattle.et_state.specs.ThreadRoots.{frame_roots};
 
 use crate::checks::ill_typed_unless;
-use crate::kinds::width_of;
+use crate::kinds::{kind_of_elements, width_of};
+use crate::operands::Taken;
 use crate::refusals::Refusal;
-use et_base::ObjectId;
-use et_ops::{int_at, reference_at};
+use et_base::{ObjectId, Value};
+use et_event::{Elements, Operand};
+use et_heap::value_of_reference;
+use et_ops::{int_at, long_at, reference_at};
+use et_pool::kind_of;
 use et_state::Running;
 
 /// The int so far below the top.
@@ -46,6 +54,87 @@ pub(crate) fn running_reference(running: &Running, k: u32) -> Result<Option<Obje
         Some(reference) => Ok(reference),
         None => Err(Refusal::IllTyped),
     }
+}
+
+/// The long on top.
+#[tactic(auto, using(crate::proofs::Below::long_there, crate::proofs::Below::no_long, crate::proofs::Below::long_deep))]
+#[inline(always)]
+fn running_long(running: &Running) -> Result<i64, Refusal>
+    ensures is { (e : Moment) (go : ℤ → List Entry → Outcome Kept) →
+        with_long (ill_typed e) running.now.frame.operands go
+        ≡ outcome_of e result (λ n. go n (drop 2 running.now.frame.operands)) }
+    ensures deep { IfOk result (λ n. 2 ≤ length running.now.frame.operands) }
+{
+    match long_at(running, 0) {
+        Some(n) => Ok(n),
+        None => Err(Refusal::IllTyped),
+    }
+}
+
+/// The value of a kind on top; no value is of no kind.
+#[inline(always)]
+fn running_value(running: &Running, kind: Option<Operand>) -> Result<Taken, Refusal>
+    ensures is { (e : Moment) (go : Entry → List Entry → Outcome Kept) →
+        with_value kind (ill_typed e) running.now.frame.operands go
+        ≡ outcome_of e result (λ x. go x.value (drop x.width running.now.frame.operands)) }
+    ensures deep { IfOk result (λ x. x.width ≤ length running.now.frame.operands) }
+    ensures few { IfOk result (λ x. x.width ≤ 2) }
+    ensures there { IfOk result (λ x. IsIn running.now.frame x.value) }
+    ensures kind { IfOk result (λ x. is_of_kind kind x.value ≡ true) }
+{
+    match kind {
+        Some(Operand::Int) => {
+            let n = running_int(running, 0)?;
+            Ok(Taken {
+                value: Value::Int(n),
+                width: 1,
+            })
+        }
+        Some(Operand::Long) => {
+            let n = running_long(running)?;
+            Ok(Taken {
+                value: Value::Long(n),
+                width: 2,
+            })
+        }
+        Some(Operand::Reference) => {
+            let reference = running_reference(running, 0)?;
+            Ok(Taken {
+                value: value_of_reference(reference),
+                width: 1,
+            })
+        }
+        None => Err(Refusal::IllTyped),
+    }
+}
+
+/// The value of a type on top.
+#[inline(always)]
+pub(crate) fn running_typed(running: &Running, descriptor: &[u8]) -> Result<Taken, Refusal>
+    requires { is_field_descriptor descriptor.now ≡ true }
+    ensures is { (e : Moment) (go : Entry → List Entry → Outcome Kept) →
+        with_value (kind_of_field descriptor.now) (ill_typed e) running.now.frame.operands go
+        ≡ outcome_of e result (λ x. go x.value (drop x.width running.now.frame.operands)) }
+    ensures deep { IfOk result (λ x. x.width ≤ length running.now.frame.operands) }
+    ensures few { IfOk result (λ x. x.width ≤ 2) }
+    ensures there { IfOk result (λ x. IsIn running.now.frame x.value) }
+    ensures kind { IfOk result (λ x. is_of_kind (descriptor_kind descriptor.now) x.value ≡ true) }
+{
+    running_value(running, kind_of(descriptor))
+}
+
+/// The value on top that may be an element.
+#[inline(always)]
+pub(crate) fn running_element(running: &Running, elements: Elements) -> Result<Taken, Refusal>
+    ensures is { (e : Moment) (go : Entry → List Entry → Outcome Kept) →
+        with_value (Some (elements_kind elements)) (ill_typed e) running.now.frame.operands go
+        ≡ outcome_of e result (λ x. go x.value (drop x.width running.now.frame.operands)) }
+    ensures deep { IfOk result (λ x. x.width ≤ length running.now.frame.operands) }
+    ensures few { IfOk result (λ x. x.width ≤ 2) }
+    ensures there { IfOk result (λ x. IsIn running.now.frame x.value) }
+    ensures kind { IfOk result (λ x. is_of_kind (Some (elements_kind elements)) x.value ≡ true) }
+{
+    running_value(running, Some(kind_of_elements(elements)))
 }
 
 /// A frame has no more operands than it may.

@@ -24,8 +24,11 @@ mod refusals;
 mod rows;
 mod slots;
 mod static_fields;
+mod steps;
 mod streams;
+mod writes;
 
 pub use event::refs_event;
-pub use reads::{index_in, read_step};
+pub use reads::index_in;
+pub use steps::heap_step;
 pub use streams::out_event;

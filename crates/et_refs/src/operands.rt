@@ -145,22 +145,3 @@ pub fn take_typed(machine: &Machine, thread: ThreadId, descriptor: &[u8]) -> Res
 {
     take_value(machine, thread, kind_of(descriptor))
 }
-
-/// The value on top that may be an element.
-pub(crate) fn take_element(
-    machine: &Machine,
-    thread: ThreadId,
-    elements: Elements,
-) -> Result<Taken, Refusal>
-    requires frame { HasFrame machine.now.guest thread }
-    requires sound { IsSound (kept_of machine.now) }
-    ensures is { (e : Moment) (go : Entry → List Entry → Outcome Kept) →
-        with_value (Some (elements_kind elements))
-        (ill_typed e) (top machine.now.guest thread).operands go ≡ outcome_of e result
-        (λ x. go x.value (drop x.width (top machine.now.guest thread).operands)) }
-    ensures deep { IfOk result (λ x. x.width ≤ length (top machine.now.guest thread).operands) }
-    ensures few { IfOk result (λ x. x.width ≤ 2) }
-    ensures there { IfOk result (λ x. IsIn (top machine.now.guest thread) x.value) }
-{
-    take_value(machine, thread, Some(kind_of_elements(elements)))
-}

@@ -133,7 +133,7 @@ pub fn index_in(instr: &Instr) -> Option<u16>
 /// frame. `true` where it was done; where it changes more, or something refuses, all is as before. It visits objects three times
 /// at most.
 #[inline(always)]
-pub fn read_step<L: Ledger>(
+pub(crate) fn read_step<L: Ledger>(
     program: &Program,
     class: ClassId,
     heap: &Heap,

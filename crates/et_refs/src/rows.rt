@@ -10,20 +10,20 @@ ghost use Rattle.et_event.specs.Places.{site_at};
 ghost use Rattle.et_program.specs.Entries.{Linked};
 ghost use Rattle.et_program.specs.Referring.{pool_of_class};
 ghost use Rattle.et_refs.specs.Accesses.{MayWant, wanted_outcome};
-ghost use Rattle.et_refs.specs.Changes.{MayExchange, MayStore, MayMake, exchange_outcome, store_outcome, new_array_outcome};
+ghost use Rattle.et_refs.specs.Changes.{MayExchange, MayMake, exchange_outcome, new_array_outcome};
 ghost use Rattle.et_refs.specs.Reads.{is_read_row};
 ghost use Rattle.et_refs.specs.Refusals.{outcome_of};
 ghost use Rattle.et_refs.specs.Rows.{MayDo, is_get_static, plan_outcome};
-ghost use Rattle.et_state.specs.State.{MachineState, kept_of};
+ghost use Rattle.et_refs.specs.Writes.{is_write_row};
+ghost use Rattle.et_heap.specs.Objects.{Objects};
+ghost use Rattle.et_state.specs.State.{kept_of};
 ghost use Rattle.et_state.specs.Threads.{FrameState};
 ghost use Rattle.et_state.specs.Words.{HasFrame, top};
 
 use crate::accesses::Wanted;
 use crate::arrays::{new_array, new_reference_array};
 use crate::casts::{check_cast, instance_of};
-use crate::changes::{Change, Exchange, NewArray, Store};
-use crate::elements::write_element;
-use crate::fields::write_field;
+use crate::changes::{Change, Exchange, NewArray};
 use crate::instances::new_object;
 use crate::refusals::Refusal;
 use crate::static_fields::write_field as write_static_field;
@@ -48,24 +48,11 @@ pub enum Plan {
 fn put(answer: Result<Exchange, Refusal>) -> Result<Plan, Refusal>
     ensures is { (e : Moment) (at : Site) →
         outcome_of e answer (exchange_outcome e at) ≡ outcome_of e result (plan_outcome e at) }
-    ensures may { (p : Linked) (m : MachineState) (f : FrameState) (r : OfHeap) →
-        IfOk answer (λ x. MayExchange m.heap f x) → IfOk result (λ x. MayDo p m f r x) }
+    ensures may { (p : Linked) (heap : Objects) (f : FrameState) (r : OfHeap) →
+        IfOk answer (λ x. MayExchange heap f x) → IfOk result (λ x. MayDo p heap f r x) }
 {
     match answer {
         Ok(x) => Ok(Plan::Change(Change::Put(x))),
-        Err(refusal) => Err(refusal),
-    }
-}
-
-/// A slot that is written, as a plan.
-fn write(answer: Result<Store, Refusal>) -> Result<Plan, Refusal>
-    ensures is { (e : Moment) (at : Site) →
-        outcome_of e answer (store_outcome e at) ≡ outcome_of e result (plan_outcome e at) }
-    ensures may { (p : Linked) (m : MachineState) (f : FrameState) (r : OfHeap) →
-        IfOk answer (λ x. MayStore m f x) → IfOk result (λ x. MayDo p m f r x) }
-{
-    match answer {
-        Ok(x) => Ok(Plan::Change(Change::Write(x))),
         Err(refusal) => Err(refusal),
     }
 }
@@ -74,8 +61,8 @@ fn write(answer: Result<Store, Refusal>) -> Result<Plan, Refusal>
 fn make(answer: Result<NewArray, Refusal>) -> Result<Plan, Refusal>
     ensures is { (e : Moment) (at : Site) →
         outcome_of e answer (new_array_outcome e at) ≡ outcome_of e result (plan_outcome e at) }
-    ensures may { (p : Linked) (m : MachineState) (f : FrameState) (r : OfHeap) →
-        IfOk answer (λ x. MayMake f) → IfOk result (λ x. MayDo p m f r x) }
+    ensures may { (p : Linked) (heap : Objects) (f : FrameState) (r : OfHeap) →
+        IfOk answer (λ x. MayMake f) → IfOk result (λ x. MayDo p heap f r x) }
 {
     match answer {
         Ok(x) => Ok(Plan::Change(Change::Make(x))),
@@ -87,8 +74,8 @@ fn make(answer: Result<NewArray, Refusal>) -> Result<Plan, Refusal>
 fn access(answer: Result<Wanted, Refusal>) -> Result<Plan, Refusal>
     ensures is { (e : Moment) (at : Site) →
         outcome_of e answer (wanted_outcome e at) ≡ outcome_of e result (plan_outcome e at) }
-    ensures may { (p : Linked) (m : MachineState) (f : FrameState) (r : OfHeap) →
-        IfOk answer (λ x. MayWant p f x) → IfOk result (λ x. MayDo p m f r x) }
+    ensures may { (p : Linked) (heap : Objects) (f : FrameState) (r : OfHeap) →
+        IfOk answer (λ x. MayWant p f x) → IfOk result (λ x. MayDo p heap f r x) }
 {
     match answer {
         Ok(x) => Ok(Plan::Access(x)),
@@ -117,8 +104,9 @@ pub(crate) fn is_static_read(row: HeapRow) -> bool
     }
 }
 
-/// What the instruction of a row at the place where the thread stands comes to, or what refuses (JVMS 6.5). A `getstatic`, and
-/// what reads the heap and changes nothing but its frame, comes to no plan. It visits objects four times at most.
+/// What the instruction of a row at the place where the thread stands comes to, or what refuses (JVMS 6.5). A `getstatic`, what
+/// reads the heap and changes nothing but its frame, and what writes a slot of an object, come to no plan. It visits one object
+/// at most.
 pub fn plan_of<L: Ledger>(
     program: &Program,
     machine: &Machine,
@@ -136,22 +124,23 @@ pub fn plan_of<L: Ledger>(
     requires slots { HasSlots program.now }
     requires other { is_get_static row ≡ false }
     requires no_read { is_read_row row ≡ false }
+    requires no_write { is_write_row row ≡ false }
     ensures is { heap_event (moment program.now machine.now thread) (site_at place.now) row
         ≡ outcome_of (moment program.now machine.now thread) result
         (plan_outcome (moment program.now machine.now thread) (site_at place.now)) }
     ensures may { IfOk result
-        (λ x. MayDo program.now machine.now (top machine.now.guest thread) row x) }
-    ensures visits { visits.new ≤ visits.old + 4 }
+        (λ x. MayDo program.now machine.now.heap (top machine.now.guest thread) row x) }
+    ensures visits { visits.new ≤ visits.old + 1 }
 {
     match row {
-        HeapRow::GetStatic | HeapRow::GetField | HeapRow::LoadElement(_) | HeapRow::ArrayLength =>
-            unreachable!(),
+        HeapRow::GetStatic
+        | HeapRow::GetField
+        | HeapRow::PutField
+        | HeapRow::LoadElement(_)
+        | HeapRow::StoreElement(_)
+        | HeapRow::ArrayLength => unreachable!(),
         HeapRow::PutStatic => access(write_static_field(program, machine, thread, place)),
         HeapRow::New => access(new_object(program, machine, thread, place)),
-        HeapRow::PutField => write(write_field(program, machine, thread, place, visits)),
-        HeapRow::StoreElement(elements) => write(write_element(
-            program, machine, thread, elements, visits,
-        )),
         HeapRow::CheckCast => put(check_cast(program, machine, thread, place, visits)),
         HeapRow::InstanceOf => put(instance_of(program, machine, thread, place, visits)),
         HeapRow::NewArray => make(new_array(program, machine, thread, place)),

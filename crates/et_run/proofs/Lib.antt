@@ -4,6 +4,8 @@ mod Flushing
 mod Forgotten
 mod FrameKept
 mod Lifting
+mod LiftedLoop
+mod Soundly
 mod QuietFrames
 mod Starting
 mod Running

@@ -1,16 +1,14 @@
 -- Instructions over lifted frames, one after the other.
-use Rattle.std.proofs.Common.{◌≡◌, ℕ, zero, suc, ◌+◌, ◌-◌, ◌*◌, ◌<◌, ◌≤◌, List, [], length, Contains, Option, Some, None, Result, refl, sym, ap, subst, ◌∙◌, add-one, arith, inl, inr, Bool, true, false, Ok}
-use Rattle.std.specs.Prelude.{nat_lt, option_and_then, slice_index}
+use Rattle.std.proofs.Common.{◌≡◌, ℕ, zero, suc, ◌+◌, ◌-◌, ◌*◌, ◌≤◌, List, [], length, Option, Some, None, Result, refl, sym, ap, subst, ◌∙◌, arith, inl, inr, Bool, true, false, Ok}
+use Rattle.std.specs.Prelude.{nat_lt, option_and_then}
 use Rattle.et_base.specs.declared.value.Value.{Value}
 use Rattle.et_code.specs.declared.instr.Instr.{Instr}
 use Rattle.et_code.specs.declared.instr.CodeFault.{CodeFault}
-use Rattle.et_heap.specs.Objects.{Objects, IsHeld}
+use Rattle.et_heap.specs.Objects.{Objects}
 use Rattle.et_program.specs.Entries.{Linked}
-use Rattle.et_program.specs.declared.info.MethodInfo.{MethodInfo}
 use Rattle.et_state.specs.declared.stage.Turn.{Turn}
 use Rattle.et_state.specs.declared.stage.Turn.TheVariants.{Instruction}
 use Rattle.et_state.specs.Running.{RunningState, MovesInFrame, passed}
-use Rattle.et_state.specs.ThreadRoots.{frame_roots}
 use Rattle.et_state.specs.Threads.{FrameState, rest_of, turn_of}
 use Rattle.et_state.specs.State.{GuestState, Kept, MachineState}
 use Rattle.et_state.specs.Words.{HasFrame, thread_at, top}
@@ -23,7 +21,7 @@ use Rattle.et_event.specs.Out.{out_at, out_by, out_turn}
 use Rattle.et_event.specs.Selected.{text_call, text_call_at, text_call_by, text_call_in}
 use Rattle.et_event.specs.Table.{row_of}
 use Rattle.et_event.specs.PlainRows.{is_plain}
-use Rattle.et_event.specs.Sites.{Site, code_of_frame, decoded_at, present_body, running_method, site_of}
+use Rattle.et_event.specs.Sites.{Site, code_of_frame, decoded_at, running_method, site_of}
 use Rattle.et_event.proofs.OutTurns.{out_at_turn}
 use Rattle.et_ops.specs.declared.ends.PlainEnd.{PlainEnd}
 use Rattle.et_ops.specs.declared.ends.PlainEnd.TheVariants as ends
@@ -31,7 +29,7 @@ use Rattle.et_ops.specs.Plain.{ChangesFrame, KeepsLocals, RunsPlain, is_done}
 use Rattle.et_ops.proofs.Lifting.{landed, lifted, passed_landed}
 use Rattle.et_event.proofs.FrameEvents.{frame_event, frame_led}
 use Rattle.et_event.proofs.Running.{has_frame_there}
-use Rattle.et_refs.specs.Reads.{AreHeld, moment_over}
+use Rattle.et_refs.specs.Reads.{moment_over}
 use Rattle.et_refs.specs.Steps.{Instructs, IsStepOver, StepsOver, over}
 use Rattle.et_run.specs.Lifted.{AreStampedSteps, IsStampedStep, RunsOver}
 use Rattle.et_run.proofs.FrameKept.{IsInFrame, Stays, in_frame}
@@ -86,8 +84,12 @@ pub stopped : (p : Linked) (heap heap' : Objects) (done : Bool) (r r' : RunningS
 stopped p heap heap' true r r' e h = absurd (cc)
 stopped p heap heap' false r r' e h = h.0
 
--- .. visits objects three times at most, and none where it is the first
-pub few_visits : (count before visited after : ℕ) → visited ≤ before + 3 * count → after ≤ visited + 3 → (nat_lt 0 count ≡ false → after ≡ visited) → after ≤ before + 8 * count
+pub still_there : (p : Linked) (heap heap' : Objects) (done : Bool) (r r' : RunningState) → done ≡ false → StepsOver p heap heap' done r r' → heap' ≡ heap
+still_there p heap heap' true r r' e h = absurd (cc)
+still_there p heap heap' false r r' e h = h.1
+
+-- .. visits objects four times at most, and none where it is the first
+pub few_visits : (count before visited after : ℕ) → visited ≤ before + 4 * count → after ≤ visited + 4 → (nat_lt 0 count ≡ false → after ≡ visited) → after ≤ before + 8 * count
 few_visits zero before visited after so few unread = omega (arith, so, unread refl)
 few_visits (suc k) before visited after so few unread = omega (arith, so, few)
 
@@ -166,12 +168,8 @@ stays_itself f f' e = e ∙ ap (λ (x : FrameState). record f { pc = x.pc; local
 pub stays_on : (f g h : FrameState) → Stays f g → Stays g h → Stays f h
 stays_on f g h first second = second ∙ ap (λ (x : FrameState). record x { pc = h.pc; locals = h.locals; operands = h.operands }) first
 
-same_method : (p : Linked) (f f' : FrameState) → Stays f f' → running_method p f' ≡ running_method p f
+pub same_method : (p : Linked) (f f' : FrameState) → Stays f f' → running_method p f' ≡ running_method p f
 same_method p f f' stays = ap (λ (x : FrameState). running_method p x) stays
-
--- what stands in the frame is held
-still_held : (p : Linked) (heap heap' : Objects) (f f' : FrameState) (lost : List ℕ) → IsStepOver p heap heap' f f' lost → AreHeld heap' (frame_roots f) → AreHeld heap' (frame_roots f')
-still_held p heap heap' f f' lost step held o c = elim (step.moves.on o c) [ inl there ↦ held o there | inr is ↦ is ]
 
 -- SO MANY OF THEM
 
@@ -179,7 +177,7 @@ pub one_more : (p : Linked) (k e : ℕ) (h h₁ h' : Objects) (f mid f' : FrameS
 unfolding AreStampedSteps
 one_more p k e h h₁ h' f mid f' old between new a s = (h₁, mid, between, a, s)
 
-steps_behind : (p : Linked) (j k e : ℕ) (h h₁ h' : Objects) (f mid f' : FrameState) (old between new : List ℕ) → AreStampedSteps p k e h h₁ f mid old between → AreStampedSteps p j (e + k) h₁ h' mid f' between new → AreStampedSteps p (k + j) e h h' f f' old new
+pub steps_behind : (p : Linked) (j k e : ℕ) (h h₁ h' : Objects) (f mid f' : FrameState) (old between new : List ℕ) → AreStampedSteps p k e h h₁ f mid old between → AreStampedSteps p j (e + k) h₁ h' mid f' between new → AreStampedSteps p (k + j) e h h' f f' old new
 unfolding AreStampedSteps
 steps_behind p zero k e h h₁ h' f mid f' old between new first rest =
     let none : k ≡ k + 0 = omega arith in
@@ -195,18 +193,16 @@ steps_behind p (suc j) k e h h₁ h' f mid f' old between new first rest =
     subst (λ (n : ℕ). AreStampedSteps p n e h h' f f' old new) more all
 
 -- those of the frame alone
-record FramesOver (p : Linked) (heap : Objects) (k e : ℕ) (f f' : FrameState) (old new : List ℕ) : Type 0 where
+pub record FramesOver (p : Linked) (heap : Objects) (k e : ℕ) (f f' : FrameState) (old new : List ℕ) : Type 0 where
   pub steps : AreStampedSteps p k e heap heap f f' old new
   pub stays : Stays f f'
-  pub held : AreHeld heap (frame_roots f) → AreHeld heap (frame_roots f')
   pub long : length new ≡ length old
 
-frames_over : (p : Linked) (heap : Objects) (code : List ℕ) (k e : ℕ) (f f' : FrameState) (old new : List ℕ) → code ≡ (code_of_frame p f).code → AreFrameSteps code k e f f' old new → FramesOver p heap k e f f' old new
+pub frames_over : (p : Linked) (heap : Objects) (code : List ℕ) (k e : ℕ) (f f' : FrameState) (old new : List ℕ) → code ≡ (code_of_frame p f).code → AreFrameSteps code k e f f' old new → FramesOver p heap k e f f' old new
 unfolding AreFrameSteps AreStampedSteps
 frames_over p heap code zero e f f' old new same h = record {
   steps = (refl, h.0, h.1);
   stays = stays_itself f f' h.0;
-  held = λ held. subst (λ (x : FrameState). AreHeld heap (frame_roots x)) (sym h.0) held;
   long = ap (λ (xs : List ℕ). length xs) h.1;
 }
 frames_over p heap code (suc k) e f f' old new same h =
@@ -216,82 +212,16 @@ frames_over p heap code (suc k) e f f' old new same h =
     record {
       steps = (heap, h.0, h.1, first.steps, s);
       stays = stays_on f h.0 f' first.stays s.step.stays;
-      held = λ held. still_held p heap heap h.0 f' s.lost s.step (first.held held);
       long = s.long ∙ first.long;
     }
 
--- AS THEY ARE DONE: the frame as it was lifted, those below it, and what runs now
-pub record SoFar (p : Linked) (heap : Objects) (e most count : ℕ) (first : FrameState) (below : List FrameState) (now : RunningState) (old new : List ℕ) (before visited : ℕ) : Type 0 where
-  pub steps : AreStampedSteps p count e heap heap first now.frame old new
-  pub same_below : now.below ≡ below
-  pub few : count ≤ most
-  pub stays : Stays first now.frame
-  pub held : AreHeld heap (frame_roots now.frame)
-  pub long : length new ≡ length old
-  pub visits : visited ≤ before + 3 * count
-
-pub so_far_none : (p : Linked) (heap : Objects) (e most : ℕ) (first : FrameState) (below : List FrameState) (now : RunningState) (old : List ℕ) (before : ℕ) → now.frame ≡ first → now.below ≡ below → AreHeld heap (frame_roots first) → SoFar p heap e most 0 first below now old old before before
-unfolding AreStampedSteps
-so_far_none p heap e most first below now old before same under held = record {
-  steps = (refl, same, refl);
-  same_below = under;
-  few = omega arith;
-  stays = stays_itself first now.frame same;
-  held = subst (λ (x : FrameState). AreHeld heap (frame_roots x)) (sym same) held;
-  long = refl;
-  visits = omega arith;
-}
-
-module _ (p : Linked) (heap : Objects) (e most count : ℕ) (first : FrameState) (below : List FrameState) (now : RunningState) (old between : List ℕ) (before visits : ℕ) (so : SoFar p heap e most count first below now old between before visits) where
-  pub method_now : (m : MethodInfo) → m ≡ running_method p first → m ≡ running_method p now.frame
-  method_now m is = is ∙ sym (same_method p first now.frame so.stays)
-
-  -- what stands in the frame has a place among the stamps
-  pub frame_places : ((o : ℕ) → IsHeld heap o → o < length old) → (o : ℕ) → Contains (frame_roots now.frame) o → o < length between
-  frame_places places o c = subst (λ (n : ℕ). o < n) (sym so.long) (places o (so.held o c))
-
-  -- so many of the frame alone
-  pub so_far_frames : (m : MethodInfo) (code : List ℕ) (k : ℕ) (next : RunningState) (new : List ℕ) → m ≡ running_method p first → code ≡ (present_body m.code).code → k ≤ most - count → next.below ≡ now.below
-      → AreFrameSteps code k (e + count) now.frame next.frame between new → SoFar p heap e most (count + k) first below next old new before visits
-  so_far_frames m code k next new is bytes few under h =
-      let same : code ≡ (code_of_frame p now.frame).code = bytes ∙ ap (λ (x : MethodInfo). (present_body x.code).code) (method_now m is) in
-      let o : FramesOver p heap k (e + count) now.frame next.frame between new = frames_over p heap code k (e + count) now.frame next.frame between new same h in
-      record {
-        steps = steps_behind p k count e heap heap heap first now.frame next.frame old between new so.steps o.steps;
-        same_below = under ∙ so.same_below;
-        few = omega (arith, so.few, few);
-        stays = stays_on first now.frame next.frame so.stays o.stays;
-        held = o.held so.held;
-        long = o.long ∙ so.long;
-        visits = omega (arith, so.visits);
-      }
-
-  -- one more
-  module _ (next : RunningState) (step : StepsOver p heap heap true now next) where
-    pub lost_places : ((o : ℕ) → IsHeld heap o → o < length old) → (o : ℕ) → Contains next.lost o → o < length between
-    lost_places places o c = frame_places places o (step.1.moves.was o c)
-
-    pub so_far_more : (new : List ℕ) (after : ℕ) → count < most → ((o : ℕ) → Contains next.lost o → slice_index new o ≡ e + count) → ((o : ℕ) → ¬ Contains next.lost o → slice_index new o ≡ slice_index between o) → length new ≡ length between
-        → after ≤ visits + 3 → SoFar p heap e most (count + 1) first below next old new before after
-    so_far_more new after lt stamped kept long few =
-        let s : IsStampedStep p heap heap (e + count) now.frame next.frame between new = record { lost = next.lost; step = step.1; stamped = stamped; kept = kept; long = long } in
-        record {
-          steps = subst (λ (n : ℕ). AreStampedSteps p n e heap heap first next.frame old new) (sym (add-one count)) (one_more p count e heap heap heap first now.frame next.frame old between new so.steps s);
-          same_below = step.0 ∙ so.same_below;
-          few = omega (arith, lt);
-          stays = stays_on first now.frame next.frame so.stays step.1.stays;
-          held = still_held p heap heap now.frame next.frame next.lost step.1 so.held;
-          long = long ∙ so.long;
-          visits = omega (arith, so.visits, few);
-        }
-
--- WHAT THEY MAKE UP, of a machine whose frames were lifted and put back
-pub ran_over : (p : Linked) (m : MachineState) (t : ℕ) (r : RunningState) (count : ℕ) (old new : List ℕ) (m₁ m₂ m₃ : MachineState) → HasFrame m.guest t → r.below ≡ rest_of (thread_at m.guest t).frames
-    → m₁ ≡ lifted m t → m₂ ≡ landed m₁ t r → m₃ ≡ record m₂ { guest = passed count m₂.guest; lost = [] }
-    → AreStampedSteps p count m.guest.clock m₁.heap m₁.heap (top m.guest t) r.frame old new → RunsOver p t count m m₃ old new
-ran_over p m t r count old new m₁ m₂ m₃ has below e₁ e₂ e₃ steps = record {
-  heap = m.heap;
+-- WHAT THEY MAKE UP, of a machine whose frames were lifted and put back, with the objects as they are then
+pub ran_over : (p : Linked) (m : MachineState) (t : ℕ) (r : RunningState) (count : ℕ) (heap : Objects) (old new : List ℕ) (m₁ m₂ m₃ : MachineState) → HasFrame m.guest t → r.below ≡ rest_of (thread_at m.guest t).frames
+    → m₁ ≡ record (lifted m t) { heap = heap } → m₂ ≡ landed m₁ t r → m₃ ≡ record m₂ { guest = passed count m₂.guest; lost = [] }
+    → AreStampedSteps p count m.guest.clock m.heap heap (top m.guest t) r.frame old new → RunsOver p t count m m₃ old new
+ran_over p m t r count heap old new m₁ m₂ m₃ has below e₁ e₂ e₃ steps = record {
+  heap = heap;
   frame = r.frame;
-  steps = subst (λ (x : MachineState). AreStampedSteps p count m.guest.clock x.heap x.heap (top m.guest t) r.frame old new) e₁ steps;
-  now = passed_landed m t r count m₁ m₂ m₃ has below e₁ e₂ e₃;
+  steps = steps;
+  now = passed_landed (record m { heap = heap }) t r count m₁ m₂ m₃ (record { thread = has.thread; frame = has.frame }) below e₁ e₂ e₃;
 }

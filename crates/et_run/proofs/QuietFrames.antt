@@ -1,31 +1,25 @@
 -- Events that are instructions over lifted frames are quiet.
-use Rattle.std.proofs.Common.{◌≡◌, ℕ, zero, suc, ◌+◌, ◌-◌, ◌<◌, ◌≤◌, ◌^◌, Bool, true, false, List, [], length, get_or-set_same, Option, refl, sym, ◌∙◌, ap, subst, arith}
-use Rattle.std.specs.Prelude.{if◌then◌else◌, slice_index}
-use Rattle.std.specs.Option.{is_some, option_map_or}
-use Rattle.std.proofs.lemmas.List.{length-set}
+use Rattle.std.proofs.Common.{◌≡◌, ℕ, zero, suc, ◌+◌, ◌-◌, ◌<◌, ◌≤◌, ◌^◌, List, [], length, Option, refl, sym, ◌∙◌, ap, subst, arith}
+use Rattle.std.specs.Prelude.{slice_index}
+use Rattle.std.specs.Option.{option_map_or}
 use Rattle.et_heap.specs.Objects.{Objects}
 use Rattle.et_program.specs.Entries.{Linked}
-use Rattle.et_state.specs.declared.stage.Stage.{Stage}
-use Rattle.et_state.specs.declared.stage.Turn.TheVariants.{Unwind, EndThread, Entry, Initialize, Instruction}
+use Rattle.et_state.specs.declared.stage.Turn.TheVariants.{Instruction}
 use Rattle.et_state.specs.Moves.{IsEventOf}
 use Rattle.et_state.specs.Outcome.{Outcome, Goes, state_after, records_of, end_by}
 use Rattle.et_state.specs.Roots.{graph_of, fresh_of}
-use Rattle.et_state.specs.Running.{passed}
 use Rattle.et_state.specs.Spoken.{silent, spoken}
 use Rattle.et_state.specs.State.{GuestState, Kept, MachineState, kept_of}
 use Rattle.et_state.specs.Texts.{Texts}
-use Rattle.et_state.specs.Threads.{FrameState, ThreadState, no_thread, is_before_class, top_of, turn_of, with_top_of}
+use Rattle.et_state.specs.Threads.{FrameState, turn_of, with_top_of}
 use Rattle.et_state.specs.Words.{IsUnended, thread_at, ticked, top, with_top}
-use Rattle.et_state.proofs.Steps.{top-with_top, with_top-itself, with_top-with_top}
 use Rattle.et_state.proofs.Unended.{unended_kept}
 use Rattle.et_event.specs.Runnable.{IsRunnable}
 use Rattle.et_event.specs.Selected.{TextCall}
 use Rattle.et_event.specs.Sound.{IsSoundFor}
 use Rattle.et_event.specs.SoundTexts.{HasSoundTexts}
 use Rattle.et_event.specs.TextRows.{said_in}
-use Rattle.et_event.specs.Told.{event_with_texts, keeping, said_by}
-use Rattle.et_event.proofs.Told.{of-table}
-use Rattle.et_event.proofs.Running.{has_frame_there}
+use Rattle.et_event.specs.Told.{event_with_texts, said_by}
 use Rattle.et_history.specs.steps.Changing.{LeadsToSound}
 use Rattle.et_history.specs.texts.Texts.{LeadsToSoundTexts}
 use Rattle.et_history.specs.Settings.{IsSoundRun, unended_threads}
@@ -36,33 +30,13 @@ use Rattle.et_refs.specs.Steps.{Instructs, IsStepOver}
 use Rattle.et_run.specs.Lifted.{AreStampedSteps, IsStampedStep, RunsOver}
 use Rattle.et_run.proofs.FrameKept.{Stays}
 use Rattle.et_run.proofs.Lifting.{stays_itself, stays_on}
+use Rattle.et_run.proofs.Soundly.{EventsLeadToSound, after, grown, instructs, leads_now, none_after, unended_now}
 use Rattle.et_run.proofs.Stretching.{quiet_marks}
-
--- a thread of whose topmost frame the stage stays does an instruction next
-still_instructs : (pending has before entered : Bool) → (if pending then (if has then Unwind else EndThread) else (if has then (if before then Initialize else Instruction) else (if entered then EndThread else Entry))) ≡ Instruction → (if pending then Unwind else (if before then Initialize else Instruction)) ≡ Instruction
-still_instructs true true before entered e = cc
-still_instructs true false before entered e = cc
-still_instructs false true before entered e = e
-still_instructs false false before true e = cc
-still_instructs false false before false e = cc
-
-turn_stays : (x : ThreadState) (f : FrameState) → turn_of x ≡ Instruction → f.stage ≡ (top_of x).stage → turn_of (with_top_of x f) ≡ Instruction
-turn_stays x f turn same =
-    ap (λ (st : Stage). if is_some x.pending then Unwind else (if is_before_class st then Initialize else Instruction)) same
-    ∙ still_instructs (is_some x.pending) _ (is_before_class (top_of x).stage) x.entered turn
 
 -- SO MANY OF THEM, from a sound state
 
--- events lead from sound states to sound ones
-abbrev pub EventsLeadToSound : Type 0
-EventsLeadToSound = (p : Linked) (s : Kept) (t : ℕ) → IsSoundFor p s → s.guest.clock < 2 ^ 40 → IsUnended s.guest t → IsRunnable p → LeadsToSound p (event_with_texts p s t)
-
 abbrev pub TextsStaySound : Type 0
 TextsStaySound = (p : Linked) (s : Kept) (t : ℕ) → IsSoundFor p s → HasSoundTexts p s → IsUnended s.guest t → IsRunnable p → LeadsToSoundTexts p (event_with_texts p s t)
-
--- the state after k of them
-abbrev pub after : Kept → ℕ → ℕ → Objects → FrameState → Kept
-after s t k heap f = record { heap = heap; guest = with_top (passed k s.guest) t f }
 
 module _ (p : Linked) (s : Kept) (t : ℕ) (old : List ℕ) (sound_now : IsSoundRun p s) (thread : IsUnended s.guest t) (turn : turn_of (thread_at s.guest t) ≡ Instruction)
     (leads_sound : EventsLeadToSound) (texts_sound : TextsStaySound) where
@@ -71,16 +45,10 @@ module _ (p : Linked) (s : Kept) (t : ℕ) (old : List ℕ) (sound_now : IsSound
     pub stays : Stays (top s.guest t) f
     pub sound : IsSoundRun p (after s t k heap f)
 
-  before_all : after s t 0 s.heap (top s.guest t) ≡ s
-  before_all =
-      let now : s.guest.clock + 0 ≡ s.guest.clock = omega arith in
-      ap (λ (n : ℕ). record { heap = s.heap; guest = with_top (record s.guest { clock = n }) t (top s.guest t) }) now
-      ∙ ap (λ (g : GuestState). record { heap = s.heap; guest = g }) (with_top-itself s.guest t (has_frame_there s.guest t turn))
-
   comes_first : (heap : Objects) (f : FrameState) (new : List ℕ) → heap ≡ s.heap → f ≡ top s.guest t → new ≡ old → Comes 0 heap f new
   unfolding AreQuiet
   comes_first heap f new same e none =
-      let is : after s t 0 heap f ≡ s = ap (λ (h : Objects). after s t 0 h f) same ∙ (ap (λ (x : FrameState). after s t 0 s.heap x) e ∙ before_all) in
+      let is : after s t 0 heap f ≡ s = none_after s t thread turn heap f same e in
       record {
         quiet = λ place here. (is, none);
         stays = stays_itself (top s.guest t) f e;
@@ -95,42 +63,19 @@ module _ (p : Linked) (s : Kept) (t : ℕ) (old : List ℕ) (sound_now : IsSound
     step : IsStepOver p heap heap' f f' stamped.lost
     step = stamped.step
 
-    top_now : top (after s t k heap f).guest t ≡ f
-    top_now = top-with_top (passed k s.guest) t f thread.thread
+    leads_there : event_with_texts p (after s t k heap f) t ≡ Goes (after s t (suc k) heap' f') []
+    leads_there = leads_now s t thread turn k heap f c.stays p heap' f' stamped.lost step
 
-    thread_now : thread_at (after s t k heap f).guest t ≡ with_top_of (thread_at s.guest t) f
-    thread_now = get_or-set_same s.guest.threads t (with_top_of (thread_at s.guest t) f) no_thread thread.thread
-
-    turn_now : turn_of (thread_at (after s t k heap f).guest t) ≡ Instruction
-    turn_now = ap (λ (x : ThreadState). turn_of x) thread_now ∙ turn_stays (thread_at s.guest t) f turn (ap (λ (x : FrameState). x.stage) c.stays)
-
-    unended_now : IsUnended (after s t k heap f).guest t
-    unended_now =
-        let long = length-set s.guest.threads t (with_top_of (thread_at s.guest t) f) in
-        record { thread = omega (arith, long, thread.thread); unended = ap (λ (x : ThreadState). x.ended) thread_now ∙ thread.unended }
-
-    instructs : Instructs (after s t k heap f).guest t f
-    instructs = record { turn = turn_now; frame = top_now }
-
-    grown : with_top (ticked (after s t k heap f).guest) t f' ≡ with_top (passed (suc k) s.guest) t f'
-    grown =
-        let one : s.guest.clock + k + 1 ≡ s.guest.clock + suc k = omega arith in
-        with_top-with_top (ticked (passed k s.guest)) t f f' thread.thread ∙ ap (λ (n : ℕ). with_top (record s.guest { clock = n }) t f') one
-
-    leads_now : event_with_texts p (after s t k heap f) t ≡ Goes (after s t (suc k) heap' f') []
-    leads_now =
-        let g : GuestState = (after s t k heap f).guest in
-        let none = step.silent g t instructs in
-        of-table p (after s t k heap f) t none.0 none.1 ∙ (ap (λ (o : Outcome Kept). keeping s.guest.texts o) (step.leads (silent (after s t k heap f)).guest t (record { turn = turn_now; frame = top_now }))
-        ∙ ap (λ (h : GuestState). Goes (record { heap = heap'; guest = h }) []) grown)
+    doing : Instructs (after s t k heap f).guest t f
+    doing = instructs s t thread turn k heap f c.stays
 
     prints_nothing : said_by p (after s t k heap f) t ≡ []
-    prints_nothing = ap (λ (x : Option TextCall). option_map_or (said_in (record { program = p; before = after s t k heap f; thread = t })) x []) (step.silent (after s t k heap f).guest t instructs).0
+    prints_nothing = ap (λ (x : Option TextCall). option_map_or (said_in (record { program = p; before = after s t k heap f; thread = t })) x []) (step.silent (after s t k heap f).guest t doing).0
 
     step_now : IsStepTo (graph_of (after s t k heap f)) (graph_of (after s t (suc k) heap' f')) stamped.lost
     step_now =
-        let led : IsEventOf (after s t k heap f) (record { heap = heap'; guest = with_top (ticked (after s t k heap f).guest) t f' }) stamped.lost = step.legal (after s t k heap f).guest t instructs c.sound.state.held in
-        let to : IsEventOf (after s t k heap f) (after s t (suc k) heap' f') stamped.lost = subst (λ (g : GuestState). IsEventOf (after s t k heap f) (record { heap = heap'; guest = g }) stamped.lost) grown led in
+        let led : IsEventOf (after s t k heap f) (record { heap = heap'; guest = with_top (ticked (after s t k heap f).guest) t f' }) stamped.lost = step.legal (after s t k heap f).guest t doing c.sound.state.held in
+        let to : IsEventOf (after s t k heap f) (after s t (suc k) heap' f') stamped.lost = subst (λ (g : GuestState). IsEventOf (after s t k heap f) (record { heap = heap'; guest = g }) stamped.lost) (grown s t thread turn k heap f c.stays p heap' f' stamped.lost step) led in
         (fresh_of (after s t k heap f) (after s t (suc k) heap' f'), to.legal)
 
     made_now : (graph_of (after s t (suc k) heap' f')).made ≡ (graph_of (after s t k heap f)).made
@@ -139,7 +84,7 @@ module _ (p : Linked) (s : Kept) (t : ℕ) (old : List ℕ) (sound_now : IsSound
     quiet_now : (place : ℕ) → slice_index (unended_threads s) place ≡ t → IsQuiet (event_with_texts p) (said_by p) unended_threads graph_of place (s.guest.clock + k) (after s t k heap f) (after s t (suc k) heap' f') between new
     quiet_now place here =
         let here_now : slice_index (unended_threads (after s t k heap f)) place ≡ t = ap (λ (us : List ℕ). slice_index us place) (same_unended k heap f) ∙ here in
-        let there : event_with_texts p (after s t k heap f) (slice_index (unended_threads (after s t k heap f)) place) ≡ Goes (after s t (suc k) heap' f') [] = ap (λ (u : ℕ). event_with_texts p (after s t k heap f) u) here_now ∙ leads_now in
+        let there : event_with_texts p (after s t k heap f) (slice_index (unended_threads (after s t k heap f)) place) ≡ Goes (after s t (suc k) heap' f') [] = ap (λ (u : ℕ). event_with_texts p (after s t k heap f) u) here_now ∙ leads_there in
         let same : unended_threads (after s t (suc k) heap' f') ≡ unended_threads (after s t k heap f) = same_unended (suc k) heap' f' ∙ sym (same_unended k heap f) in
         record {
           done = ap (λ (o : Outcome Kept). end_by 0 o) there;
@@ -153,6 +98,9 @@ module _ (p : Linked) (s : Kept) (t : ℕ) (old : List ℕ) (sound_now : IsSound
           long = stamped.long;
         }
 
+    here_unended : IsUnended (after s t k heap f).guest t
+    here_unended = unended_now s t thread turn k heap f c.stays
+
     comes_next : Comes (suc k) heap' f' new
     unfolding AreQuiet
     comes_next =
@@ -162,8 +110,8 @@ module _ (p : Linked) (s : Kept) (t : ℕ) (old : List ℕ) (sound_now : IsSound
           sound = record {
             tabled = sound_now.tabled;
             runnable = sound_now.runnable;
-            state = subst (λ (o : Outcome Kept). LeadsToSound p o) leads_now (leads_sound p (after s t k heap f) t c.sound.state early unended_now sound_now.runnable);
-            texts = subst (λ (o : Outcome Kept). LeadsToSoundTexts p o) leads_now (texts_sound p (after s t k heap f) t c.sound.state c.sound.texts unended_now sound_now.runnable);
+            state = subst (λ (o : Outcome Kept). LeadsToSound p o) leads_there (leads_sound p (after s t k heap f) t c.sound.state early here_unended sound_now.runnable);
+            texts = subst (λ (o : Outcome Kept). LeadsToSoundTexts p o) leads_there (texts_sound p (after s t k heap f) t c.sound.state c.sound.texts here_unended sound_now.runnable);
           };
         }
 

@@ -48,7 +48,8 @@ use Rattle.et_loop.specs.Kept.{IsStepTo}
 use Rattle.et_loop.specs.Quiet.{AreQuiet}
 use Rattle.et_run.specs.Waits.{HasWaited, IsAtMonitor}
 use Rattle.et_run.proofs.Answering.{unended_with}
-use Rattle.et_run.proofs.QuietFrames.{EventsLeadToSound, TextsStaySound}
+use Rattle.et_run.proofs.QuietFrames.{TextsStaySound}
+use Rattle.et_run.proofs.Soundly.{EventsLeadToSound}
 use Rattle.et_run.proofs.Stretching.{quiet_marks}
 
 -- WHAT A WAIT IS

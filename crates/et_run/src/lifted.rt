@@ -2,26 +2,29 @@
 //! machine.
 ghost use Rattle.std.specs.Prelude.{◌≡◌, ℕ, ◌+◌, ◌*◌, ◌<◌, ◌≤◌, ◌^◌, false, length, Ok, Some};
 ghost use Rattle.et_event.specs.declared.rows.Row.TheVariants as row_kinds;
+ghost use Rattle.et_event.specs.Programs.{AreElementsWithin};
+ghost use Rattle.et_event.specs.Runnable.{IsRunnable};
 ghost use Rattle.et_event.specs.Sites.{decoded_at, present_body, running_method};
 ghost use Rattle.et_event.specs.Table.{row_of as row_in_table};
 ghost use Rattle.et_event.specs.Sound.{IsSoundFor};
-ghost use Rattle.et_heap.specs.Objects.{IsHeld, Objects};
+ghost use Rattle.et_heap.specs.Objects.{Objects};
 ghost use Rattle.et_refs.specs.Reads.{IsReadable};
 ghost use Rattle.et_refs.specs.Steps.{StepsOver};
 ghost use Rattle.et_run.specs.Lifted.{RunsOver};
 ghost use Rattle.et_state.specs.declared.stage.Turn.TheVariants as turns;
 ghost use Rattle.et_state.specs.State.{kept_of};
 ghost use Rattle.et_state.specs.Threads.{turn_of};
-ghost use Rattle.et_state.specs.Words.{thread_at};
+ghost use Rattle.et_state.specs.Words.{IsUnended, thread_at};
 
 use et_base::{ClassId, Steps, ThreadId};
 use et_code::{Instr, decode};
 use et_event::{Division, Number, Row, code_of, method_of, row_of};
 use et_graph::{Stamps, stamp_each};
 use et_heap::Heap;
+use et_history::spoken_laws::events_lead_to_sound_states;
 use et_ops::{divide, push_constant, run_frame};
 use et_program::{MethodInfo, Program};
-use et_refs::{index_in, read_step};
+use et_refs::{heap_step, index_in};
 use et_state::{Machine, Running};
 use std::sync::ledger::Ledger;
 
@@ -67,27 +70,28 @@ fn division_step(
     divide(running, number, division, decoded.1 as u32).is_done()
 }
 
-/// Does the instruction at the pc of the frame that runs, where it changes nothing but the frame, and reads something else: a
-/// number of the pool, a divisor that isn't 0, or the heap, and that only where it may. `true` where it was done; else all is
-/// as before. It visits objects three times at most.
+/// Does the instruction at the pc of the frame that runs, where it loads a number of the pool, divides by another number than 0,
+/// or reads the heap or writes a number to it, and these two only where it may visit objects. `true` where it was done; else all
+/// is as before. It visits objects four times at most.
 #[inline(always)]
-fn reading_step<L: Ledger>(
+fn further_step<L: Ledger>(
     program: &Program,
     method: &MethodInfo,
     code: &[u8],
-    heap: &Heap,
+    heap: &mut Heap,
     running: &mut Running,
-    may_read: bool,
+    may_visit: bool,
     visits: &mut Steps<L>,
 ) -> bool
     requires class { method.now.class < length program.now.classes }
     requires method { method.now ≡ running_method program.now running.old.frame }
     requires code { code.now ≡ (present_body method.now.code).code }
     requires few { length code.now < 2 ^ 16 }
-    requires sound { IsReadable program.now heap.now running.old.frame }
-    ensures steps { StepsOver program.now heap.now heap.now result running.old running.new }
-    ensures visits { visits.new ≤ visits.old + 3 }
-    ensures unread { may_read ≡ false → visits.new ≡ visits.old }
+    requires sound { IsReadable program.now heap.old running.old.frame }
+    requires elements { AreElementsWithin program.now }
+    ensures steps { StepsOver program.now heap.old heap.new result running.old running.new }
+    ensures visits { visits.new ≤ visits.old + 4 }
+    ensures unread { may_visit ≡ false → visits.new ≡ visits.old }
 {
     let pc = running.pc() as usize;
     if pc >= code.len() {
@@ -102,19 +106,20 @@ fn reading_step<L: Ledger>(
             division_step(program, running, number, division, &decoded)
         }
         Some(Row::Heap(row)) => {
-            if !may_read {
+            if !may_visit {
                 return false;
             }
-            read_step(program, method.class, heap, running, &decoded, row, visits)
+            heap_step(program, method.class, heap, running, &decoded, row, visits)
         }
         Some(_) | None => false,
     }
 }
 
-/// Does up to so many events of a thread, as long as they are instructions that change nothing but its topmost frame, and read
-/// nothing else but numbers of the pool and the heap; and answers how many. Those that read nothing else than the frame are done
-/// in a loop of their own. Each object that one of them loses gets the number of the event before it as its stamp. They tell
-/// nothing. The first one reads no heap, so that what a refused one visits is within what the events before it may.
+/// Does up to so many events of a thread, as long as they are instructions that change nothing but its topmost frame and numbers
+/// in the heap, and read nothing else but numbers of the pool and the heap; and answers how many. Those that read and change
+/// nothing else than the frame are done in a loop of their own. Each object that one of them loses gets the number of the event
+/// before it as its stamp. They tell nothing. The first one visits no object, so that what a refused one visits is within what
+/// the events before it may.
 #[inline(always)]
 pub(crate) fn lifted_events<L: Ledger>(
     program: &Program,
@@ -124,10 +129,12 @@ pub(crate) fn lifted_events<L: Ledger>(
     most: u64,
     visits: &mut Steps<L>,
 ) -> u64
+    requires runnable { IsRunnable program.now }
     requires sound { IsSoundFor program.now (kept_of machine.old) }
+    requires thread { IsUnended machine.old.guest thread }
     requires turn { turn_of (thread_at machine.old.guest thread) ≡ turns.Instruction }
     requires clock { machine.old.guest.clock + most ≤ 2 ^ 40 }
-    requires places { (o : ℕ) → IsHeld machine.old.heap o → o < length stamps.old }
+    requires places { length machine.old.heap ≤ length stamps.old }
     ensures few { result ≤ most }
     ensures runs { RunsOver program.now thread result machine.old machine.new stamps.old
         stamps.new }
@@ -137,21 +144,16 @@ pub(crate) fn lifted_events<L: Ledger>(
     let code = code_of(method);
     let e = machine.clock();
     let mut running = machine.lift(thread);
+    // Law: it tells the prover, and does nothing.
+    events_lead_to_sound_states();
+    let heap = &mut machine.heap;
     let mut count = 0;
     'steps: loop {
         count += run_frame(code, &mut running, stamps, e + count, most - count);
         if count == most {
             break;
         }
-        if !reading_step(
-            program,
-            method,
-            code,
-            &machine.heap,
-            &mut running,
-            0 < count,
-            visits,
-        ) {
+        if !further_step(program, method, code, heap, &mut running, 0 < count, visits) {
             break;
         }
         stamp_each(stamps, running.lost(), e + count);

@@ -82,8 +82,8 @@ fn is_quiet(machine: &Machine, standing: &Standing, end: &EventEnd, out: &Output
         && stands(machine, standing)
 }
 
-/// Events of a thread that has not ended which are instructions that change nothing but its topmost frame, and read nothing else
-/// but the heap: as many as come one after the other, up to `most`. They are quiet. Where the thread does no instruction next
+/// Events of a thread that has not ended which are instructions that change nothing but its topmost frame and numbers in the
+/// heap, and read nothing else but the heap: as many as come one after the other, up to `most`. They are quiet. Where the thread does no instruction next
 /// there are none.
 #[tactic(auto, unfolding(et_loop::specs::Quiet::AreQuiet))]
 #[inline(always)]

@@ -1,14 +1,21 @@
-use Rattle.std.proofs.Common.{rules, ◌≡◌, Bool, true, Err, ◌∙◌, ap}
+use Rattle.std.proofs.Common.{rules, ◌≡◌, Bool, true, Err, sym, ◌∙◌, ap, subst}
 use Rattle.et_base.specs.declared.value.Value.TheVariants.{Ref}
-use Rattle.et_heap.specs.Objects.{object_at}
-use Rattle.et_state.specs.State.{kept_of}
+use Rattle.et_heap.specs.Objects.{Objects, object_at}
+use Rattle.et_state.specs.State.{MachineState, kept_of}
 use Rattle.et_program.specs.Types.{passes}
 use Rattle.et_event.specs.declared.errors.GuestError.TheVariants.{ClassCastException}
 use Rattle.et_event.specs.Moments.{moment, begins}
 use Rattle.et_event.specs.Checks.{throws_unless}
 use Rattle.et_refs.specs.Changes.{put_outcome}
 use Rattle.et_refs.proofs.Chains.{refusing, casts}
+use Rattle.et_refs.specs.Reads.{IsSoundHeap}
+use Rattle.et_refs.proofs.Lifting.{sound_heap}
 use Rattle.et_refs.proofs.casts.cast_object.Goals as goal
+
+pub passes-holds-requires-clause-sound : goal.passes-holds-requires-clause-sound
+passes-holds-requires-clause-sound g c =
+    let whole : c.machine.inside.heap ≡ c.args.machine.now.heap = ap (λ (m : MachineState). m.heap) c.machine.view_is in
+    subst (λ (h : Objects). IsSoundHeap c.args.program.now h) (sym whole) (sound_heap c.args.program.now (kept_of c.args.machine.now) c.requires.sound)
 
 pub returns-in_err-class-clause-is : goal.returns-in_err-class-clause-is
 returns-in_err-class-clause-is g c =

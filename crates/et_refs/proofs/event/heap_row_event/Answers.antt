@@ -68,6 +68,31 @@ returns-then-is_read-clause-deferred g c = λ some.
     let other : is_get_static c.heap_row-row.result ≡ false = search rules in
     absurd (none_read c.args.program.now c.args.machine.now c.args.thread c.args.place.now c.heap_row-row.result c.requires.turn c.requires.place c.heap_row-row.ensures other some)
 
+pub returns-then-is_write-clause-event : goal.returns-then-is_write-clause-event
+returns-then-is_write-clause-event g c =
+    let p = c.args.program.now in
+    let m = c.args.machine.now in
+    let e = moment p m c.args.thread in
+    let at = site_at c.args.place.now in
+    let o = does e at c.args.place.now.row in
+    let other : is_get_static c.heap_row-row.result ≡ false = search rules in
+    let same : o ≡ heap_event e at c.heap_row-row.result = ap (λ (r : Row). does e at r) c.heap_row-row.ensures in
+    let a : IfOk c.write_event.result (λ end. EventAnswers o end m c.write_event.new.machine c.args.out.now c.write_event.new.out) =
+    answers_as o (heap_event e at c.heap_row-row.result) c.write_event.result m c.write_event.new.machine c.args.out.now c.write_event.new.out same c.write_event.ensures.event in
+    answers_unless_out p m c.args.thread o c.write_event.result c.write_event.new.machine c.args.out.now c.write_event.new.out
+    (none_left p m c.args.thread c.args.place.now c.heap_row-row.result c.requires.turn c.requires.place c.heap_row-row.ensures other) a
+
+pub returns-then-is_write-clause-native : goal.returns-then-is_write-clause-native
+returns-then-is_write-clause-native g c =
+    let p = c.args.program.now in
+    let m = c.args.machine.now in
+    native_where_out p m c.args.thread (does (moment p m c.args.thread) (site_at c.args.place.now) c.args.place.now.row) c.write_event.result c.write_event.new.machine c.args.out.now c.write_event.new.out (returns-then-is_write-clause-event g c)
+
+pub returns-then-is_write-clause-deferred : goal.returns-then-is_write-clause-deferred
+returns-then-is_write-clause-deferred g c = λ some.
+    let other : is_get_static c.heap_row-row.result ≡ false = search rules in
+    absurd (none_read c.args.program.now c.args.machine.now c.args.thread c.args.place.now c.heap_row-row.result c.requires.turn c.requires.place c.heap_row-row.ensures other some)
+
 pub returns-in-Ok-Change-clause-event : goal.returns-in-Ok-Change-clause-event
 returns-in-Ok-Change-clause-event g c =
     let p = c.args.program.now in

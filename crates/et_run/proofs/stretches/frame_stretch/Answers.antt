@@ -1,5 +1,4 @@
 use Rattle.std.proofs.Common.{sym, ◌∙◌, arith}
-use Rattle.et_heap.proofs.HeapLists.{held_within}
 use Rattle.et_history.proofs.Unended.{unended_thread}
 use Rattle.et_run.proofs.Flushing.{machine_sound}
 use Rattle.et_run.proofs.QuietFrames.{ran_on, ran_quietly, ran_soundly}
@@ -11,10 +10,11 @@ turn-requires g c = (unended_thread c.args.running.now.machine.guest c.args.thre
 pub lifted_events-requires-clause-sound : goal.lifted_events-requires-clause-sound
 lifted_events-requires-clause-sound g c = machine_sound c.args.program.now c.args.running.now.texts c.args.running.now.machine c.has_no_texts.ensures c.requires.sound.state
 
+pub lifted_events-requires-clause-thread : goal.lifted_events-requires-clause-thread
+lifted_events-requires-clause-thread g c = unended_thread c.args.running.now.machine.guest c.args.thread c.requires.thread
+
 pub lifted_events-requires-clause-places : goal.lifted_events-requires-clause-places
-lifted_events-requires-clause-places g c = λ o held.
-    let lt = held_within c.args.running.now.machine.heap o held in
-    omega (arith, lt, c.requires.stamps.places)
+lifted_events-requires-clause-places g c = omega (arith, c.requires.stamps.places, c.requires.sound.state.held.room)
 
 pub returns-in-Instruction-clause-quiet : goal.returns-in-Instruction-clause-quiet
 returns-in-Instruction-clause-quiet g c =
