@@ -24,7 +24,8 @@ use Rattle.et_event.specs.Sound.{IsSoundFor}
 use Rattle.et_event.specs.Initialization.{with_state, constants_set, begun_by, begins_class, initializer_frame}
 use Rattle.et_event.proofs.Throwing.{ends_fit, ends_full}
 use Rattle.et_event.specs.InitializationOrder.{IsInOrder}
-use Rattle.et_initialize.specs.Under.{so_far, with_kept, InitializesTo, IsInitializing, HasMadeStrings}
+use Rattle.et_event.specs.Telling.{so_far, with_kept, StandsAt}
+use Rattle.et_initialize.specs.Under.{IsInitializing, HasMadeStrings}
 use Rattle.et_initialize.proofs.Setting.{follows_each}
 use Rattle.et_initialize.proofs.Running.{marked}
 use Rattle.et_initialize.proofs.Legal.{made_none, ready_first, made_constants}
@@ -57,17 +58,17 @@ pub begin_lost : (m m₁ : MachineState) → m₁ ≡ begun m → length m₁.lo
 begin_lost m m₁ e = subst (λ (n : MachineState). length n.lost < lost_room) (sym e) (lit< tt)
 
 -- what the constants come to, with the records that were there
-began : (p : Linked) (t c : ℕ) (m m₂ m₃ : MachineState) (out out' : List Record) → m₂ ≡ marked (begun m) c (Begun t) → InitializesTo (constants_set (moment p m₂ t) c (so_far m₂ out)) m₂ m₃ out'
-    → InitializesTo (behind out (constants_set (moment p m t) c (with_state c (Begun t) (begins (moment p m t))))) (begun m) m₃ out'
+began : (p : Linked) (t c : ℕ) (m m₂ m₃ : MachineState) (out out' : List Record) → m₂ ≡ marked (begun m) c (Begun t) → StandsAt (constants_set (moment p m₂ t) c (so_far m₂ out)) m₂ m₃ out'
+    → StandsAt (behind out (constants_set (moment p m t) c (with_state c (Begun t) (begins (moment p m t))))) (begun m) m₃ out'
 began p t c m m₂ m₃ out out' e h =
     let q = moment p m t in
     let y = with_state c (Begun t) (begins q) in
     let n = marked (begun m) c (Begun t) in
-    let a : InitializesTo (constants_set (moment p n t) c (so_far n out)) n m₃ out' = subst (λ (x : MachineState). InitializesTo (constants_set (moment p x t) c (so_far x out)) x m₃ out') e h in
-    let b : InitializesTo (constants_set q c (behind out y)) n m₃ out' = subst (λ (r : List Record). InitializesTo (constants_set q c (record { state = y.state; records = r })) n m₃ out') (sym (append-nil out)) a in
-    subst (λ (x : Doing). InitializesTo x n m₃ out') (behind_constants out q c y) b
+    let a : StandsAt (constants_set (moment p n t) c (so_far n out)) n m₃ out' = subst (λ (x : MachineState). StandsAt (constants_set (moment p x t) c (so_far x out)) x m₃ out') e h in
+    let b : StandsAt (constants_set q c (behind out y)) n m₃ out' = subst (λ (r : List Record). StandsAt (constants_set q c (record { state = y.state; records = r })) n m₃ out') (sym (append-nil out)) a in
+    subst (λ (x : Doing). StandsAt x n m₃ out') (behind_constants out q c y) b
 
-pub begin_few : (p : Linked) (t c : ℕ) (m m₂ m₃ : MachineState) (out out' : List Record) → m₂ ≡ marked (begun m) c (Begun t) → InitializesTo (constants_set (moment p m₂ t) c (so_far m₂ out)) m₂ m₃ out'
+pub begin_few : (p : Linked) (t c : ℕ) (m m₂ m₃ : MachineState) (out out' : List Record) → m₂ ≡ marked (begun m) c (Begun t) → StandsAt (constants_set (moment p m₂ t) c (so_far m₂ out)) m₂ m₃ out'
     → m₃.guest.threads ≡ m.guest.threads
 begin_few p t c m m₂ m₃ out out' e h =
     let q = moment p m t in
@@ -75,7 +76,7 @@ begin_few p t c m m₂ m₃ out out' e h =
     ap (λ (x : MachineState). x.guest.threads) (began p t c m m₂ m₃ out out' e h).0 ∙ (follows_each q (class_at p c).info.constants y).threads
 
 pub begin_led : (p : Linked) (t c : ℕ) (m m₂ m₃ m₄ : MachineState) (out out' : List Record) (f : FrameState) → IsInOrder p → c < length p.classes → IsSoundFor p (kept_of m) → t < length m.guest.threads → class_state_at m.guest c ≡ Untouched
-    → m₂ ≡ marked (begun m) c (Begun t) → InitializesTo (constants_set (moment p m₂ t) c (so_far m₂ out)) m₂ m₃ out' → f ≡ initializer_frame c → m₄ ≡ steps_thread m₃ t (entered_by f (thread_at m₃.guest t)) []
+    → m₂ ≡ marked (begun m) c (Begun t) → StandsAt (constants_set (moment p m₂ t) c (so_far m₂ out)) m₂ m₃ out' → f ≡ initializer_frame c → m₄ ≡ steps_thread m₃ t (entered_by f (thread_at m₃.guest t)) []
     → Led (kept_of m) (begun_by (moment p m t) c (begins (moment p m t))).state m₄
 begin_led p t c m m₂ m₃ m₄ out out' f has lt sound thread un e₂ h new e₄ =
     let q = moment p m t in
@@ -92,7 +93,7 @@ begin_led p t c m m₂ m₃ m₄ out out' f has lt sound thread un e₂ h new e�
     let k : Kept = (begun_by q c d).state in
     strings_led s k m₄ (subst (λ (z : MachineState). IsOnWay s z) (sym is) way) (ap (λ (z : MachineState). kept_of z) is) made.grown (λ o low high. string_root k.guest o (made.made o low high))
 
-pub begin_records : (p : Linked) (t c : ℕ) (m m₂ m₃ : MachineState) (out out' : List Record) → m₂ ≡ marked (begun m) c (Begun t) → InitializesTo (constants_set (moment p m₂ t) c (so_far m₂ out)) m₂ m₃ out'
+pub begin_records : (p : Linked) (t c : ℕ) (m m₂ m₃ : MachineState) (out out' : List Record) → m₂ ≡ marked (begun m) c (Begun t) → StandsAt (constants_set (moment p m₂ t) c (so_far m₂ out)) m₂ m₃ out'
     → out' ≡ out ++ (begun_by (moment p m t) c (begins (moment p m t))).records
 begin_records p t c m m₂ m₃ out out' e h = (began p t c m m₂ m₃ out out' e h).1
 

@@ -13,22 +13,23 @@ use Rattle.et_event.specs.Moments.{Moment, moment, Doing, begins, fits_heap}
 use Rattle.et_initialize.specs.declared.needs.Need.{Need}
 use Rattle.et_initialize.specs.declared.needs.Need.TheVariants.{Ready, Waits, Quiet, Begins}
 use Rattle.et_initialize.specs.Needs.{need_by, need_of, met}
-use Rattle.et_initialize.specs.Under.{so_far, InitializesTo, base}
+use Rattle.et_event.specs.Telling.{so_far, StandsAt}
+use Rattle.et_initialize.specs.Under.{base}
 use Rattle.et_initialize.proofs.Records.{behind, behind_quietly}
 
 -- what the classes come to, with the records that were there
 abbrev pub quiet : Linked → ℕ → MachineState → ℕ → Doing
 quiet p t m c = quietly_done (moment p m t) c (begins (moment p m t))
 
-pub quiet_came : (p : Linked) (t c : ℕ) (m m₁ m₂ : MachineState) (out out₂ : List Record) → m₁ ≡ begun m → InitializesTo (quietly_done (moment p m₁ t) c (so_far m₁ out)) m₁ m₂ out₂
+pub quiet_came : (p : Linked) (t c : ℕ) (m m₁ m₂ : MachineState) (out out₂ : List Record) → m₁ ≡ begun m → StandsAt (quietly_done (moment p m₁ t) c (so_far m₁ out)) m₁ m₂ out₂
     → (m₂ ≡ base m (quiet p t m c)) × (out₂ ≡ out ++ (quiet p t m c).records)
 quiet_came p t c m m₁ m₂ out out₂ e h =
     let q = moment p m t in
     let d = begins q in
     let n = begun m in
-    let a : InitializesTo (quietly_done (moment p n t) c (so_far n out)) n m₂ out₂ = subst (λ (x : MachineState). InitializesTo (quietly_done (moment p x t) c (so_far x out)) x m₂ out₂) e h in
-    let b : InitializesTo (quietly_done q c (behind out d)) n m₂ out₂ = subst (λ (r : List Record). InitializesTo (quietly_done q c (record { state = d.state; records = r })) n m₂ out₂) (sym (append-nil out)) a in
-    subst (λ (x : Doing). InitializesTo x n m₂ out₂) (behind_quietly out q c d) b
+    let a : StandsAt (quietly_done (moment p n t) c (so_far n out)) n m₂ out₂ = subst (λ (x : MachineState). StandsAt (quietly_done (moment p x t) c (so_far x out)) x m₂ out₂) e h in
+    let b : StandsAt (quietly_done q c (behind out d)) n m₂ out₂ = subst (λ (r : List Record). StandsAt (quietly_done q c (record { state = d.state; records = r })) n m₂ out₂) (sym (append-nil out)) a in
+    subst (λ (x : Doing). StandsAt x n m₂ out₂) (behind_quietly out q c d) b
 
 pub quiet_fit : (p : Linked) (t c : ℕ) (m m₁ : MachineState) (out : List Record) → m₁ ≡ begun m → fits_heap (quiet p t m c).state.heap ≡ true → fits_heap (quietly_done (moment p m₁ t) c (so_far m₁ out)).state.heap ≡ true
 quiet_fit p t c m m₁ out e fit =

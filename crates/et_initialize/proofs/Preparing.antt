@@ -21,7 +21,8 @@ use Rattle.et_initialize.specs.declared.needs.Need.TheVariants.{Ready, Waits, Qu
 use Rattle.et_initialize.specs.Needs.{need_by, need_of, met}
 use Rattle.et_event.specs.InitializationOrder.{IsInOrder}
 use Rattle.et_initialize.specs.Texts.{CountedAll}
-use Rattle.et_initialize.specs.Under.{so_far, InitializesTo, IsInitializing, HasMadeStrings}
+use Rattle.et_event.specs.Telling.{so_far, StandsAt}
+use Rattle.et_initialize.specs.Under.{IsInitializing, HasMadeStrings}
 use Rattle.et_initialize.proofs.Running.{at, came, known}
 use Rattle.et_initialize.proofs.Setting.{Grown, grown_none, grown_then, fits_grown, fold_rest, grown_order, done_step, state_changed, state_set, follows_each}
 use Rattle.et_initialize.proofs.Legal.{quietly_made, quietly_ready, quietly_threads, quietly_monitors}
@@ -348,7 +349,7 @@ pre_fits e d ks k lt fit =
     ap (λ (y : Doing). fits_heap y.state.heap) (sym one) ∙ fits_grown x.state.heap (prepared e (drop (k + 1) ks) x).state.heap (grown_prepared e (drop (k + 1) ks) x) whole
 
 pub pre_has_room : (p : Linked) (t : ℕ) (m₀ m : MachineState) (out₀ out : List Record) (ks : List ℕ) (k c : ℕ) → k < length ks → c ≡ get_or ks k c
-    → fits_heap (prepared (moment p m₀ t) ks (so_far m₀ out₀)).state.heap ≡ true → InitializesTo (pre_first (moment p m₀ t) (so_far m₀ out₀) ks k) m₀ m out
+    → fits_heap (prepared (moment p m₀ t) ks (so_far m₀ out₀)).state.heap ≡ true → StandsAt (pre_first (moment p m₀ t) (so_far m₀ out₀) ks k) m₀ m out
     → fits_heap (pre_step (moment p m t) (so_far m out) c).state.heap ≡ true
 pre_has_room p t m₀ m out₀ out ks k c within read fit before =
     let e = moment p m₀ t in
@@ -358,18 +359,18 @@ pre_has_room p t m₀ m out₀ out ks k c within read fit before =
     known (λ b x. fits_heap (pre_step (at p t b) x c).state.heap ≡ true) m₀ m out (pre_first e d ks k) before.0 before.1 (subst (λ (g : ℕ). fits_heap (pre_step e (pre_first e d ks k) g).state.heap ≡ true) same one)
 
 pub pre_came : (p : Linked) (t : ℕ) (m₀ m m' : MachineState) (out₀ out out' : List Record) (ks : List ℕ) (k c : ℕ) → k < length ks → c ≡ get_or ks k c
-    → InitializesTo (pre_first (moment p m₀ t) (so_far m₀ out₀) ks k) m₀ m out → InitializesTo (pre_step (moment p m t) (so_far m out) c) m m' out'
-    → InitializesTo (pre_first (moment p m₀ t) (so_far m₀ out₀) ks (k + 1)) m₀ m' out'
+    → StandsAt (pre_first (moment p m₀ t) (so_far m₀ out₀) ks k) m₀ m out → StandsAt (pre_step (moment p m t) (so_far m out) c) m m' out'
+    → StandsAt (pre_first (moment p m₀ t) (so_far m₀ out₀) ks (k + 1)) m₀ m' out'
 pre_came p t m₀ m m' out₀ out out' ks k c within read before h =
     let e = moment p m₀ t in
     let d = so_far m₀ out₀ in
     let same : get_or ks k 0 ≡ c = sym (read ∙ get_or_default ks k c 0 within) in
-    let now : InitializesTo (pre_step e (pre_first e d ks k) c) m₀ m' out' = came (λ b x. pre_step (at p t b) x c) (λ b b' x. refl) m₀ m m' out out' (pre_first e d ks k) before.0 before.1 h in
+    let now : StandsAt (pre_step e (pre_first e d ks k) c) m₀ m' out' = came (λ b x. pre_step (at p t b) x c) (λ b b' x. refl) m₀ m m' out out' (pre_first e d ks k) before.0 before.1 h in
     let more : pre_first e d ks (k + 1) ≡ pre_step e (pre_first e d ks k) c = fold_more (pre_step e) d ks k 0 within ∙ ap (λ (g : ℕ). pre_step e (pre_first e d ks k) g) same in
-    subst (λ (x : Doing). InitializesTo x m₀ m' out') (sym more) now
+    subst (λ (x : Doing). StandsAt x m₀ m' out') (sym more) now
 
 pub pre_ready : (p : Linked) (t : ℕ) (m₀ m : MachineState) (out₀ out : List Record) (ks : List ℕ) (k : ℕ) → IsInOrder p → All (λ c. c < length p.classes) ks → IsInitializing p (kept_of m₀)
-    → InitializesTo (pre_first (moment p m₀ t) (so_far m₀ out₀) ks k) m₀ m out → IsInitializing p (kept_of m)
+    → StandsAt (pre_first (moment p m₀ t) (so_far m₀ out₀) ks k) m₀ m out → IsInitializing p (kept_of m)
 pre_ready p t m₀ m out₀ out ks k has all ready before =
     let e = moment p m₀ t in
     let d = so_far m₀ out₀ in

@@ -14,7 +14,8 @@ use Rattle.et_state.specs.declared.records.Record.{Record}
 use Rattle.et_event.specs.Moments.{Moment, moment, Doing, fits_heap}
 use Rattle.et_event.specs.Initialization.{state_of, with_state, field_set, constants_set, class_done, quietly_done}
 use Rattle.et_event.specs.InitializationOrder.{IsInOrder}
-use Rattle.et_initialize.specs.Under.{so_far, with_kept, InitializesTo, IsInitializing, class_of_slot}
+use Rattle.et_event.specs.Telling.{so_far, with_kept, StandsAt}
+use Rattle.et_initialize.specs.Under.{IsInitializing, class_of_slot}
 use Rattle.et_initialize.proofs.Setting.{CanSet, after, can_set, field_fits, done_step, done_first, class_fits, ready_order, ready_marked, unset_marked}
 
 abbrev pub at : Linked → ℕ → Kept → Moment
@@ -35,10 +36,10 @@ quietly_same p t b b' c x = refl
 
 -- one call more
 pub came : (F : Kept → Doing → Doing) → ((b b' : Kept) (x : Doing) → F b x ≡ F b' x) → (m₀ m m' : MachineState) (out out' : List Record) (x : Doing)
-    → m ≡ with_kept m₀ x.state → out ≡ x.records → InitializesTo (F (kept_of m) (so_far m out)) m m' out' → InitializesTo (F (kept_of m₀) x) m₀ m' out'
+    → m ≡ with_kept m₀ x.state → out ≡ x.records → StandsAt (F (kept_of m) (so_far m out)) m m' out' → StandsAt (F (kept_of m₀) x) m₀ m' out'
 came F same m₀ m m' out out' x e₁ e₂ h =
-    let a : InitializesTo (F x.state x) (with_kept m₀ x.state) m' out' = subst (λ (n : MachineState). InitializesTo (F (kept_of n) (so_far n x.records)) n m' out') e₁ (subst (λ (o : List Record). InitializesTo (F (kept_of m) (so_far m o)) m m' out') e₂ h) in
-    subst (λ (y : Doing). InitializesTo y m₀ m' out') (same x.state (kept_of m₀) x) a
+    let a : StandsAt (F x.state x) (with_kept m₀ x.state) m' out' = subst (λ (n : MachineState). StandsAt (F (kept_of n) (so_far n x.records)) n m' out') e₁ (subst (λ (o : List Record). StandsAt (F (kept_of m) (so_far m o)) m m' out') e₂ h) in
+    subst (λ (y : Doing). StandsAt y m₀ m' out') (same x.state (kept_of m₀) x) a
 
 -- what holds of what was done so far
 pub known : (P : Kept → Doing → Type 0) (m₀ m : MachineState) (out : List Record) (x : Doing) → m ≡ with_kept m₀ x.state → out ≡ x.records → P x.state x → P (kept_of m) (so_far m out)
@@ -49,7 +50,7 @@ known P m₀ m out x e₁ e₂ h =
 
 pub field_can : (p : Linked) (t c : ℕ) (m₀ m : MachineState) (out₀ out : List Record) (fs : List ℕ) (k f : ℕ) → IsInOrder p → c < length p.classes → IsInitializing p (kept_of m₀)
     → ((i : ℕ) → i < length p.statics → class_of_slot p i ≡ c → static_at m₀.guest i ≡ Unset) → fs ≡ (class_at p c).info.constants → k < length fs → f ≡ get_or fs k f
-    → InitializesTo (after (moment p m₀ t) (so_far m₀ out₀) fs k) m₀ m out → CanSet p f (so_far m out)
+    → StandsAt (after (moment p m₀ t) (so_far m₀ out₀) fs k) m₀ m out → CanSet p f (so_far m out)
 field_can p t c m₀ m out₀ out fs k f has lt ready unset is within read before =
     let e = moment p m₀ t in
     let d = so_far m₀ out₀ in
@@ -60,7 +61,7 @@ field_can p t c m₀ m out₀ out fs k f has lt ready unset is within read befor
     known (λ b x. CanSet p f x) m₀ m out (after e d fs k) before.0 before.1 on
 
 pub field_has_room : (p : Linked) (t : ℕ) (m₀ m : MachineState) (out₀ out : List Record) (fs : List ℕ) (k f : ℕ) → k < length fs → f ≡ get_or fs k f
-    → fits_heap (fold (field_set (moment p m₀ t)) (so_far m₀ out₀) fs).state.heap ≡ true → InitializesTo (after (moment p m₀ t) (so_far m₀ out₀) fs k) m₀ m out
+    → fits_heap (fold (field_set (moment p m₀ t)) (so_far m₀ out₀) fs).state.heap ≡ true → StandsAt (after (moment p m₀ t) (so_far m₀ out₀) fs k) m₀ m out
     → fits_heap (field_set (moment p m t) (so_far m out) f).state.heap ≡ true
 field_has_room p t m₀ m out₀ out fs k f within read fit before =
     let e = moment p m₀ t in
@@ -70,20 +71,20 @@ field_has_room p t m₀ m out₀ out fs k f within read fit before =
     known (λ b x. fits_heap (field_set (at p t b) x f).state.heap ≡ true) m₀ m out (after e d fs k) before.0 before.1 (subst (λ (g : ℕ). fits_heap (field_set e (after e d fs k) g).state.heap ≡ true) same one)
 
 pub field_came : (p : Linked) (t : ℕ) (m₀ m m' : MachineState) (out₀ out out' : List Record) (fs : List ℕ) (k f : ℕ) → k < length fs → f ≡ get_or fs k f
-    → InitializesTo (after (moment p m₀ t) (so_far m₀ out₀) fs k) m₀ m out → InitializesTo (field_set (moment p m t) (so_far m out) f) m m' out'
-    → InitializesTo (after (moment p m₀ t) (so_far m₀ out₀) fs (k + 1)) m₀ m' out'
+    → StandsAt (after (moment p m₀ t) (so_far m₀ out₀) fs k) m₀ m out → StandsAt (field_set (moment p m t) (so_far m out) f) m m' out'
+    → StandsAt (after (moment p m₀ t) (so_far m₀ out₀) fs (k + 1)) m₀ m' out'
 field_came p t m₀ m m' out₀ out out' fs k f within read before h =
     let e = moment p m₀ t in
     let d = so_far m₀ out₀ in
     let same : get_or fs k 0 ≡ f = sym (read ∙ get_or_default fs k f 0 within) in
-    let now : InitializesTo (field_set e (after e d fs k) f) m₀ m' out' = came (λ b x. field_set (at p t b) x f) (λ b b' x. refl) m₀ m m' out out' (after e d fs k) before.0 before.1 h in
+    let now : StandsAt (field_set e (after e d fs k) f) m₀ m' out' = came (λ b x. field_set (at p t b) x f) (λ b b' x. refl) m₀ m m' out out' (after e d fs k) before.0 before.1 h in
     let more : after e d fs (k + 1) ≡ field_set e (after e d fs k) f = fold_more (field_set e) d fs k 0 within ∙ ap (λ (g : ℕ). field_set e (after e d fs k) g) same in
-    subst (λ (x : Doing). InitializesTo x m₀ m' out') (sym more) now
+    subst (λ (x : Doing). StandsAt x m₀ m' out') (sym more) now
 
 -- A LOOP OVER CLASSES
 
 pub class_has_room : (p : Linked) (t : ℕ) (m₀ m : MachineState) (out₀ out : List Record) (ks : List ℕ) (k c : ℕ) → k < length ks → c ≡ get_or ks k c
-    → fits_heap (fold (done_step (moment p m₀ t)) (so_far m₀ out₀) ks).state.heap ≡ true → InitializesTo (done_first (moment p m₀ t) (so_far m₀ out₀) ks k) m₀ m out
+    → fits_heap (fold (done_step (moment p m₀ t)) (so_far m₀ out₀) ks).state.heap ≡ true → StandsAt (done_first (moment p m₀ t) (so_far m₀ out₀) ks k) m₀ m out
     → fits_heap (done_step (moment p m t) (so_far m out) c).state.heap ≡ true
 class_has_room p t m₀ m out₀ out ks k c within read fit before =
     let e = moment p m₀ t in
@@ -93,18 +94,18 @@ class_has_room p t m₀ m out₀ out ks k c within read fit before =
     known (λ b x. fits_heap (done_step (at p t b) x c).state.heap ≡ true) m₀ m out (done_first e d ks k) before.0 before.1 (subst (λ (g : ℕ). fits_heap (done_step e (done_first e d ks k) g).state.heap ≡ true) same one)
 
 pub class_came : (p : Linked) (t : ℕ) (m₀ m m' : MachineState) (out₀ out out' : List Record) (ks : List ℕ) (k c : ℕ) → k < length ks → c ≡ get_or ks k c
-    → InitializesTo (done_first (moment p m₀ t) (so_far m₀ out₀) ks k) m₀ m out → InitializesTo (done_step (moment p m t) (so_far m out) c) m m' out'
-    → InitializesTo (done_first (moment p m₀ t) (so_far m₀ out₀) ks (k + 1)) m₀ m' out'
+    → StandsAt (done_first (moment p m₀ t) (so_far m₀ out₀) ks k) m₀ m out → StandsAt (done_step (moment p m t) (so_far m out) c) m m' out'
+    → StandsAt (done_first (moment p m₀ t) (so_far m₀ out₀) ks (k + 1)) m₀ m' out'
 class_came p t m₀ m m' out₀ out out' ks k c within read before h =
     let e = moment p m₀ t in
     let d = so_far m₀ out₀ in
     let same : get_or ks k 0 ≡ c = sym (read ∙ get_or_default ks k c 0 within) in
-    let now : InitializesTo (done_step e (done_first e d ks k) c) m₀ m' out' = came (λ b x. done_step (at p t b) x c) (λ b b' x. refl) m₀ m m' out out' (done_first e d ks k) before.0 before.1 h in
+    let now : StandsAt (done_step e (done_first e d ks k) c) m₀ m' out' = came (λ b x. done_step (at p t b) x c) (λ b b' x. refl) m₀ m m' out out' (done_first e d ks k) before.0 before.1 h in
     let more : done_first e d ks (k + 1) ≡ done_step e (done_first e d ks k) c = fold_more (done_step e) d ks k 0 within ∙ ap (λ (g : ℕ). done_step e (done_first e d ks k) g) same in
-    subst (λ (x : Doing). InitializesTo x m₀ m' out') (sym more) now
+    subst (λ (x : Doing). StandsAt x m₀ m' out') (sym more) now
 
 pub class_ready : (p : Linked) (t : ℕ) (m₀ m : MachineState) (out₀ out : List Record) (ks : List ℕ) (k : ℕ) → IsInOrder p → k < length ks → All (λ c. c < length p.classes) ks → IsInitializing p (kept_of m₀)
-    → InitializesTo (done_first (moment p m₀ t) (so_far m₀ out₀) ks k) m₀ m out → IsInitializing p (kept_of m)
+    → StandsAt (done_first (moment p m₀ t) (so_far m₀ out₀) ks k) m₀ m out → IsInitializing p (kept_of m)
 class_ready p t m₀ m out₀ out ks k has within all ready before =
     let e = moment p m₀ t in
     let d = so_far m₀ out₀ in

@@ -37,7 +37,8 @@ use Rattle.et_event.specs.Sites.{present_body}
 use Rattle.et_event.specs.Initialization.{with_state, prepared, constants_set, begun_by, begins_class, initializer_frame, enters_clinit}
 use Rattle.et_event.proofs.Throwing.{ends_fit, ends_full, framed}
 use Rattle.et_event.specs.InitializationOrder.{IsInOrder}
-use Rattle.et_initialize.specs.Under.{so_far, with_kept, InitializesTo, IsInitializing, HasMadeStrings}
+use Rattle.et_event.specs.Telling.{so_far, with_kept, StandsAt}
+use Rattle.et_initialize.specs.Under.{IsInitializing, HasMadeStrings}
 use Rattle.et_initialize.specs.Asked.{after}
 use Rattle.et_initialize.proofs.Setting.{fits_grown, follows_each}
 use Rattle.et_initialize.proofs.Running.{marked}
@@ -50,15 +51,15 @@ use Rattle.et_initialize.proofs.Beginning.{strings_led, few, begin_overflows}
 abbrev pub base : Linked → MachineState → ℕ → List ℕ → MachineState
 base p m t ks = with_kept (begun m) (after p m t ks).state
 
-pub prepared_came : (p : Linked) (t : ℕ) (ks : List ℕ) (m m₁ m₂ : MachineState) (out out₂ : List Record) → m₁ ≡ begun m → InitializesTo (prepared (moment p m₁ t) ks (so_far m₁ out)) m₁ m₂ out₂
-    → InitializesTo (behind out (after p m t ks)) (begun m) m₂ out₂
+pub prepared_came : (p : Linked) (t : ℕ) (ks : List ℕ) (m m₁ m₂ : MachineState) (out out₂ : List Record) → m₁ ≡ begun m → StandsAt (prepared (moment p m₁ t) ks (so_far m₁ out)) m₁ m₂ out₂
+    → StandsAt (behind out (after p m t ks)) (begun m) m₂ out₂
 prepared_came p t ks m m₁ m₂ out out₂ e h =
     let q = moment p m t in
     let d = begins q in
     let n = begun m in
-    let a : InitializesTo (prepared (moment p n t) ks (so_far n out)) n m₂ out₂ = subst (λ (x : MachineState). InitializesTo (prepared (moment p x t) ks (so_far x out)) x m₂ out₂) e h in
-    let b : InitializesTo (prepared q ks (behind out d)) n m₂ out₂ = subst (λ (r : List Record). InitializesTo (prepared q ks (record { state = d.state; records = r })) n m₂ out₂) (sym (append-nil out)) a in
-    subst (λ (x : Doing). InitializesTo x n m₂ out₂) (behind_prepared out q ks d) b
+    let a : StandsAt (prepared (moment p n t) ks (so_far n out)) n m₂ out₂ = subst (λ (x : MachineState). StandsAt (prepared (moment p x t) ks (so_far x out)) x m₂ out₂) e h in
+    let b : StandsAt (prepared q ks (behind out d)) n m₂ out₂ = subst (λ (r : List Record). StandsAt (prepared q ks (record { state = d.state; records = r })) n m₂ out₂) (sym (append-nil out)) a in
+    subst (λ (x : Doing). StandsAt x n m₂ out₂) (behind_prepared out q ks d) b
 
 pub prepared_fits : (p : Linked) (t : ℕ) (ks : List ℕ) (m m₁ : MachineState) (out : List Record) → m₁ ≡ begun m → fits_heap (after p m t ks).state.heap ≡ true → fits_heap (prepared (moment p m₁ t) ks (so_far m₁ out)).state.heap ≡ true
 prepared_fits p t ks m m₁ out e fit =
@@ -307,15 +308,15 @@ base_room p t ks m m₂ slots e room = ap (λ (z : MachineState). has_room z.hea
 -- A CLASS BEGINS
 
 began_after : (p : Linked) (t c : ℕ) (ks : List ℕ) (m m₂ m₃ m₄ : MachineState) (out out₂ out₄ : List Record) → m₂ ≡ base p m t ks → out₂ ≡ out ++ (after p m t ks).records → m₃ ≡ marked m₂ c (Begun t)
-    → InitializesTo (constants_set (moment p m₃ t) c (so_far m₃ out₂)) m₃ m₄ out₄ → InitializesTo (behind out (constants_set (moment p m t) c (with_state c (Begun t) (after p m t ks)))) (begun m) m₄ out₄
+    → StandsAt (constants_set (moment p m₃ t) c (so_far m₃ out₂)) m₃ m₄ out₄ → StandsAt (behind out (constants_set (moment p m t) c (with_state c (Begun t) (after p m t ks)))) (begun m) m₄ out₄
 began_after p t c ks m m₂ m₃ m₄ out out₂ out₄ e₂ r₂ e₃ h =
     let q = moment p m t in
     let y = with_state c (Begun t) (after p m t ks) in
     let n = marked (base p m t ks) c (Begun t) in
     let is : m₃ ≡ n = e₃ ∙ ap (λ (z : MachineState). marked z c (Begun t)) e₂ in
-    let a : InitializesTo (constants_set (moment p n t) c (so_far n out₂)) n m₄ out₄ = subst (λ (z : MachineState). InitializesTo (constants_set (moment p z t) c (so_far z out₂)) z m₄ out₄) is h in
-    let b : InitializesTo (constants_set q c (behind out y)) n m₄ out₄ = subst (λ (r : List Record). InitializesTo (constants_set q c (record { state = y.state; records = r })) n m₄ out₄) r₂ a in
-    subst (λ (x : Doing). InitializesTo x n m₄ out₄) (behind_constants out q c y) b
+    let a : StandsAt (constants_set (moment p n t) c (so_far n out₂)) n m₄ out₄ = subst (λ (z : MachineState). StandsAt (constants_set (moment p z t) c (so_far z out₂)) z m₄ out₄) is h in
+    let b : StandsAt (constants_set q c (behind out y)) n m₄ out₄ = subst (λ (r : List Record). StandsAt (constants_set q c (record { state = y.state; records = r })) n m₄ out₄) r₂ a in
+    subst (λ (x : Doing). StandsAt x n m₄ out₄) (behind_constants out q c y) b
 
 pub began_fits : (p : Linked) (t c : ℕ) (ks : List ℕ) (m m₂ m₃ : MachineState) (out out₂ : List Record) → m₂ ≡ base p m t ks → out₂ ≡ out ++ (after p m t ks).records → m₃ ≡ marked m₂ c (Begun t)
     → fits_heap (constants_set (moment p m t) c (with_state c (Begun t) (after p m t ks))).state.heap ≡ true → fits_heap (constants_set (moment p m₃ t) c (so_far m₃ out₂)).state.heap ≡ true
@@ -329,14 +330,14 @@ began_fits p t c ks m m₂ m₃ out out₂ e₂ r₂ e₃ fit =
     ap (λ (z : MachineState). fits_heap (constants_set (moment p z t) c (so_far z out₂)).state.heap) is ∙ two
 
 pub began_threads : (p : Linked) (t c : ℕ) (ks : List ℕ) (m m₂ m₃ m₄ : MachineState) (out out₂ out₄ : List Record) → m₂ ≡ base p m t ks → out₂ ≡ out ++ (after p m t ks).records → m₃ ≡ marked m₂ c (Begun t)
-    → InitializesTo (constants_set (moment p m₃ t) c (so_far m₃ out₂)) m₃ m₄ out₄ → m₄.guest.threads ≡ m.guest.threads
+    → StandsAt (constants_set (moment p m₃ t) c (so_far m₃ out₂)) m₃ m₄ out₄ → m₄.guest.threads ≡ m.guest.threads
 began_threads p t c ks m m₂ m₃ m₄ out out₂ out₄ e₂ r₂ e₃ h =
     let y = with_state c (Begun t) (after p m t ks) in
     ap (λ (z : MachineState). z.guest.threads) (began_after p t c ks m m₂ m₃ m₄ out out₂ out₄ e₂ r₂ e₃ h).0 ∙ ((follows_each (moment p m t) (class_at p c).info.constants y).threads ∙ threads_after p t ks m)
 
 pub began_led : (p : Linked) (t c : ℕ) (ks : List ℕ) (m m₂ m₃ m₄ m₅ : MachineState) (out out₂ out₄ : List Record) (f : FrameState) → IsInOrder p → All (λ k. k < length p.classes) ks → c < length p.classes → IsSoundFor p (kept_of m) → t < length m.guest.threads
     → class_state_at (after p m t ks).state.guest c ≡ Untouched → m₂ ≡ base p m t ks → out₂ ≡ out ++ (after p m t ks).records → m₃ ≡ marked m₂ c (Begun t)
-    → InitializesTo (constants_set (moment p m₃ t) c (so_far m₃ out₂)) m₃ m₄ out₄ → f ≡ initializer_frame c → m₅ ≡ steps_thread m₄ t (entered_by f (thread_at m₄.guest t)) []
+    → StandsAt (constants_set (moment p m₃ t) c (so_far m₃ out₂)) m₃ m₄ out₄ → f ≡ initializer_frame c → m₅ ≡ steps_thread m₄ t (entered_by f (thread_at m₄.guest t)) []
     → Led (kept_of m) (begun_by (moment p m t) c (after p m t ks)).state m₅ × (out₄ ≡ out ++ (begun_by (moment p m t) c (after p m t ks)).records)
 began_led p t c ks m m₂ m₃ m₄ m₅ out out₂ out₄ f has all lt sound thread un e₂ r₂ e₃ h new e₅ =
     let q = moment p m t in

@@ -15,10 +15,9 @@ use Rattle.et_state.specs.State.{Kept, MachineState}
 use Rattle.et_state.specs.Words.{static_at, steps_guest, with_static, with_string}
 use Rattle.et_state.specs.declared.records.Record.{Record}
 use Rattle.et_state.specs.declared.records.Record.TheVariants.{Update}
-use Rattle.et_initialize.specs.Under.{so_far, with_kept, InitializesTo}
 use Rattle.et_event.specs.Errors.{class_called}
 use Rattle.et_event.specs.Moments.{Moment, Doing, doing_with_guest, instance_made, next_object, number_of_value, static_written}
-use Rattle.et_event.specs.Telling.{TellsUpdate}
+use Rattle.et_event.specs.Telling.{so_far, with_kept, StandsAt, TellsUpdate}
 use Rattle.et_pool.specs.Entries.{Item, Constants}
 use Rattle.et_pool.specs.Looks.{string_at}
 use Rattle.et_program.specs.Entries.{Linked, field_at}
@@ -123,7 +122,7 @@ no_pool : (e : Moment) (f : ℕ) (d : Doing) (info : FieldInfo) → info ≡ fie
 no_pool e f d info is none =
     ap (λ (pool : List (Option Item)). constant_set e (field_at e.program f) (constant_at pool (field_at e.program f).constant) d) (empty_pool e.program f info is none)
 
-pub no_pool_field : (e : Moment) (f : ℕ) (m : MachineState) (out : List Record) (info : FieldInfo) → info ≡ field_at e.program f → slice_get e.program.pools info.class ≡ None → InitializesTo (field_set e (so_far m out) f) m m out
+pub no_pool_field : (e : Moment) (f : ℕ) (m : MachineState) (out : List Record) (info : FieldInfo) → info ≡ field_at e.program f → slice_get e.program.pools info.class ≡ None → StandsAt (field_set e (so_far m out) f) m m out
 no_pool_field e f m out info is none =
     let same = no_pool e f (so_far m out) info is none in
     (sym (ap (λ (x : Doing). with_kept m x.state) same), sym (ap (λ (x : Doing). x.records) same))
@@ -132,8 +131,8 @@ no_pool_field e f m out info is none =
 pub still_unset : (e : Moment) (bytes : List ℕ) (i : ℕ) (d : Doing) → static_at d.state.guest i ≡ Unset → static_at (interned e bytes d).state.guest i ≡ Unset
 still_unset e bytes i d unset = by_interned (λ (x : Doing). static_at x.state.guest i ≡ Unset) e bytes d (λ none. unset) (λ o some. unset)
 
-pub string_written : (e : Moment) (i o k event : ℕ) (old : Value) (d : Doing) (m m₁ m₂ : MachineState) (out₁ out₂ : List Record) → InitializesTo d m m₁ out₁ → static_at d.state.guest i ≡ Unset → o ≡ k → old ≡ static_at m₁.guest i
-    → m₂ ≡ steps_guest m₁ (with_static m₁.guest i (Ref o)) (refs_of_value (static_at m₁.guest i)) → event ≡ m₂.guest.clock → TellsUpdate event e.thread 0 i old (Ref o) out₁ out₂ → InitializesTo (static_written e i (Ref k) d) m m₂ out₂
+pub string_written : (e : Moment) (i o k event : ℕ) (old : Value) (d : Doing) (m m₁ m₂ : MachineState) (out₁ out₂ : List Record) → StandsAt d m m₁ out₁ → static_at d.state.guest i ≡ Unset → o ≡ k → old ≡ static_at m₁.guest i
+    → m₂ ≡ steps_guest m₁ (with_static m₁.guest i (Ref o)) (refs_of_value (static_at m₁.guest i)) → event ≡ m₂.guest.clock → TellsUpdate event e.thread 0 i old (Ref o) out₁ out₂ → StandsAt (static_written e i (Ref k) d) m m₂ out₂
 string_written e i o k event old d m m₁ m₂ out₁ out₂ at unset same stood is time told =
     let slot = λ (n : ℕ) (z : MachineState). steps_guest z (with_static z.guest i (Ref n)) (refs_of_value (static_at z.guest i)) in
     let s : Kept = record { heap = d.state.heap; guest = with_static d.state.guest i (Ref k) } in

@@ -2,30 +2,18 @@
 use Rattle.std.specs.Prelude.{◌≡◌, ℕ, ◌<◌, ◌≤◌, ◌⊎◌, List, Contains, length, slice_index_or}
 use Rattle.et_base.specs.declared.value.Value.TheVariants.{Unset}
 use Rattle.et_state.specs.declared.class_state.ClassState.TheVariants.{Untouched}
-use Rattle.et_state.specs.State.{Kept, MachineState, kept_of}
+use Rattle.et_state.specs.State.{Kept, MachineState}
 use Rattle.et_state.specs.Words.{begun, class_state_at, static_at}
 use Rattle.et_state.specs.Interned.{interned_objects}
 use Rattle.et_state.specs.Roots.{roots_of}
 use Rattle.et_state.specs.Moves.{IsUnderWay}
 use Rattle.et_program.specs.Entries.{Linked, field_at}
-use Rattle.et_state.specs.declared.records.Record.{Record}
 use Rattle.et_event.specs.Moments.{Doing}
-
--- what the machine keeps, and these records
-abbrev pub so_far : MachineState → List Record → Doing
-so_far m out = record { state = kept_of m; records = out }
-
--- a machine that keeps something else, and has lost nothing more
-abbrev pub with_kept : MachineState → Kept → MachineState
-with_kept m k = record { heap = k.heap; guest = k.guest; lost = m.lost }
+use Rattle.et_event.specs.Telling.{with_kept}
 
 -- a machine whose event has come to what was done, and lost nothing
 abbrev pub base : MachineState → Doing → MachineState
 base m d = with_kept (begun m) d.state
-
--- machine and records are those of what was done
-abbrev pub InitializesTo : Doing → MachineState → MachineState → List Record → Type 0
-InitializesTo d m m' out = (m' ≡ with_kept m d.state) × (out ≡ d.records)
 
 -- The class of a static slot.
 abbrev pub class_of_slot : Linked → ℕ → ℕ

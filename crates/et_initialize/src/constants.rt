@@ -10,7 +10,7 @@ ghost use Rattle.et_event.specs.Moments.{moment, fits_heap};
 ghost use Rattle.et_event.specs.Sites.{AString, constant_at};
 ghost use Rattle.et_event.specs.Strings.{interned, string_object};
 ghost use Rattle.et_event.specs.Initialization.{constant_set, field_set};
-ghost use Rattle.et_initialize.specs.Under.{so_far, InitializesTo};
+ghost use Rattle.et_event.specs.Telling.{so_far, StandsAt};
 
 use et_base::{ClassId, FieldId, NoMemory, ObjectId, ThreadId, Value, to_byte, to_char, to_short};
 use et_event::{add_instance, class_called, tell_update};
@@ -46,7 +46,7 @@ fn make_string(
         (so_far machine.old out.old)).state.heap ≡ true }
     ensures object { IfOk result (λ o. o ≡ string_object bytes.now
         (interned (moment program.now machine.old thread) bytes.now (so_far machine.old out.old))) }
-    ensures made { OnOk result (InitializesTo (interned (moment program.now machine.old thread)
+    ensures made { OnOk result (StandsAt (interned (moment program.now machine.old thread)
         bytes.now
         (so_far machine.old out.old)) machine.old machine.new out.new) }
 {
@@ -71,7 +71,7 @@ fn string_of(
         (so_far machine.old out.old)).state.heap ≡ true }
     ensures object { IfOk result (λ o. o ≡ string_object bytes.now
         (interned (moment program.now machine.old thread) bytes.now (so_far machine.old out.old))) }
-    ensures made { OnOk result (InitializesTo (interned (moment program.now machine.old thread)
+    ensures made { OnOk result (StandsAt (interned (moment program.now machine.old thread)
         bytes.now
         (so_far machine.old out.old)) machine.old machine.new out.new) }
 {
@@ -109,7 +109,7 @@ fn set_string(
         Contains (interned_objects machine.old.guest.interned) o → o < length machine.old.heap }
     requires fits { fits_heap (interned (moment program.now machine.old thread) bytes.now
         (so_far machine.old out.old)).state.heap ≡ true }
-    ensures { OnOk result (InitializesTo (constant_set (moment program.now machine.old thread)
+    ensures { OnOk result (StandsAt (constant_set (moment program.now machine.old thread)
         field.now
         (Some (AString bytes.now)) (so_far machine.old out.old)) machine.old machine.new out.new) }
 {
@@ -136,7 +136,7 @@ fn set_constant(
     requires fits { fits_heap (constant_set (moment program.now machine.old thread) field.now
         (constant_at pool.now.slots field.now.constant) (so_far machine.old out.old)).state.heap
         ≡ true }
-    ensures { OnOk result (InitializesTo (constant_set (moment program.now machine.old thread)
+    ensures { OnOk result (StandsAt (constant_set (moment program.now machine.old thread)
         field.now
         (constant_at pool.now.slots field.now.constant)
         (so_far machine.old out.old)) machine.old machine.new out.new) }
@@ -172,7 +172,7 @@ pub(crate) fn set_field(
         Contains (interned_objects machine.old.guest.interned) o → o < length machine.old.heap }
     requires fits { fits_heap (field_set (moment program.now machine.old thread)
         (so_far machine.old out.old) field).state.heap ≡ true }
-    ensures { OnOk result (InitializesTo (field_set (moment program.now machine.old thread)
+    ensures { OnOk result (StandsAt (field_set (moment program.now machine.old thread)
         (so_far machine.old out.old) field) machine.old machine.new out.new) }
 {
     let info = program.field(field);

@@ -8,7 +8,8 @@ ghost use Rattle.et_event.specs.Moments.{moment, fits_heap};
 ghost use Rattle.et_event.specs.Initialization.{constants_set, class_done, quietly_done, state_of};
 ghost use Rattle.et_event.specs.InitializationOrder.{IsInOrder};
 ghost use Rattle.et_initialize.specs.Asked.{MaySet};
-ghost use Rattle.et_initialize.specs.Under.{so_far, InitializesTo, IsInitializing, class_of_slot};
+ghost use Rattle.et_event.specs.Telling.{so_far, StandsAt};
+ghost use Rattle.et_initialize.specs.Under.{IsInitializing, class_of_slot};
 
 use crate::constants::set_field;
 use et_base::{ClassId, NoMemory, ThreadId};
@@ -29,7 +30,7 @@ pub(crate) fn set_constants(
         class_of_slot program.now i ≡ class → static_at machine.old.guest i ≡ Unset }
     requires fits { fits_heap (constants_set (moment program.now machine.old thread) class
         (so_far machine.old out.old)).state.heap ≡ true }
-    ensures { OnOk result (InitializesTo (constants_set (moment program.now machine.old thread)
+    ensures { OnOk result (StandsAt (constants_set (moment program.now machine.old thread)
         class
         (so_far machine.old out.old)) machine.old machine.new out.new) }
 {
@@ -53,7 +54,7 @@ fn set_done(
     requires fits { fits_heap (class_done (moment program.now machine.old thread) class
         (state_of
         (so_far machine.old out.old) class) (so_far machine.old out.old)).state.heap ≡ true }
-    ensures { OnOk result (InitializesTo (class_done
+    ensures { OnOk result (StandsAt (class_done
         (moment program.now machine.old thread) class (state_of (so_far machine.old out.old) class)
         (so_far machine.old out.old)) machine.old machine.new out.new) }
 {
@@ -82,7 +83,7 @@ pub fn set_quietly(
     requires lost { length machine.old.lost < lost_room }
     requires fits { fits_heap (quietly_done (moment program.now machine.old thread) class
         (so_far machine.old out.old)).state.heap ≡ true }
-    ensures { OnOk result (InitializesTo (quietly_done (moment program.now machine.old thread) class
+    ensures { OnOk result (StandsAt (quietly_done (moment program.now machine.old thread) class
         (so_far machine.old out.old)) machine.old machine.new out.new) }
 {
     let order = program.init_order(class);

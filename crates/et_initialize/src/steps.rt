@@ -16,7 +16,7 @@ ghost use Rattle.et_event.specs.Sound.{IsSoundFor};
 ghost use Rattle.et_event.specs.Initialization.{is_ready as ready, prepared, quietly_if_untouched, state_of, with_state, constants_set, begins_class, enters_clinit, initialized, initialization_step};
 ghost use Rattle.et_event.specs.InitializationOrder.{IsInOrder};
 ghost use Rattle.et_initialize.specs.Asked.{MayGoOn, MayPrepare, MaySet, after};
-ghost use Rattle.et_initialize.specs.Under.{so_far, InitializesTo};
+ghost use Rattle.et_event.specs.Telling.{so_far, StandsAt};
 
 use crate::begins::{MOST_FRAMES, initializer};
 use crate::limits::{prepared_class_fits, prepared_fit};
@@ -42,7 +42,7 @@ fn prepare_class(
         class
         (state_of (so_far machine.old out.old) class) (so_far machine.old out.old)).state.heap
         ≡ true }
-    ensures { OnOk result (InitializesTo (quietly_if_untouched
+    ensures { OnOk result (StandsAt (quietly_if_untouched
         (moment program.now machine.old thread) class (state_of (so_far machine.old out.old) class)
         (so_far machine.old out.old)) machine.old machine.new out.new) }
 {
@@ -64,7 +64,7 @@ pub(crate) fn prepare(
     requires classes { All (λ c. c < length program.now.classes) classes.now }
     requires fits { fits_heap (prepared (moment program.now machine.old thread) classes.now
         (so_far machine.old out.old)).state.heap ≡ true }
-    ensures { OnOk result (InitializesTo (prepared (moment program.now machine.old thread)
+    ensures { OnOk result (StandsAt (prepared (moment program.now machine.old thread)
         classes.now
         (so_far machine.old out.old)) machine.old machine.new out.new) }
 {
@@ -132,7 +132,7 @@ pub fn begin_prepared(
     requires prepares { MayPrepare program.now machine.old classes.now }
     requires fits { fits_heap (after program.now machine.old thread classes.now).state.heap
         ≡ true }
-    ensures { OnOk result (InitializesTo (record {
+    ensures { OnOk result (StandsAt (record {
       state = (after program.now machine.old thread classes.now).state;
       records = out.old ++ (after program.now machine.old thread classes.now).records;
     })

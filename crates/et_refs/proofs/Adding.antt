@@ -32,7 +32,7 @@ use Rattle.et_event.proofs.Taking.{replaced, length_dropped}
 use Rattle.et_event.proofs.Throwing.{ends_fit, ends_full}
 use Rattle.et_refs.proofs.Leading.{moves_held}
 use Rattle.et_refs.specs.Events.{new_arrays_outcome}
-use Rattle.et_refs.specs.Filling.{doing_of}
+use Rattle.et_event.specs.Telling.{so_far}
 use Rattle.et_refs.specs.Legal.{IsTied, HasMadeArrays}
 use Rattle.et_refs.proofs.Behind.{behind, arrays_begun}
 use Rattle.et_refs.proofs.Legal.{arrays_legal}
@@ -118,12 +118,12 @@ has_made p m t c (n ∷ ns) sound some =
     arrays_legal (moment p m t) c (natural_of n) (naturals ns) d (kept_of m) [] (on_begin_event m sound) (omega arith)
 
 pub came_by : (p : Linked) (m m₁ m₂ : MachineState) (t c : ℕ) (ns : List ℤ) (out out₂ : List Record) → IsSound (kept_of m) → 0 < length ns → m₁ ≡ begun m
-    → ((b : Kept) → doing_of m₂ out₂ ≡ arrays_made (record { program = p; before = b; thread = t }) c (naturals ns) (doing_of m₁ out)) → m₂.lost ≡ m₁.lost → Came p m m₂ t c ns out out₂
+    → ((b : Kept) → so_far m₂ out₂ ≡ arrays_made (record { program = p; before = b; thread = t }) c (naturals ns) (so_far m₁ out)) → m₂.lost ≡ m₁.lost → Came p m m₂ t c ns out out₂
 came_by p m m₁ m₂ t c ns out out₂ sound some e₁ made lost =
     let e : Moment = moment p m t in
     let x : Doing = arrays_doing p m t c ns in
-    let total : doing_of m₂ out₂ ≡ behind out x =
-    made (kept_of m) ∙ (ap (λ (z : MachineState). arrays_made e c (naturals ns) (doing_of z out)) e₁ ∙ arrays_begun e c (naturals ns) out) in
+    let total : so_far m₂ out₂ ≡ behind out x =
+    made (kept_of m) ∙ (ap (λ (z : MachineState). arrays_made e c (naturals ns) (so_far z out)) e₁ ∙ arrays_begun e c (naturals ns) out) in
     let none : m₂.lost ≡ [] = lost ∙ ap (λ (z : MachineState). z.lost) e₁ in
     let is : m₂ ≡ with_arrays x =
     ap (λ (d : Doing). let z : MachineState = record { heap = d.state.heap; guest = d.state.guest; lost = m₂.lost } in z) total
@@ -182,17 +182,17 @@ arrays_full p t c next ns below m out fit =
 
 -- HOW MANY ARRAYS THE EVENT MAKES: where they fit, as many as are made from the machine at which it began
 pub arrays_many : (p : Linked) (t c next : ℕ) (ns : List ℤ) (below : List Value) (m m₁ : MachineState) (out : List Record) → m₁ ≡ begun m → fits_heap (arrays_made (moment p m t) c (naturals ns) (begins (moment p m t))).state.heap ≡ true
-    → length (arrays_made (moment p m t) c (naturals ns) (doing_of m₁ out)).state.heap ≡ length (state_after (kept_of m) (new_arrays_outcome (moment p m t) next ns below c)).heap
+    → length (arrays_made (moment p m t) c (naturals ns) (so_far m₁ out)).state.heap ≡ length (state_after (kept_of m) (new_arrays_outcome (moment p m t) next ns below c)).heap
 arrays_many p t c next ns below m m₁ out e₁ fit =
     let e : Moment = moment p m t in
     let d : Doing = with_frame e (record (top m.guest t) { pc = next; operands = Ref (next_object (begins e)) ∷ below }) (arrays_doing p m t c ns) in
-    ap (λ (z : MachineState). length (arrays_made e c (naturals ns) (doing_of z out)).state.heap) e₁
+    ap (λ (z : MachineState). length (arrays_made e c (naturals ns) (so_far z out)).state.heap) e₁
     ∙ (ap (λ (x : Doing). length x.state.heap) (arrays_begun e c (naturals ns) out)
     ∙ ap (λ (o : Outcome Kept). length (state_after (kept_of m) o).heap) (sym (ends_fit d fit)))
 
 -- .. so whatever making them answered, it visited no more
 pub arrays_visited : (p : Linked) (t c next : ℕ) (ns : List ℤ) (below : List Value) (m m₁ m₂ : MachineState) (out : List Record) (old new : ℕ) → m₁ ≡ begun m → fits_heap (arrays_made (moment p m t) c (naturals ns) (begins (moment p m t))).state.heap ≡ true
-    → new + length m₁.heap ≤ old + length m₂.heap → length m₂.heap ≤ length (arrays_made (moment p m t) c (naturals ns) (doing_of m₁ out)).state.heap
+    → new + length m₁.heap ≤ old + length m₂.heap → length m₂.heap ≤ length (arrays_made (moment p m t) c (naturals ns) (so_far m₁ out)).state.heap
     → new ≤ old + (length (state_after (kept_of m) (new_arrays_outcome (moment p m t) next ns below c)).heap - length m.heap)
 arrays_visited p t c next ns below m m₁ m₂ out old new e₁ fit visits most =
     let same : length m₁.heap ≡ length m.heap = ap (λ (z : MachineState). length z.heap) e₁ in

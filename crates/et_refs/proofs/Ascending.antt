@@ -6,7 +6,8 @@ use Rattle.et_state.specs.State.{MachineState}
 use Rattle.et_state.specs.declared.records.Record.{Record}
 use Rattle.et_event.specs.Moments.{Moment, Doing, slot_written}
 use Rattle.et_refs.specs.declared.filling.Filling.{Filling}
-use Rattle.et_refs.specs.Filling.{doing_of, FillsTo, IsFilling, AreFillings, next_filling, with_filled}
+use Rattle.et_event.specs.Telling.{so_far, StandsAt}
+use Rattle.et_refs.specs.Filling.{IsFilling, AreFillings, next_filling, with_filled}
 use Rattle.et_refs.proofs.Finishing.{popped}
 use Rattle.et_refs.proofs.Stacking.{parent_filling, pop_filling, kept_written}
 use Rattle.et_refs.proofs.Descending.{came}
@@ -24,14 +25,14 @@ slot_there heap dimensions ys xs f g e h =
     let lt = p.1 in
     omega (arith, room, lt)
 
-pub ascended : (e : Moment) (ms : List ℕ) (ys xs : List Filling) (f g : Filling) (m m' : MachineState) (out out' : List Record) → g.next ≡ g.count → ys ≡ xs ++ f ∷ [] → FillsTo (slot_written e f.array f.next (Ref g.array) (doing_of m out)) m m' out'
-    → with_filled e (xs ++ next_filling f ∷ []) ms (doing_of m' out') ≡ with_filled e (ys ++ g ∷ []) ms (doing_of m out)
+pub ascended : (e : Moment) (ms : List ℕ) (ys xs : List Filling) (f g : Filling) (m m' : MachineState) (out out' : List Record) → g.next ≡ g.count → ys ≡ xs ++ f ∷ [] → StandsAt (slot_written e f.array f.next (Ref g.array) (so_far m out)) m m' out'
+    → with_filled e (xs ++ next_filling f ∷ []) ms (so_far m' out') ≡ with_filled e (ys ++ g ∷ []) ms (so_far m out)
 ascended e ms ys xs f g m m' out out' is was wrote =
-    ap (λ (y : Doing). with_filled e (xs ++ next_filling f ∷ []) ms y) (came (slot_written e f.array f.next (Ref g.array) (doing_of m out)) m m' out' wrote)
-    ∙ (popped e xs f g ms (doing_of m out) is ∙ ap (λ (zs : List Filling). with_filled e zs ms (doing_of m out)) (sym (listed ys xs f g was)))
+    ap (λ (y : Doing). with_filled e (xs ++ next_filling f ∷ []) ms y) (came (slot_written e f.array f.next (Ref g.array) (so_far m out)) m m' out' wrote)
+    ∙ (popped e xs f g ms (so_far m out) is ∙ ap (λ (zs : List Filling). with_filled e zs ms (so_far m out)) (sym (listed ys xs f g was)))
 
 pub ascended_fillings : (e : Moment) (dimensions : ℕ) (ys xs : List Filling) (f g : Filling) (m m' : MachineState) (out out' : List Record) → ys ≡ xs ++ f ∷ [] → AreFillings m.heap dimensions 0 (ys ++ g ∷ [])
-    → FillsTo (slot_written e f.array f.next (Ref g.array) (doing_of m out)) m m' out' → AreFillings m'.heap dimensions 0 (xs ++ next_filling f ∷ [])
+    → StandsAt (slot_written e f.array f.next (Ref g.array) (so_far m out)) m m' out' → AreFillings m'.heap dimensions 0 (xs ++ next_filling f ∷ [])
 ascended_fillings e dimensions ys xs f g m m' out out' was h wrote =
     let heap : Objects = with_object_at m.heap f.array (with_slot f.next (Ref g.array) (object_at m.heap f.array)) in
     let inside : AreFillings m.heap dimensions 0 (xs ++ f ∷ g ∷ []) = subst (λ (zs : List Filling). AreFillings m.heap dimensions 0 zs) (listed ys xs f g was) h in

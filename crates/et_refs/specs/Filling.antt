@@ -1,22 +1,12 @@
 -- Arrays of some dimensions under way: the first array, an element of it, an element of that and so on, each of which has its
 -- first elements already, and the last one no element that isn't whole.
-use Rattle.std.specs.Prelude.{◌≡◌, ℕ, zero, suc, ◌+◌, ◌-◌, ◌<◌, ◌≤◌, List, [], ◌∷◌, length}
+use Rattle.std.specs.Prelude.{ℕ, zero, suc, ◌+◌, ◌-◌, ◌<◌, ◌≤◌, List, [], ◌∷◌, length}
 use Rattle.et_base.specs.declared.value.Value.TheVariants.{Ref}
 use Rattle.et_heap.specs.Objects.{Objects, IsHeld, object_at}
-use Rattle.et_state.specs.State.{MachineState, kept_of}
-use Rattle.et_state.specs.declared.records.Record.{Record}
 use Rattle.et_program.specs.Entries.{class_at}
 use Rattle.et_event.specs.Heap.{arrays_made, element_class}
 use Rattle.et_event.specs.Moments.{Moment, Doing, next_object, slot_written}
 use Rattle.et_refs.specs.declared.filling.Filling.{Filling}
-
--- what the machine keeps, and these records
-abbrev pub doing_of : MachineState → List Record → Doing
-doing_of m out = record { state = kept_of m; records = out }
-
--- machine and records are those of what was done, and nothing more is lost
-abbrev pub FillsTo : Doing → MachineState → MachineState → List Record → Type 0
-FillsTo d m m' out = (m' ≡ record { heap = d.state.heap; guest = d.state.guest; lost = m.lost }) × (out ≡ d.records)
 
 -- so many elements of an array from i on are made, each with what is in it
 abbrev pub filled_from : Moment → ℕ → (Doing → Doing) → ℕ → ℕ → Doing → Doing

@@ -1,8 +1,7 @@
 //! What an event does once the class that it needs is initialized.
-ghost use Rattle.std.specs.Prelude.{◌≡◌, ◌+◌, ◌*◌, ◌<◌, ◌≤◌, ◌++◌, ◌∷◌, [], true, length, IfOk, OnOk};
+ghost use Rattle.std.specs.Prelude.{◌≡◌, ◌+◌, ◌*◌, ◌<◌, ◌≤◌, ◌++◌, ◌∷◌, [], length, OnOk};
 ghost use Rattle.et_state.specs.Threads.{lost_room};
-ghost use Rattle.et_heap.specs.Objects.{has_room, new_object};
-ghost use Rattle.et_state.specs.Words.{HasFrame, top, static_at, with_new_object};
+ghost use Rattle.et_state.specs.Words.{HasFrame, top, static_at};
 ghost use Rattle.et_program.specs.Entries.{class_at};
 ghost use Rattle.et_state.specs.declared.records.Record.TheVariants.{Alloc};
 ghost use Rattle.et_event.specs.Telling.{TellsUpdate};

@@ -1,18 +1,16 @@
 //! What an event does once no check refused.
-ghost use Rattle.std.specs.Prelude.{◌≡◌, ◌+◌, ◌*◌, ◌<◌, ◌≤◌, ◌^◌, ◌++◌, ◌∷◌, [], List, length, drop, take as first, IfOk, OnOk, OnErr};
+ghost use Rattle.std.specs.Prelude.{◌≡◌, ◌+◌, ◌<◌, ◌≤◌, ◌^◌, ◌++◌, [], length, drop, take as first, IfOk, OnErr};
 ghost use Rattle.et_base.specs.declared.value.Value.TheVariants.{Ref};
 ghost use Rattle.et_heap.specs.Refs.{refs_of};
 ghost use Rattle.et_state.specs.Threads.{lost_room};
-ghost use Rattle.et_heap.specs.Objects.{object_at, slot_of, with_slot, with_object_at};
-ghost use Rattle.et_state.specs.State.{Kept, kept_of};
+ghost use Rattle.et_heap.specs.Objects.{object_at, with_slot, with_object_at};
+ghost use Rattle.et_state.specs.State.{kept_of};
 ghost use Rattle.et_state.specs.Words.{HasFrame, top, with_top, ticked, steps_top};
 ghost use Rattle.et_state.specs.Sound.{IsSound};
 ghost use Rattle.et_state.specs.Moves.{Led};
-ghost use Rattle.et_program.specs.Entries.{class_at, Linked};
 ghost use Rattle.et_event.specs.Answered.{EventAnswers};
 ghost use Rattle.et_event.specs.Checks.{entries_of};
-ghost use Rattle.et_event.specs.Moments.{Moment, moment, begins, array_made, array_size as bytes_of, element_width as width_of_element, number_of_value as number_in, updated};
-ghost use Rattle.et_event.specs.Making.{MakesObject};
+ghost use Rattle.et_event.specs.Moments.{moment};
 ghost use Rattle.et_event.specs.Places.{site_at};
 ghost use Rattle.et_refs.specs.Changes.{change_outcome, store_outcome, new_array_outcome, MayExchange, MayStore, MayMake, MayChange};
 

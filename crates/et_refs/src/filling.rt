@@ -7,7 +7,8 @@ ghost use Rattle.et_event.specs.Heap.{arrays_made, element_class, naturals};
 ghost use Rattle.et_event.specs.Moments.{moment, array_made, slot_written, fits_heap};
 ghost use Rattle.et_state.specs.State.{Kept};
 ghost use Rattle.et_event.specs.Sites.{natural_of};
-ghost use Rattle.et_refs.specs.Filling.{doing_of, FillsTo, element_count, first_filling, next_filling, with_filled, inner_dimensions, AreFillings};
+ghost use Rattle.et_event.specs.Telling.{so_far, StandsAt};
+ghost use Rattle.et_refs.specs.Filling.{element_count, first_filling, next_filling, with_filled, inner_dimensions, AreFillings};
 
 use crate::kinds::natural;
 use et_base::{ClassId, NoMemory, ObjectId, Steps, ThreadId, Value};
@@ -82,9 +83,9 @@ pub fn open_array(
         f ≡ first_filling (record { program = program.now; before = b; thread = thread })
         (length machine.old.heap) class (natural_of (slice_index_or lengths.now level (pos 0)))
         (drop (level + 1) (naturals lengths.now))) }
-    ensures made { OnOk result (FillsTo (array_made (moment program.now machine.old thread) class
+    ensures made { OnOk result (StandsAt (array_made (moment program.now machine.old thread) class
         (natural_of (slice_index_or lengths.now level (pos 0)))
-        (doing_of machine.old out.old)) machine.old machine.new out.new) }
+        (so_far machine.old out.old)) machine.old machine.new out.new) }
     ensures grown { length machine.old.heap ≤ length machine.new.heap }
     ensures one { length machine.new.heap ≤ length machine.old.heap + 1 }
 {
@@ -114,14 +115,14 @@ fn descend(
     requires fits { (b : Kept) → fits_heap (with_filled
         (record { program = program.now; before = b; thread = thread })
         (stack.old.items ++ top ∷ []) (inner_dimensions (naturals lengths.now))
-        (doing_of machine.old out.old)).state.heap ≡ true }
+        (so_far machine.old out.old)).state.heap ≡ true }
     ensures same { IfOk result (λ last. (b : Kept) → with_filled
         (record { program = program.now; before = b; thread = thread })
         (stack.new.items ++ last ∷ []) (inner_dimensions (naturals lengths.now))
-        (doing_of machine.new out.new) ≡ with_filled
+        (so_far machine.new out.new) ≡ with_filled
         (record { program = program.now; before = b; thread = thread })
         (stack.old.items ++ top ∷ []) (inner_dimensions (naturals lengths.now))
-        (doing_of machine.old out.old)) }
+        (so_far machine.old out.old)) }
     ensures fillings { IfOk result (λ last.
         AreFillings machine.new.heap (length lengths.now) 0 (stack.new.items ++ last ∷ [])) }
     ensures lost { OnOk result (machine.new.lost ≡ machine.old.lost) }
@@ -132,7 +133,7 @@ fn descend(
     ensures most { (b : Kept) → length machine.new.heap ≤ length (with_filled
         (record { program = program.now; before = b; thread = thread })
         (stack.old.items ++ top ∷ []) (inner_dimensions (naturals lengths.now))
-        (doing_of machine.old out.old)).state.heap }
+        (so_far machine.old out.old)).state.heap }
 {
     let level = stack.len() + 1;
     let last = open_array(program, machine, thread, lengths, level, top.inner, out)?;
@@ -153,9 +154,9 @@ fn ascend<L: Ledger>(
     requires slot { around.next < length (object_at machine.old.heap around.array).slots }
     requires next { around.next < around.count }
     ensures last { IfOk result (λ last. last ≡ next_filling around) }
-    ensures written { OnOk result ((p : Linked) (b : Kept) → FillsTo
+    ensures written { OnOk result ((p : Linked) (b : Kept) → StandsAt
         (slot_written (record { program = p; before = b; thread = thread }) around.array around.next
-        (Ref array) (doing_of machine.old out.old)) machine.old machine.new out.new) }
+        (Ref array) (so_far machine.old out.old)) machine.old machine.new out.new) }
     ensures same { length machine.new.heap ≡ length machine.old.heap }
     ensures visits { visits.new ≡ visits.old + 1 }
 {
@@ -194,16 +195,16 @@ pub fn make_arrays<L: Ledger>(
     requires heap { 0 < length machine.old.heap }
     requires fits { (b : Kept) → fits_heap (arrays_made
         (record { program = program.now; before = b; thread = thread }) arrays.now.class
-        (naturals arrays.now.lengths.now) (doing_of machine.old out.old)).state.heap ≡ true }
+        (naturals arrays.now.lengths.now) (so_far machine.old out.old)).state.heap ≡ true }
     ensures first { IfOk result (λ o. o ≡ length machine.old.heap) }
-    ensures made { OnOk result ((b : Kept) → doing_of machine.new out.new ≡ arrays_made
+    ensures made { OnOk result ((b : Kept) → so_far machine.new out.new ≡ arrays_made
         (record { program = program.now; before = b; thread = thread }) arrays.now.class
-        (naturals arrays.now.lengths.now) (doing_of machine.old out.old)) }
+        (naturals arrays.now.lengths.now) (so_far machine.old out.old)) }
     ensures lost { OnOk result (machine.new.lost ≡ machine.old.lost) }
     ensures visits { visits.new + length machine.old.heap ≤ visits.old + length machine.new.heap }
     ensures most { (b : Kept) → length machine.new.heap ≤ length (arrays_made
         (record { program = program.now; before = b; thread = thread }) arrays.now.class
-        (naturals arrays.now.lengths.now) (doing_of machine.old out.old)).state.heap }
+        (naturals arrays.now.lengths.now) (so_far machine.old out.old)).state.heap }
 {
     let lengths = arrays.lengths;
     let first = open_array(program, machine, thread, lengths, 0, arrays.class, out)?;

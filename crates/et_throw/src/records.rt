@@ -1,5 +1,5 @@
 //! The records of unwinding.
-ghost use Rattle.std.specs.Prelude.{◌≡◌, ◌+◌, ◌*◌, ◌<◌, ◌^◌, ◌∷◌, ◌++◌, [], OnOk, length, unwrap_or};
+ghost use Rattle.std.specs.Prelude.{◌≡◌, ◌+◌, ◌*◌, ◌<◌, ◌^◌, ◌∷◌, ◌++◌, [], OnOk, unwrap_or};
 ghost use Rattle.et_state.specs.Words.{HasFrame, top};
 ghost use Rattle.et_state.specs.declared.records.Record.TheVariants.{Alloc, Update, Unwind};
 ghost use Rattle.et_throw.specs.Unwinding.{unwind_records};

@@ -7,7 +7,7 @@ use Rattle.et_program.specs.Entries.{class_at}
 use Rattle.et_event.specs.Errors.{class_called}
 use Rattle.et_event.specs.Moments.{Doing, Moment, moment, fits_heap}
 use Rattle.et_event.proofs.Making.{fits_made}
-use Rattle.et_initialize.specs.Under.{so_far}
+use Rattle.et_event.specs.Telling.{so_far}
 use Rattle.et_initialize.proofs.Strings.{makes, no_text, made_string}
 use Rattle.et_initialize.proofs.constants.make_string.Goals as goal
 

@@ -2,8 +2,7 @@ use Rattle.std.proofs.lemmas.Result.{on_ok_weaker}
 use Rattle.et_base.specs.declared.value.Value.TheVariants.{Ref}
 use Rattle.et_event.specs.Moments.{Doing, Moment, moment}
 use Rattle.et_event.specs.Strings.{interned, string_object}
-use Rattle.et_event.specs.Telling.{TellsUpdate}
-use Rattle.et_initialize.specs.Under.{so_far}
+use Rattle.et_event.specs.Telling.{so_far, TellsUpdate}
 use Rattle.et_initialize.proofs.Strings.{still_unset, string_written}
 use Rattle.et_initialize.proofs.constants.set_string.Goals as goal
 

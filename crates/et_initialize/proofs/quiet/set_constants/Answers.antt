@@ -5,7 +5,7 @@ use Rattle.et_state.specs.State.{MachineState}
 use Rattle.et_program.specs.Entries.{ClassInfoOf, class_at}
 use Rattle.et_event.specs.Moments.{moment, fits_heap}
 use Rattle.et_event.specs.Initialization.{field_set}
-use Rattle.et_initialize.specs.Under.{so_far}
+use Rattle.et_event.specs.Telling.{so_far}
 use Rattle.et_initialize.proofs.Running.{field_can, field_has_room, field_came}
 use Rattle.et_initialize.proofs.quiet.set_constants.Goals as goal
 

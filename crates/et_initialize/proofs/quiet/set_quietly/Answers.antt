@@ -3,7 +3,7 @@ use Rattle.std.specs.Prelude.{fold}
 use Rattle.et_state.specs.Threads.{lost_room}
 use Rattle.et_state.specs.State.{MachineState}
 use Rattle.et_event.specs.Moments.{moment, fits_heap}
-use Rattle.et_initialize.specs.Under.{so_far}
+use Rattle.et_event.specs.Telling.{so_far}
 use Rattle.et_initialize.proofs.Setting.{done_step}
 use Rattle.et_initialize.proofs.Running.{class_ready, class_has_room, class_came}
 use Rattle.et_initialize.proofs.quiet.set_quietly.Goals as goal

@@ -4,7 +4,8 @@ use Rattle.et_state.specs.State.{MachineState, kept_of}
 use Rattle.et_event.specs.Heap.{naturals}
 use Rattle.et_event.specs.Moments.{Moment, Doing, moment}
 use Rattle.et_refs.specs.declared.filling.Filling.{Filling}
-use Rattle.et_refs.specs.Filling.{doing_of, with_filled, inner_dimensions, AreFillings}
+use Rattle.et_event.specs.Telling.{so_far}
+use Rattle.et_refs.specs.Filling.{with_filled, inner_dimensions, AreFillings}
 use Rattle.et_refs.proofs.Ascending.{parent_there, slot_there, ascended, ascended_fillings}
 use Rattle.et_refs.proofs.Stacking.{last_filling}
 use Rattle.et_refs.proofs.Finishing.{still_made}
@@ -31,7 +32,7 @@ elements-init g c =
     record {
       same = λ b.
           let e : Moment = record { program = p; before = b; thread = t } in
-          ap (λ (xs : List Filling). with_filled e (xs ++ c.in_ok-first.first ∷ []) (inner_dimensions (naturals lengths)) (doing_of m₁ out₁)) empty
+          ap (λ (xs : List Filling). with_filled e (xs ++ c.in_ok-first.first ∷ []) (inner_dimensions (naturals lengths)) (so_far m₁ out₁)) empty
           ∙ started e class lengths m m₁ c.args.out.now out₁ c.in_ok-first.first c.requires.some (c.in_ok-first.ensures.filling b) c.in_ok-first.ensures.made;
       fillings = subst (λ (xs : List Filling). AreFillings m₁.heap (length lengths) 0 (xs ++ c.in_ok-first.first ∷ [])) (sym empty)
           (start_filling (moment p m t) class lengths m m₁ c.args.out.now out₁ c.in_ok-first.first (c.in_ok-first.ensures.filling (kept_of m)) c.in_ok-first.ensures.made);
@@ -74,7 +75,7 @@ elements-preserved g c =
     record {
       same = λ b.
           let e : Moment = record { program = p; before = b; thread = t } in
-          ap (λ (f : Filling). with_filled e (xs ++ f ∷ []) (inner_dimensions (naturals lengths)) (doing_of m' c.ascend.new.out)) now
+          ap (λ (f : Filling). with_filled e (xs ++ f ∷ []) (inner_dimensions (naturals lengths)) (so_far m' c.ascend.new.out)) now
           ∙ (ascended e (inner_dimensions (naturals lengths)) ys xs around last m m' c.elements.out c.ascend.new.out whole was (written b) ∙ c.elements.invariant.same b);
       fillings = subst (λ (f : Filling). AreFillings m'.heap (length lengths) 0 (xs ++ f ∷ [])) (sym now)
           (ascended_fillings (moment p c.args.machine.now t) (length lengths) ys xs around last m m' c.elements.out c.ascend.new.out was c.elements.invariant.fillings (written (kept_of c.args.machine.now)));
@@ -101,12 +102,12 @@ returns-in_err-last-clause-most g c b =
 pub returns-in_err-last-2-clause-most : goal.returns-in_err-last-2-clause-most
 returns-in_err-last-2-clause-most g c b =
     let as_many = c.in_err-last-2.ensures.same in
-    let still = still_made (record { program = c.args.program.now; before = b; thread = c.args.thread }) (c.elements.stack.items ++ c.elements.last ∷ []) (inner_dimensions (naturals c.args.arrays.now.lengths.now)) (doing_of c.elements.machine c.elements.out) in
+    let still = still_made (record { program = c.args.program.now; before = b; thread = c.args.thread }) (c.elements.stack.items ++ c.elements.last ∷ []) (inner_dimensions (naturals c.args.arrays.now.lengths.now)) (so_far c.elements.machine c.elements.out) in
     let same = ap (λ (d : Doing). length d.state.heap) (c.elements.invariant.same b) in
     omega (arith, as_many, still, same)
 
 pub returns-in_default-clause-most : goal.returns-in_default-clause-most
 returns-in_default-clause-most g c b =
-    let still = still_made (record { program = c.args.program.now; before = b; thread = c.args.thread }) (c.elements.stack.items ++ c.elements.last ∷ []) (inner_dimensions (naturals c.args.arrays.now.lengths.now)) (doing_of c.elements.machine c.elements.out) in
+    let still = still_made (record { program = c.args.program.now; before = b; thread = c.args.thread }) (c.elements.stack.items ++ c.elements.last ∷ []) (inner_dimensions (naturals c.args.arrays.now.lengths.now)) (so_far c.elements.machine c.elements.out) in
     let same = ap (λ (d : Doing). length d.state.heap) (c.elements.invariant.same b) in
     omega (arith, still, same)
