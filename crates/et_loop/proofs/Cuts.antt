@@ -12,7 +12,6 @@ use Rattle.et_loop.proofs.Headers.{lines_whole}
 use Rattle.et_loop.proofs.RunLemmas.{Running, more_twice}
 
 module _ {S : Type 0} (reached : Graph → ℕ → Bool) (given : Setting S) (flush_visits : (ℕ → Bool) → S → ℕ) (start : S) (made : List Record) (before : Log) (old new : ℕ) where
-
   module _ (e : ℕ) (s : S) (last : ℕ → ℕ) (m : Mentions) (now : Log) (runs : Running reached given start made e s last m before now) (few : new ≤ old + visits_to reached given flush_visits start made e) where
     -- what was taken so far
     taken_is : now ≡ with_more before (trace_bytes given.format (lines_to reached given start made e))
