@@ -1,5 +1,5 @@
 //! With what bytes a binary trace begins, and whether the fields of a record are in their ranges.
-ghost use Rattle.std.specs.Prelude.{◌≡◌, ◌<◌, ◌≤◌, ◌↔◌, IsTrue, false, length};
+ghost use Rattle.std.specs.Prelude.{◌≡◌, ◌<◌, ◌↔◌, IsTrue, false, length};
 ghost use Rattle.et_base.specs.declared.line.TraceLine.TheVariants.{Alloc, Update, Enter, Exit, Unwind, Flush, Death, Finish};
 ghost use Rattle.et_text.specs.Kinds.{is_of_thread};
 ghost use Rattle.et_text.specs.Ranges.{IsEventNumber, IsThreadNumber, IsNumber, IsObject, IsInRange};

@@ -1,5 +1,5 @@
 //! Reading a whole binary trace, whose lines are handed on as they come.
-ghost use Rattle.std.specs.Prelude.{◌≡◌, List, [], IfOk, IfErr, IfSome, IfNone};
+ghost use Rattle.std.specs.Prelude.{List, [], IfOk, IfErr, IfSome, IfNone};
 ghost use Rattle.et_base.specs.declared.line.TraceLine.{TraceLine};
 ghost use Rattle.et_text.specs.Followed.{IsFollowed};
 ghost use Rattle.et_binary.specs.FollowedPacks.{FollowsFront, LeavesFront, RefusesFrontNext, IsPackFollowed, IsFaultOfPack};

@@ -1,5 +1,4 @@
 //! The commands `asm`, `curve`, `snapshot` and `replay`, and the options of `trace`.
-ghost use Rattle.std.specs.Prelude.{◌≤◌};
 
 use crate::first_path::{BOX, TRACE};
 use crate::rows::{Refused, Written, are_done, are_refused, failed_at, files_with};

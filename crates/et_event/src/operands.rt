@@ -1,5 +1,5 @@
 //! The operands of the topmost frame, taken and put.
-ghost use Rattle.std.specs.Prelude.{◌≡◌, ℕ, ◌+◌, ◌-◌, ◌<◌, ◌≤◌, ◌^◌, ◌++◌, [], length, drop, take as first};
+ghost use Rattle.std.specs.Prelude.{◌≡◌, ◌+◌, ◌-◌, ◌<◌, ◌≤◌, ◌^◌, ◌++◌, [], length, drop, take as first};
 ghost use Rattle.et_heap.specs.Refs.{refs_of};
 ghost use Rattle.et_state.specs.Threads.{popped, lost_room};
 ghost use Rattle.et_state.specs.State.{kept_of};

@@ -1,9 +1,9 @@
 //! The superclasses and superinterfaces of each class.
 
-ghost use Rattle.std.specs.Prelude.{◌≡◌, ℕ, ◌<◌, ◌^◌, ◌==◌, false, List, [], ◌∷◌, ◌++◌, length, drop, All, OnOk, IfOk, IfSome, Option};
+ghost use Rattle.std.specs.Prelude.{◌≡◌, ℕ, ◌<◌, ◌^◌, ◌==◌, false, [], ◌∷◌, ◌++◌, length, drop, All, OnOk, IfOk, IfSome, Option};
 ghost use Rattle.std.specs.Bool.{OnTrue};
-ghost use Rattle.std.specs.List.{slice_index_or, list_any, flat_map};
-ghost use Rattle.et_hierarchy.specs.Links.{LinkEntry, parents_of, parents, no_links, IsAcyclic, HasLinksWithin};
+ghost use Rattle.std.specs.List.{list_any, flat_map};
+ghost use Rattle.et_hierarchy.specs.Links.{IsAcyclic, HasLinksWithin};
 ghost use Rattle.et_hierarchy.specs.Ancestry.{ancestry_at, added_all, once, supers_over, superinterfaces_over, field_order_over, ancestry_of, IsAncestry, IsBelow, LooksUpward};
 
 use crate::distinct::DistinctClasses;

@@ -1,5 +1,5 @@
 //! The constant of a static field (JVMS 4.7.2).
-ghost use Rattle.std.specs.Prelude.{◌≡◌, ℕ, ◌+◌, ◌*◌, ◌<◌, ◌^◌, ◌++◌, ◌∷◌, [], true, None, Contains, IfOk, OnOk, length};
+ghost use Rattle.std.specs.Prelude.{◌≡◌, ℕ, ◌<◌, ◌^◌, true, None, Contains, IfOk, OnOk, length};
 ghost use Rattle.et_base.specs.declared.value.Value.TheVariants.{Unset, Int, Long, Ref};
 ghost use Rattle.et_state.specs.Threads.{lost_room};
 ghost use Rattle.et_state.specs.Words.{static_at, with_static};

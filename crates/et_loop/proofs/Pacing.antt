@@ -3,7 +3,6 @@ use Rattle.std.proofs.Common.{◌≡◌, ℕ, zero, suc, ◌+◌, ◌-◌, ◌*�
 use Rattle.std.proofs.lemmas.Bool.{cases_eq}
 use Rattle.std.proofs.lemmas.Grind.{common_steps}
 use Rattle.std.proofs.lemmas.Nat.{div-add-mod', mod-mul-add, div-mul-add}
-use Rattle.std.proofs.Math.Nat.{mul-le-mul_left}
 use Rattle.et_state.specs.Options.{pick_of}
 use Rattle.et_state.specs.declared.options.Schedule.{Schedule}
 use Rattle.et_state.specs.declared.options.Schedule.TheVariants.{Quantum}

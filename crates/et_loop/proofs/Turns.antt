@@ -2,7 +2,7 @@
 use Rattle.std.proofs.Common.{◌≡◌, ℕ, suc, ◌<◌, ◌≤◌, ◌==◌, ◌⊎◌, Bool, true, false, if◌then◌else◌, List, [], ◌∷◌, Contains, refl, sym, ◌∙◌, subst, inl, inr, arith}
 use Rattle.std.specs.List.{list_any}
 use Rattle.std.proofs.lemmas.Bool.{cases_lt}
-use Rattle.et_graph.specs.Graph.{Graph, nothing_made, IsMade, IsReached, IsDead, IsSoundGraph}
+use Rattle.et_graph.specs.Graph.{Graph, nothing_made, IsReached, IsDead, IsSoundGraph}
 use Rattle.et_graph.specs.Steps.{Step, IsLegalStep, IsTie}
 use Rattle.et_graph.specs.History.{Turn, graph_after, IsHistory, WasReached, stamp}
 use Rattle.et_graph.specs.History.Turn.{Took, Tied, Flushed}

@@ -3,7 +3,7 @@ ghost use Rattle.std.specs.Prelude.{◌≡◌, ℕ, Bool, ◌+◌, ◌<◌, ◌�
 ghost use Rattle.et_graph.specs.Graph.{Graph, IsReached};
 ghost use Rattle.et_graph.specs.Listing.{death_pairs};
 ghost use Rattle.et_state.specs.Outcome.{Outcome};
-ghost use Rattle.et_state.specs.Naming.{Names, IsNamed};
+ghost use Rattle.et_state.specs.Naming.{IsNamed};
 ghost use Rattle.et_state.specs.Answers.{TicksWhereDone};
 ghost use Rattle.et_graph.specs.Listed.{AreListed};
 ghost use Rattle.et_graph.specs.Cleared.{IsClearedAndTied};

@@ -1,5 +1,5 @@
 //! Records become lines, and classes and methods get their numbers.
-ghost use Rattle.std.specs.Prelude.{◌≡◌, ◌<◌, ◌++◌, ◌∷◌, [], length, All, IfOk, OnOk};
+ghost use Rattle.std.specs.Prelude.{◌≡◌, ◌<◌, ◌++◌, length, All, IfOk, OnOk};
 ghost use Rattle.et_base.specs.declared.line.TraceLine.TheVariants.{Class, Method};
 ghost use Rattle.et_state.specs.Naming.{IsNamed, methods_named_by, nothing_mentioned, with_new, with_mentions, mentions_after, number_in, class_line, record_lines, lines_of};
 ghost use Rattle.et_binary.specs.Formats.{written_in, lines_written_in};

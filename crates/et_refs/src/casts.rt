@@ -1,5 +1,5 @@
 //! Type tests (JVMS 6.5, checkcast, instanceof).
-ghost use Rattle.std.specs.Prelude.{◌≡◌, ℕ, ◌+◌, ◌<◌, ◌≤◌, ◌^◌, List, ◌∷◌, length, Some, IfOk};
+ghost use Rattle.std.specs.Prelude.{◌≡◌, ℕ, ◌+◌, ◌<◌, ◌≤◌, ◌^◌, List, length, Some, IfOk};
 ghost use Rattle.et_base.specs.declared.value.Value.{Value as Entry};
 ghost use Rattle.et_base.specs.declared.value.Value.TheVariants.{Ref};
 ghost use Rattle.et_heap.specs.Objects.{IsHeld, object_at};
@@ -11,9 +11,9 @@ ghost use Rattle.et_state.specs.Outcome.{Outcome};
 ghost use Rattle.et_program.specs.Entries.{Linked};
 ghost use Rattle.et_program.specs.Referring.{pool_of_class};
 ghost use Rattle.et_program.specs.Types.{passes as passing};
-ghost use Rattle.et_event.specs.Checks.{Reference, entries_of};
-ghost use Rattle.et_event.specs.Heap.{leaving_values, with_class, check_cast as check_casting, cast as casting, instance_of as instance_testing, type_tested as testing, truth as truth_of};
-ghost use Rattle.et_event.specs.Moments.{Moment, moment, begins, goes};
+ghost use Rattle.et_event.specs.Checks.{entries_of};
+ghost use Rattle.et_event.specs.Heap.{with_class, check_cast as check_casting, cast as casting, instance_of as instance_testing, type_tested as testing, truth as truth_of};
+ghost use Rattle.et_event.specs.Moments.{Moment, moment};
 ghost use Rattle.et_event.specs.Sites.{Site, class_operand as operand_class, natural_of};
 ghost use Rattle.et_event.specs.Sound.{IsSoundFor};
 ghost use Rattle.et_event.specs.Places.{site_at};

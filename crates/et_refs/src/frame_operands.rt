@@ -1,5 +1,5 @@
 //! The operands that a row takes of the frame that runs.
-ghost use Rattle.std.specs.Prelude.{◌≡◌, ℕ, ℤ, ◌+◌, ◌<◌, ◌≤◌, ◌^◌, List, length, drop, nat_le, true, Some, Contains, IfOk, OnOk};
+ghost use Rattle.std.specs.Prelude.{◌≡◌, ℕ, ℤ, ◌+◌, ◌<◌, ◌≤◌, List, length, drop, nat_le, true, Some, Contains, IfOk, OnOk};
 ghost use Rattle.et_base.specs.declared.value.Value.{Value as Entry};
 ghost use Rattle.et_pool.specs.Descriptors.{is_field_descriptor, width_of as descriptor_width};
 ghost use Rattle.et_event.specs.Kinds.{kind_of_field, kind_of_elements as elements_kind};

@@ -1,7 +1,7 @@
 //! The operands that a row takes.
-ghost use Rattle.std.specs.Prelude.{◌≡◌, ℕ, ℤ, ◌+◌, ◌<◌, ◌≤◌, ◌^◌, List, length, drop, true, Some, IfOk};
+ghost use Rattle.std.specs.Prelude.{◌≡◌, ℤ, ◌+◌, ◌<◌, ◌≤◌, List, length, drop, true, Some, IfOk};
 ghost use Rattle.et_pool.specs.Descriptors.{is_field_descriptor};
-ghost use Rattle.et_event.specs.Kinds.{kind_of_field, kind_of_elements as elements_kind};
+ghost use Rattle.et_event.specs.Kinds.{kind_of_field};
 ghost use Rattle.et_base.specs.declared.value.Value.{Value as Entry};
 ghost use Rattle.et_state.specs.State.{Kept, kept_of};
 ghost use Rattle.et_state.specs.Sound.{IsSound};

@@ -8,7 +8,7 @@ use Rattle.et_state.specs.declared.stage.Turn.TheVariants.{Instruction}
 use Rattle.et_state.specs.Moves.{IsEventOf}
 use Rattle.et_state.specs.Outcome.{Outcome, Goes, state_after, records_of, end_by}
 use Rattle.et_state.specs.Roots.{graph_of, fresh_of}
-use Rattle.et_state.specs.Spoken.{silent, spoken}
+use Rattle.et_state.specs.Spoken.{spoken}
 use Rattle.et_state.specs.State.{GuestState, Kept, MachineState, kept_of}
 use Rattle.et_state.specs.Texts.{Texts}
 use Rattle.et_state.specs.Threads.{FrameState, turn_of, with_top_of}

@@ -1,6 +1,6 @@
 //! Events of a thread that are instructions of its topmost frame, one after the other while its frames are lifted out of the
 //! machine.
-ghost use Rattle.std.specs.Prelude.{◌≡◌, ℕ, ◌+◌, ◌*◌, ◌<◌, ◌≤◌, ◌^◌, false, length, Ok, Some};
+ghost use Rattle.std.specs.Prelude.{◌≡◌, ◌+◌, ◌*◌, ◌<◌, ◌≤◌, ◌^◌, false, length, Ok, Some};
 ghost use Rattle.et_event.specs.declared.rows.Row.TheVariants as row_kinds;
 ghost use Rattle.et_event.specs.Programs.{AreElementsWithin};
 ghost use Rattle.et_event.specs.Runnable.{IsRunnable};

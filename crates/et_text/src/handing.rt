@@ -1,5 +1,5 @@
 //! Lines that are tried against the rules and handed on, and not kept.
-ghost use Rattle.std.specs.Prelude.{◌≡◌, ℕ, ◌+◌, List, [], ◌∷◌, length, true, IfOk, IfErr, OnOk};
+ghost use Rattle.std.specs.Prelude.{◌≡◌, ℕ, ◌+◌, List, [], length, true, IfOk, IfErr, OnOk};
 ghost use Rattle.et_base.specs.declared.line.TraceLine.{TraceLine};
 ghost use Rattle.et_text.specs.Followed.{IsFollowed, IsLineFollowed, RefusesNext, LacksFinish};
 ghost use Rattle.et_text.specs.Ranges.{IsInRange};

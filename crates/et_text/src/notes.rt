@@ -1,5 +1,5 @@
 //! What the next line changes.
-ghost use Rattle.std.specs.Prelude.{◌≡◌, ◌-◌, ◌≤◌, length, slice_set, true, false, Some, OnOk, IfOk};
+ghost use Rattle.std.specs.Prelude.{◌≡◌, ◌-◌, slice_set, true, false, Some, OnOk, IfOk};
 ghost use Rattle.et_text.specs.Rules.{is_final};
 ghost use Rattle.et_text.specs.StandsFor.{last_due, NotesObject, NotesDeath, NotesClass, NotesMethod};
 

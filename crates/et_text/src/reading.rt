@@ -1,5 +1,5 @@
 //! Reading a line, from left to right.
-ghost use Rattle.std.specs.Prelude.{◌≡◌, ℕ, ◌-◌, ◌<◌, ◌≤◌, ◌^◌, List, length, IfOk, IsErrOf};
+ghost use Rattle.std.specs.Prelude.{◌≡◌, ◌-◌, ◌<◌, ◌≤◌, length, IfOk, IsErrOf};
 ghost use Rattle.et_base.specs.declared.line.TraceLine.{TraceLine};
 ghost use Rattle.et_text.specs.Ranges.{IsInRange};
 ghost use Rattle.et_text.specs.Spelling.{line_body};

@@ -9,7 +9,7 @@ use Rattle.std.proofs.lemmas.Option.{same_Some, none-some}
 use Rattle.et_base.specs.declared.value.Value.{Value}
 use Rattle.et_base.specs.declared.value.Value.TheVariants.{Unset, Int, Long, LongHigh, Null, Ref}
 use Rattle.et_base.proofs.Lists.{Contains-here, Contains-there}
-use Rattle.et_program.specs.Entries.{class_at, field_at}
+use Rattle.et_program.specs.Entries.{class_at}
 use Rattle.et_program.specs.declared.info.FieldInfo.{FieldInfo}
 use Rattle.et_heap.specs.declared.monitor.Monitor.{Monitor}
 use Rattle.et_heap.specs.Objects.{ObjectState, Objects, IsHeld, free_monitor, new_object, object_at, slot_of, with_slot, with_referent, with_object_at, with_queue}
@@ -22,11 +22,11 @@ use Rattle.et_state.specs.Words.{thread_at, with_thread, with_top, with_new_thre
 use Rattle.et_state.proofs.Places.{string_root}
 use Rattle.et_event.specs.BuiltIns.{with_referent_of, with_thread_for, with_queue_of, with_first_taken}
 use Rattle.et_event.specs.Errors.{class_called}
-use Rattle.et_event.specs.Initialization.{constant_set, field_set, constants_set}
+use Rattle.et_event.specs.Initialization.{constant_set}
 use Rattle.et_event.specs.Kinds.{narrowed}
 use Rattle.et_event.specs.Moments.{Moment, Doing, begins, thread_of, doing_with_guest, with_thread_state, next_object, instance_made, array_made, updated, slot_written, static_written, pending_now, entry_given_up}
 use Rattle.et_event.specs.Monitors.{Lock, OfObject, OfClass}
-use Rattle.et_event.specs.Sites.{LoadedConstant, AnInt, ALong, AString, constant_at, pool_of_class}
+use Rattle.et_event.specs.Sites.{LoadedConstant, AnInt, ALong, AString}
 use Rattle.et_event.specs.Strings.{interned, string_object}
 use Rattle.et_history.specs.soundness.WellFormed.{IsThere}
 use Rattle.et_history.proofs.soundness.Outcomes.{if_case}

@@ -4,7 +4,7 @@ use Rattle.et_event.specs.Places.{site_at}
 use Rattle.et_event.specs.declared.errors.GuestError.{GuestError}
 use Rattle.et_program.specs.BuiltIns.{is_deferred}
 use Rattle.et_program.specs.Members.{kept}
-use Rattle.et_event.specs.Calls.{arguments_of, is_static_call}
+use Rattle.et_event.specs.Calls.{arguments_of}
 use Rattle.et_event.specs.Selected.{selected_from, selected_method}
 use Rattle.et_builtins.specs.Plans.{resolving}
 use Rattle.et_builtins.proofs.Planning.{checks, fitted, fitted_method, found_by, invoke_is, selected_is}

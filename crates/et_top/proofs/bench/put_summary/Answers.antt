@@ -1,10 +1,9 @@
 use Rattle.std.proofs.Common.{Err, ◌∙◌, ap, subst}
 use Rattle.et_io.specs.Faults.{Rose, is_write_fault}
-use Rattle.et_files.specs.Refusals.{status_of}
-use Rattle.et_files.specs.Status.{is_read_status, is_write_status}
+use Rattle.et_files.specs.Status.{is_write_status}
 use Rattle.et_top.specs.Visits.{IsBeforeBench}
 use Rattle.et_top.proofs.BenchHistory.{summary_gives, cut_gives, end_of_bench, fault_of_bench}
-use Rattle.et_top.proofs.FaultLemmas.{rose_fault, fault_write_status, fault_no_read, end_no_write, end_no_read}
+use Rattle.et_top.proofs.FaultLemmas.{rose_fault, fault_write_status}
 use Rattle.et_files.proofs.FaultLemmas.{same_count, counted_as}
 use Rattle.et_top.proofs.bench.put_summary.Goals as goal
 

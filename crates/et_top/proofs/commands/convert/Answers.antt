@@ -1,10 +1,7 @@
-use Rattle.std.proofs.Common.{refl, ◌∙◌, ap, sym, subst}
+use Rattle.std.proofs.Common.{sym, subst}
 use Rattle.et_convert.specs.Spellings.{SpellsTrace}
-use Rattle.et_io.specs.Faults.{Rose, is_write_fault}
-use Rattle.et_files.specs.Status.{is_read_status, is_write_status}
-use Rattle.et_files.specs.Told.{cause_of, is_read_cause}
-use Rattle.et_top.proofs.FaultLemmas.{rose_writing, no_read_writing, write_status}
-use Rattle.et_files.proofs.FaultLemmas.{same_count, counted_as, read_status, no_write_status}
+use Rattle.et_io.specs.Faults.{Rose}
+use Rattle.et_top.proofs.FaultLemmas.{rose_writing}
 use Rattle.et_top.proofs.TopLemmas.{text_gives, refused_text}
 use Rattle.et_top.proofs.commands.convert.Goals as goal
 

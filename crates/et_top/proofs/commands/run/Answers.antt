@@ -4,9 +4,6 @@ use Rattle.et_files.specs.Loaded.{most_of_class}
 use Rattle.et_files.specs.Reads.{ReadsInOrder}
 use Rattle.et_files.specs.declared.status.Status.{Status}
 use Rattle.et_files.specs.declared.status.Status.TheVariants as status
-use Rattle.et_files.specs.Status.{is_read_status, is_write_status}
-use Rattle.et_files.specs.Told.{cause_of, is_read_cause}
-use Rattle.et_files.proofs.FaultLemmas.{same_count, counted_as, read_status, no_write_status}
 use Rattle.et_files.proofs.ReadLemmas.{reads_whole}
 use Rattle.et_top.specs.Top.{prints, GivesDefined}
 use Rattle.et_top.specs.Visits.{IsNoTrace}

@@ -1,13 +1,10 @@
-use Rattle.std.proofs.Common.{false, Err, ◌∙◌, ap, subst}
+use Rattle.std.proofs.Common.{false, Err, ◌∙◌, ap}
 use Rattle.et_io.specs.Faults.{Rose, is_write_fault}
 use Rattle.et_loop.specs.declared.options.Ran.{Ran}
-use Rattle.et_files.specs.Status.{is_read_status, is_write_status}
-use Rattle.et_files.specs.Refusals.{status_of}
-use Rattle.et_top.specs.Visits.{IsBeforeRun}
-use Rattle.et_top.proofs.FaultLemmas.{counted_beside, rose_fault, fault_write_status, fault_no_read, end_no_write, end_no_read}
+use Rattle.et_files.specs.Status.{is_write_status}
+use Rattle.et_top.proofs.FaultLemmas.{counted_beside, rose_fault, fault_write_status}
 use Rattle.et_files.proofs.FaultLemmas.{same_count, counted_as}
 use Rattle.et_top.proofs.PrintLemmas.{print_gives, print_front}
-use Rattle.et_top.proofs.VisitLemmas.{end_of_run, fault_of_run}
 use Rattle.et_top.proofs.prints.run.Goals as goal
 
 pub returns-in-Ok-clause-gives : goal.returns-in-Ok-clause-gives
