@@ -37,19 +37,30 @@ fn listed(alloc: Global, machine: &Machine) -> Result<Vec<ObjectId>, NoMemory> {
 fn the_first_state(rt: HostRuntime) -> Result<(), Fail> {
     let machine = first(rt.alloc())?;
     assert_eq!(rt; machine.clock(), 0);
+    assert!(rt; machine.heap.is_held(ObjectId::new(1)));
+    assert_eq!(rt;
+        listed(rt.alloc(), &machine)?.as_slice(),
+        [ObjectId::new(1)].as_slice()
+    );
+    Ok(())
+}
+
+/// The first thread begins with its method, whose argument is object 1.
+fn enters(rt: &impl Abort, machine: &Machine) {
     assert_eq!(rt; machine.started(), 1);
     assert_eq!(rt; machine.turn(ThreadId::new(0)), Turn::Entry);
     assert_eq!(rt;
         machine.entry_slot(ThreadId::new(0)),
         Some(ObjectId::new(1))
     );
+}
+
+#[test]
+fn the_first_thread(rt: HostRuntime) -> Result<(), Fail> {
+    let machine = first(rt.alloc())?;
+    enters(&rt, &machine);
     assert_eq!(rt; machine.unended(0), Some(ThreadId::new(0)));
     assert_eq!(rt; machine.unended(1), None);
-    assert!(rt; machine.heap.is_held(ObjectId::new(1)));
-    assert_eq!(rt;
-        listed(rt.alloc(), &machine)?.as_slice(),
-        [ObjectId::new(1)].as_slice()
-    );
     Ok(())
 }
 
