@@ -1,5 +1,4 @@
 //! The trace of one class of the first form, and each of its refusals.
-ghost use Rattle.std.specs.Prelude.{◌≤◌};
 
 use crate::rows::{Refused, are_refused, failed_at, files_with};
 use et_files::Status;
@@ -81,10 +80,8 @@ fn an_empty_stack_is_ill_typed(rt: HostRuntime) -> Result<(), Fail> {
 }
 
 /// Box with other bytes from a place on.
-fn changed(alloc: Global, place: usize, bytes: &[u8]) -> Result<Vec<u8>, Fail>
-    requires { place ≤ 125 }
-{
-    let mut class = Vec::from_slice(alloc, &BOX[..place])?;
+fn changed(alloc: Global, place: usize, bytes: &[u8]) -> Result<Vec<u8>, Fail> {
+    let mut class = Vec::from_slice(alloc, &BOX[..place.min(125)])?;
     class.extend_from_slice(bytes)?;
     let rest = place.saturating_add(bytes.len()).min(125);
     class.extend_from_slice(&BOX[rest..])?;
