@@ -1,7 +1,8 @@
 -- Where no mark is broken, each rule holds.
-use Rattle.std.proofs.Common.{◌≡◌, ℕ, ◌+◌, Bool, true, false, not, ◌||◌, List, [], ◌∷◌, ◌++◌, length, All, None, Result, Ok, Err, refl, sym, ap, subst, ◌∙◌, rules, inl, inr}
+use Rattle.std.proofs.Common.{◌≡◌, ℕ, ◌+◌, ◌^◌, ◌<◌, Bool, true, false, not, ◌||◌, List, [], ◌∷◌, ◌++◌, length, All, None, Result, Ok, Err, refl, sym, ap, subst, ◌∙◌, rules, inl, inr}
+use Rattle.std.specs.Prelude.{nat_le, nat_lt}
 use Rattle.std.specs.List.{flat_map}
-use Rattle.std.proofs.lemmas.Bool.{cases_eq, ne_eqb}
+use Rattle.std.proofs.lemmas.Bool.{cases_eq, ne_eqb, and_parts, ltb-true}
 use Rattle.et_base.specs.Marks.{Mark, Breaks, MarksAre, mark}
 use Rattle.et_code.specs.declared.instr.CodeFault.{CodeFault}
 use Rattle.et_code.specs.declared.instr.CodeFault.TheVariants as fault
@@ -10,7 +11,7 @@ use Rattle.et_code.specs.declared.body.TableRow.{TableRow}
 use Rattle.et_code.specs.Decoding.{instruction_at}
 use Rattle.et_code.specs.Bodies.{Body}
 use Rattle.et_code.specs.Starts.{starts, is_start}
-use Rattle.et_code.specs.Rules.{decoded_marks, marks_at, row_holds, rows_marks, code_marks}
+use Rattle.et_code.specs.Rules.{decoded_marks, marks_at, row_holds, rows_marks, code_marks, KeepsRules}
 use Rattle.et_code.specs.Kept.{HasInstruction, IsKeptCode}
 use Rattle.et_code.proofs.Starting.{has, starts_are_all}
 
@@ -80,3 +81,7 @@ kept_code b tags h =
       instructions = λ pc s. instruction b tags pc (instruction_at b.code pc) refl (at_member (marks_at b tags (is_start b.code)) (starts b.code) pc (search (rules, (starts_are_all b.code pc).1 s)) (front instructions rows all.1));
       rows = rows_hold (length b.code) tags (is_start b.code) (length b.code + 6) b.table (back instructions rows all.1);
     }
+
+-- code that keeps the rules has fewer than 65,536 bytes
+pub few_bytes : (b : Body) → KeepsRules b → length b.code < 2 ^ 16
+few_bytes b k = ltb-true (length b.code) (2 ^ 16) (and_parts (nat_le 1 (length b.code)) (nat_lt (length b.code) (2 ^ 16)) (kept_code b k.tags k.kept).sized).1

@@ -1,5 +1,5 @@
 -- The instruction at a place of the code, and the place behind it, or why there is none (JVMS 6.5).
-use Rattle.std.specs.Prelude.{◌≡◌, ℕ, ◌+◌, ◌-◌, ◌*◌, ◌%◌, ◌^◌, ◌<◌, ◌≤◌, ℤ, pos, List, length, drop, Bool, true, false, Result, Ok, Err, nat_lt, nat_le, int_lt, if◌then◌else◌}
+use Rattle.std.specs.Prelude.{◌≡◌, ℕ, ◌+◌, ◌-◌, ◌*◌, ◌%◌, ◌^◌, ◌<◌, ◌≤◌, ℤ, pos, List, length, drop, Bool, true, false, Result, Ok, Err, nat_lt, nat_le, int_lt, if◌then◌else◌, ◌⊎◌}
 use Rattle.std.specs.Option.{ok_or}
 use Rattle.std.specs.Int.{Width, w8, w16, w32, from_be_bytes, cast_signed, int_gap}
 use Rattle.et_base.specs.Steps.{◌>>=◌}
@@ -138,3 +138,7 @@ pub record Fits (code : List ℕ) (pc : ℕ) (i : Instr) (next : ℕ) : Type 0 w
   pub within : next ≤ length code
   pub table : i.opcode ≡ 0xaa → TableFits code i.table
   pub lookup : i.opcode ≡ 0xab → LookupFits code i.table
+
+-- the first operand of an instruction is below 2 ^ 16, but for an offset of 32 bits
+abbrev pub IsNarrow : Instr → Type 0
+IsNarrow i = (form_of i.opcode ≡ form.S4) ⊎ (int_lt i.first (pos (2 ^ 16)) ≡ true)

@@ -49,7 +49,7 @@ impl Model for Code {
 }
 
 impl Code {
-    ghost use Rattle.std.specs.Prelude.{◌≡◌};
+    ghost use Rattle.std.specs.Prelude.{◌≡◌, ◌<◌, ◌^◌, length};
     ghost use Rattle.et_code.specs.Bodies.{body_of};
     ghost use Rattle.et_code.specs.Rules.{KeepsRules};
 
@@ -62,10 +62,15 @@ impl Code {
     }
 
     /// The items of the code.
+    #[tactic(auto, using(crate::proofs::Keeping::few_bytes))]
     pub fn raw(&self) -> &RawCode
         ensures items { body_of result.now ≡ self.now }
         ensures kept { KeepsRules self.now }
+        ensures few { length self.now.code < 2 ^ 16 }
+        ensures locals { self.now.max_locals < 2 ^ 16 }
     {
+        // A number that is read is known to fit its type.
+        let _locals = self.raw.max_locals;
         &self.raw
     }
 }

@@ -4,7 +4,8 @@
 
 ghost use Rattle.std.specs.Prelude.{◌≡◌, ◌<◌, ◌≤◌, pos, length, int_lt, false, true, IfOk};
 ghost use Rattle.std.specs.Int.{cast_signed, w8, w16, w32};
-ghost use Rattle.et_code.specs.Decoding.{Fits, read, instr, rows_at, row_count, table_instruction, table_place, table_at, lookup_at, wide_at, behind_wide, interface_at, dimensions_at, operands_at, instruction_at};
+ghost use Rattle.et_code.specs.Decoding.{Fits, read, instr, rows_at, row_count, table_instruction, table_place, table_at, lookup_at, wide_at, behind_wide, interface_at, dimensions_at, operands_at, instruction_at, IsNarrow};
+ghost use Rattle.et_code.specs.Forms.{form_of};
 
 use crate::form::{Form, form_behind, form_behind_wide};
 use crate::instr::{CodeFault, Instr};
@@ -33,105 +34,16 @@ fn word(code: &[u8], at: usize) -> Result<(u32, usize), CodeFault>
     u32_at(code, at).ok_or(CodeFault::Short)
 }
 
-/// An instruction without operands.
+/// An instruction with these operands, or 0 in the place of one, and without rows.
 #[inline(always)]
-fn plain(opcode: u8) -> Instr
-    ensures { result ≡ instr opcode false (pos 0) (pos 0) 0 }
-{
-    Instr {
-        opcode,
-        wide: false,
-        first: 0,
-        second: 0,
-        table: 0,
-    }
-}
-
-/// An instruction with one unsigned operand.
-#[inline(always)]
-fn one(opcode: u8, wide: bool, n: u16) -> Instr
-    ensures { result ≡ instr opcode wide (pos n) (pos 0) 0 }
+fn with_operands(opcode: u8, wide: bool, first: i32, second: i32) -> Instr
+    ensures { result ≡ instr opcode wide first second 0 }
 {
     Instr {
         opcode,
         wide,
-        first: n as i32,
-        second: 0,
-        table: 0,
-    }
-}
-
-#[inline(always)]
-fn signed_byte(opcode: u8, n: u8) -> Instr
-    ensures { result ≡ instr opcode false (cast_signed w8 n) (pos 0) 0 }
-{
-    Instr {
-        opcode,
-        wide: false,
-        first: n.cast_signed() as i32,
-        second: 0,
-        table: 0,
-    }
-}
-
-#[inline(always)]
-fn signed_short(opcode: u8, n: u16) -> Instr
-    ensures { result ≡ instr opcode false (cast_signed w16 n) (pos 0) 0 }
-{
-    Instr {
-        opcode,
-        wide: false,
-        first: n.cast_signed() as i32,
-        second: 0,
-        table: 0,
-    }
-}
-
-fn signed_word(opcode: u8, n: u32) -> Instr
-    ensures { result ≡ instr opcode false (cast_signed w32 n) (pos 0) 0 }
-{
-    Instr {
-        opcode,
-        wide: false,
-        first: n.cast_signed(),
-        second: 0,
-        table: 0,
-    }
-}
-
-#[inline(always)]
-fn increment(opcode: u8, m: u8, n: u8) -> Instr
-    ensures { result ≡ instr opcode false (pos m) (cast_signed w8 n) 0 }
-{
-    Instr {
-        opcode,
-        wide: false,
-        first: m as i32,
-        second: n.cast_signed() as i32,
-        table: 0,
-    }
-}
-
-fn wide_increment(opcode: u8, m: u16, n: u16) -> Instr
-    ensures { result ≡ instr opcode true (pos m) (cast_signed w16 n) 0 }
-{
-    Instr {
-        opcode,
-        wide: true,
-        first: m as i32,
-        second: n.cast_signed() as i32,
-        table: 0,
-    }
-}
-
-fn two(opcode: u8, m: u16, n: u8) -> Instr
-    ensures { result ≡ instr opcode false (pos m) (pos n) 0 }
-{
-    Instr {
-        opcode,
-        wide: false,
-        first: m as i32,
-        second: n as i32,
+        first,
+        second,
         table: 0,
     }
 }
@@ -153,17 +65,15 @@ fn switch(
     requires pc { pc < length code.now }
     requires at { at ≤ length code.now }
     requires size { size ≤ 0x10_0000_0000 }
-    ensures { result ≡ rows_at code.now pc opcode at size }
+    ensures decoded { result ≡ rows_at code.now pc opcode at size }
+    ensures narrow { IfOk result (λ x. IsNarrow x.0) }
 {
     if code.len() < at + size {
         return Err(CodeFault::Short);
     }
     let instr = Instr {
-        opcode,
-        wide: false,
-        first: 0,
-        second: 0,
         table: place_of_table(pc),
+        ..with_operands(opcode, false, 0, 0)
     };
     Ok((instr, at + size))
 }
@@ -187,8 +97,9 @@ fn table_of(
 ) -> Result<(Instr, usize), CodeFault>
     requires pc { pc < length code.now }
     requires at { at ≤ length code.now }
-    ensures { result
+    ensures decoded { result
         ≡ table_instruction code.now pc opcode at (cast_signed w32 low) (cast_signed w32 high) }
+    ensures narrow { IfOk result (λ x. IsNarrow x.0) }
 {
     let low = low.cast_signed();
     let high = high.cast_signed();
@@ -202,7 +113,8 @@ fn table_of(
 #[tactic(auto, unfolding(crate::specs::Decoding::table_at))]
 fn table(code: &[u8], pc: usize, opcode: u8) -> Result<(Instr, usize), CodeFault>
     requires { pc < length code.now }
-    ensures { result ≡ table_at code.now pc opcode }
+    ensures decoded { result ≡ table_at code.now pc opcode }
+    ensures narrow { IfOk result (λ x. IsNarrow x.0) }
 {
     let (_otherwise, at) = word(code, place_of_table(pc))?;
     let (low, at) = word(code, at)?;
@@ -213,7 +125,8 @@ fn table(code: &[u8], pc: usize, opcode: u8) -> Result<(Instr, usize), CodeFault
 #[tactic(auto, unfolding(crate::specs::Decoding::lookup_at))]
 fn lookup(code: &[u8], pc: usize, opcode: u8) -> Result<(Instr, usize), CodeFault>
     requires { pc < length code.now }
-    ensures { result ≡ lookup_at code.now pc opcode }
+    ensures decoded { result ≡ lookup_at code.now pc opcode }
+    ensures narrow { IfOk result (λ x. IsNarrow x.0) }
 {
     let (_otherwise, at) = word(code, place_of_table(pc))?;
     let (count, at) = word(code, at)?;
@@ -225,18 +138,22 @@ fn lookup(code: &[u8], pc: usize, opcode: u8) -> Result<(Instr, usize), CodeFaul
 
 #[tactic(auto, unfolding(crate::specs::Decoding::behind_wide))]
 fn wide(code: &[u8], at: usize) -> Result<(Instr, usize), CodeFault>
-    ensures { result ≡ behind_wide code.now at }
+    ensures decoded { result ≡ behind_wide code.now at }
+    ensures narrow { IfOk result (λ x. IsNarrow x.0) }
 {
     let (opcode, at) = byte(code, at)?;
     match form_behind_wide(opcode) {
         Form::U2 => {
             let (n, at) = short(code, at)?;
-            Ok((one(opcode, true, n), at))
+            Ok((with_operands(opcode, true, n as i32, 0), at))
         }
         Form::LongIncrement => {
             let (m, at) = short(code, at)?;
             let (n, at) = short(code, at)?;
-            Ok((wide_increment(opcode, m, n), at))
+            Ok((
+                with_operands(opcode, true, m as i32, n.cast_signed() as i32),
+                at,
+            ))
         }
         Form::Refused => Err(CodeFault::Unsupported),
         _ => Err(CodeFault::Opcode),
@@ -245,21 +162,23 @@ fn wide(code: &[u8], at: usize) -> Result<(Instr, usize), CodeFault>
 
 /// The operands of `invokeinterface`: a constant and a count, before a byte that is passed over.
 fn interface(code: &[u8], opcode: u8, at: usize) -> Result<(Instr, usize), CodeFault>
-    ensures { result ≡ interface_at code.now opcode at }
+    ensures decoded { result ≡ interface_at code.now opcode at }
+    ensures narrow { IfOk result (λ x. IsNarrow x.0) }
 {
     let (m, at) = short(code, at)?;
     let (n, at) = byte(code, at)?;
     let (_passed, at) = byte(code, at)?;
-    Ok((two(opcode, m, n), at))
+    Ok((with_operands(opcode, false, m as i32, n as i32), at))
 }
 
 /// The operands of `multianewarray`: a constant and how many dimensions are made.
 fn dimensions(code: &[u8], opcode: u8, at: usize) -> Result<(Instr, usize), CodeFault>
-    ensures { result ≡ dimensions_at code.now opcode at }
+    ensures decoded { result ≡ dimensions_at code.now opcode at }
+    ensures narrow { IfOk result (λ x. IsNarrow x.0) }
 {
     let (m, at) = short(code, at)?;
     let (n, at) = byte(code, at)?;
-    Ok((two(opcode, m, n), at))
+    Ok((with_operands(opcode, false, m as i32, n as i32), at))
 }
 
 #[inline(always)]
@@ -270,35 +189,40 @@ fn operands(
     at: usize,
     form: Form,
 ) -> Result<(Instr, usize), CodeFault>
-    requires { pc < length code.now }
-    ensures { result ≡ operands_at code.now pc opcode at form }
+    requires pc { pc < length code.now }
+    requires form { form ≡ form_of opcode }
+    ensures decoded { result ≡ operands_at code.now pc opcode at form }
+    ensures narrow { IfOk result (λ x. IsNarrow x.0) }
 {
     match form {
-        Form::Plain => Ok((plain(opcode), at)),
+        Form::Plain => Ok((with_operands(opcode, false, 0, 0), at)),
         Form::S1 => {
             let (n, at) = byte(code, at)?;
-            Ok((signed_byte(opcode, n), at))
+            Ok((with_operands(opcode, false, n.cast_signed() as i32, 0), at))
         }
         Form::U1 => {
             let (n, at) = byte(code, at)?;
-            Ok((one(opcode, false, n as u16), at))
+            Ok((with_operands(opcode, false, n as i32, 0), at))
         }
         Form::S2 => {
             let (n, at) = short(code, at)?;
-            Ok((signed_short(opcode, n), at))
+            Ok((with_operands(opcode, false, n.cast_signed() as i32, 0), at))
         }
         Form::U2 => {
             let (n, at) = short(code, at)?;
-            Ok((one(opcode, false, n), at))
+            Ok((with_operands(opcode, false, n as i32, 0), at))
         }
         Form::S4 => {
             let (n, at) = word(code, at)?;
-            Ok((signed_word(opcode, n), at))
+            Ok((with_operands(opcode, false, n.cast_signed(), 0), at))
         }
         Form::Increment => {
             let (m, at) = byte(code, at)?;
             let (n, at) = byte(code, at)?;
-            Ok((increment(opcode, m, n), at))
+            Ok((
+                with_operands(opcode, false, m as i32, n.cast_signed() as i32),
+                at,
+            ))
         }
         Form::Interface => interface(code, opcode, at),
         Form::Dimensions => dimensions(code, opcode, at),
@@ -318,6 +242,7 @@ pub fn decode(code: &[u8], pc: usize) -> Result<(Instr, usize), CodeFault>
     requires { pc < length code.now }
     ensures decoded { result ≡ instruction_at code.now pc }
     ensures fits { IfOk result (λ x. Fits code.now pc x.0 x.1) }
+    ensures narrow { IfOk result (λ x. IsNarrow x.0) }
 {
     let (opcode, at) = byte(code, pc)?;
     operands(code, pc, opcode, at, form_behind(opcode))
