@@ -133,13 +133,7 @@ impl Pool {
         ensures short { IfSome result (λ s. length s.now < 2 ^ 16) }
     {
         match self.entry(i) {
-            Some(Entry::Name(tag, index)) => {
-                if *tag == wanted {
-                    self.utf8(*index)
-                } else {
-                    None
-                }
-            }
+            Some(Entry::Name(tag, index)) if *tag == wanted => self.utf8(*index),
             _ => None,
         }
     }
@@ -180,13 +174,7 @@ impl Pool {
         ensures { result ≡ integer_at self.now.slots i }
     {
         match self.entry(i as usize) {
-            Some(Entry::Word(tag, bits)) => {
-                if *tag == INTEGER {
-                    Some(bits.cast_signed())
-                } else {
-                    None
-                }
-            }
+            Some(Entry::Word(tag, bits)) if *tag == INTEGER => Some(bits.cast_signed()),
             _ => None,
         }
     }
@@ -196,13 +184,7 @@ impl Pool {
         ensures { result ≡ long_at self.now.slots i }
     {
         match self.entry(i as usize) {
-            Some(Entry::Wide(tag, bits)) => {
-                if *tag == LONG {
-                    Some(bits.cast_signed())
-                } else {
-                    None
-                }
-            }
+            Some(Entry::Wide(tag, bits)) if *tag == LONG => Some(bits.cast_signed()),
             _ => None,
         }
     }
@@ -213,13 +195,9 @@ impl Pool {
         ensures { result ≡ name_and_type_at self.now.slots i }
     {
         match self.entry(i as usize) {
-            Some(Entry::Pair(tag, first, second)) => {
-                if *tag == NAME_AND_TYPE {
-                    Some((*first, *second))
-                } else {
-                    None
-                }
-            }
+            Some(Entry::Pair(tag, first, second)) if *tag == NAME_AND_TYPE => Some((
+                *first, *second,
+            )),
             _ => None,
         }
     }
@@ -230,13 +208,7 @@ impl Pool {
         ensures { result ≡ member_at self.now.slots i }
     {
         match self.entry(i as usize) {
-            Some(Entry::Pair(tag, first, second)) => {
-                if names_member(*tag) {
-                    Some((*first, *second))
-                } else {
-                    None
-                }
-            }
+            Some(Entry::Pair(tag, first, second)) if names_member(*tag) => Some((*first, *second)),
             _ => None,
         }
     }
