@@ -18,31 +18,30 @@ by_kind n h (inr e) = e
 pub is_lookup : (code : List ℕ) (i : Instr) → IsSwitch code i → (i.opcode ≡ 0xaa → ⊥) → i.opcode ≡ 0xab
 is_lookup code i s h = by_kind i.opcode h s.kind
 
+-- how many are left: one more than behind the next, and none at the end
+one_left : (count i : ℕ) → i < count → count - i ≡ suc (count - (i + 1))
+one_left count i lt = omega arith
+
+none_left : (count i : ℕ) → count ≤ i → count - i ≡ 0
+none_left count i le = omega arith
+
 -- one pair more, and none
 pub pairs_more : (code : List ℕ) (count i at : ℕ) → i < count → switch_pairs_from code (count - i) at ≡ (bits_at code at, code_word_at code (at + 4)) ∷ switch_pairs_from code (count - (i + 1)) (at + 8)
 unfolding switch_pairs_from
-pairs_more code count i at lt =
-    let k : count - i ≡ suc (count - (i + 1)) = omega arith in
-    rw k refl
+pairs_more code count i at lt = rw (one_left count i lt) refl
 
 pub pairs_none : (code : List ℕ) (count i at : ℕ) → count ≤ i → switch_pairs_from code (count - i) at ≡ []
 unfolding switch_pairs_from
-pairs_none code count i at le =
-    let k : count - i ≡ 0 = omega arith in
-    rw k refl
+pairs_none code count i at le = rw (none_left count i le) refl
 
 -- one row more, and none
 pub rows_more : (code : List ℕ) (count i at : ℕ) → i < count → rows_from code (count - i) at ≡ code_word_at code at ∷ rows_from code (count - (i + 1)) (at + 4)
 unfolding rows_from
-rows_more code count i at lt =
-    let k : count - i ≡ suc (count - (i + 1)) = omega arith in
-    rw k refl
+rows_more code count i at lt = rw (one_left count i lt) refl
 
 pub rows_none : (code : List ℕ) (count i at : ℕ) → count ≤ i → rows_from code (count - i) at ≡ []
 unfolding rows_from
-rows_none code count i at le =
-    let k : count - i ≡ 0 = omega arith in
-    rw k refl
+rows_none code count i at le = rw (none_left count i le) refl
 
 -- the offset beside the first key that is this one, among the pairs behind the first i
 abbrev beside : List ℕ → ℕ → ℕ → ℕ → Option (ℕ × ℤ)

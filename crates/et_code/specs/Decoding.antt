@@ -132,6 +132,11 @@ pub record TableFits (code : List ℕ) (table : ℕ) : Type 0 where
 abbrev pub LookupFits : List ℕ → ℕ → Type 0
 LookupFits code table = table + 8 + bits_at code (table + 4) * 8 ≤ length code
 
+-- where an instruction is a switch, its rows or its pairs are in the code
+pub record SwitchFits (code : List ℕ) (i : Instr) : Type 0 where
+  pub table : i.opcode ≡ 0xaa → TableFits code i.table
+  pub lookup : i.opcode ≡ 0xab → LookupFits code i.table
+
 -- what holds of an instruction that stands at pc and ends before next
 pub record Fits (code : List ℕ) (pc : ℕ) (i : Instr) (next : ℕ) : Type 0 where
   pub advances : pc < next

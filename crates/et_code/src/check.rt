@@ -3,7 +3,7 @@
 ghost use Rattle.std.specs.Prelude.{◌≡◌, ℕ, ◌+◌, ◌*◌, ◌<◌, ◌≤◌, ◌^◌, [], ◌∷◌, length, pos, true, false};
 ghost use Rattle.std.specs.List.{flat_map};
 ghost use Rattle.et_base.specs.Marks.{MarksAre, first_from};
-ghost use Rattle.et_code.specs.Decoding.{TableFits, LookupFits};
+ghost use Rattle.et_code.specs.Decoding.{SwitchFits};
 ghost use Rattle.et_code.specs.Bodies.{body_of};
 ghost use Rattle.et_code.specs.Starts.{starts, is_start};
 ghost use Rattle.et_code.specs.Rules.{flag, operand_marks, array_marks, target_marks, decoded_marks, marks_at, row_holds, rows_marks, is_code_length, code_marks, tag_in, ChecksCode};
@@ -11,7 +11,6 @@ ghost use Rattle.et_code.specs.Rules.{flag, operand_marks, array_marks, target_m
 use crate::body::{CODE, CheckFault, Code, RawCode, TableRow, UNSUPPORTED};
 use crate::decoding::decode;
 use crate::instr::{CodeFault, Instr};
-use crate::opcode::{LOOKUPSWITCH, TABLESWITCH};
 use crate::rules::{
     fits_locals, has_rising_keys, has_targets, is_array_kind, is_left_out, makes_float_array,
     may_name, tag_at,
@@ -48,10 +47,7 @@ fn check_array(first: First, place: usize, instr: &Instr) -> First
 #[tactic(auto, unfolding(et_base::specs::Marks::first_from))]
 fn check_targets(first: First, body: &RawCode, flags: &[bool], pc: usize, instr: &Instr) -> First
     requires pc { pc < 2 ^ 62 }
-    requires table { instr.now.opcode ≡ TABLESWITCH →
-        TableFits body.now.code.items instr.now.table }
-    requires lookup { instr.now.opcode ≡ LOOKUPSWITCH →
-        LookupFits body.now.code.items instr.now.table }
+    requires switch { SwitchFits body.now.code.items instr.now }
     ensures { result ≡ first_from first
         (target_marks (body_of body.now) (flag flags.now) (pc + 4) pc instr.now) }
 {
@@ -72,10 +68,7 @@ fn check_instruction(
     next: usize,
 ) -> First
     requires pc { pc < 2 ^ 62 }
-    requires table { instr.now.opcode ≡ TABLESWITCH →
-        TableFits body.now.code.items instr.now.table }
-    requires lookup { instr.now.opcode ≡ LOOKUPSWITCH →
-        LookupFits body.now.code.items instr.now.table }
+    requires switch { SwitchFits body.now.code.items instr.now }
     ensures { result ≡ first_from first
         (decoded_marks (body_of body.now) tags.now (flag flags.now) pc (Ok (instr.now, next))) }
 {

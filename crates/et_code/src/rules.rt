@@ -3,7 +3,7 @@
 ghost use Rattle.std.specs.Prelude.{◌≡◌, ℕ, ℤ, pos, ◌+ℤ◌, ◌+◌, ◌*◌, ◌-◌, ◌<◌, ◌≤◌, ◌^◌, length, map, int_lt, int_le, false};
 ghost use Rattle.std.specs.List.{list_all};
 ghost use Rattle.std.specs.Int.{cast_signed, w32};
-ghost use Rattle.et_code.specs.Decoding.{code_word_at, TableFits, LookupFits, Fits};
+ghost use Rattle.et_code.specs.Decoding.{code_word_at, TableFits, LookupFits, SwitchFits};
 ghost use Rattle.et_code.specs.Switches.{table_rows, lookup_pairs};
 ghost use Rattle.et_code.specs.Rules.{locals_needed, implicit_locals, is_one_of_four, fits_locals, tag_in, is_loadable, is_field_instruction, is_class_instruction, may_name, is_left_out, is_array_kind, makes_float_array, passes_test, flag, is_branch, offsets, has_targets, rises, has_rising_keys};
 
@@ -193,8 +193,7 @@ fn keys_rise(code: &[u8], table: usize) -> bool
 /// Whether an instruction branches to flagged places only.
 pub(crate) fn has_targets(flags: &[bool], code: &[u8], pc: usize, instr: &Instr) -> bool
     requires pc { pc < 2 ^ 62 }
-    requires table { instr.now.opcode ≡ TABLESWITCH → TableFits code.now instr.now.table }
-    requires lookup { instr.now.opcode ≡ LOOKUPSWITCH → LookupFits code.now instr.now.table }
+    requires switch { SwitchFits code.now instr.now }
     ensures { result ≡ has_targets code.now (flag flags.now) pc instr.now }
 {
     if is_branch(instr.opcode) {
