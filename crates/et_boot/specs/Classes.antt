@@ -75,13 +75,17 @@ coded name descriptor code = record { name = name; descriptor = descriptor; flag
 
 -- KINDS OF CLASSES
 
--- a class below Object with no slots and no fields
+-- a class with no interfaces, no entries in its pool, no slots and no fields
+abbrev pub simple_class : List ℕ → Option (List ℕ) → ℕ → List BootMethodOf → BootClassOf
+simple_class name super_name flags methods = record { name = name; super_name = super_name; flags = flags; interfaces = []; pool = pool_bytes []; slots = 0; fields = []; methods = methods }
+
+-- one right below Object
 abbrev pub plain_class : List ℕ → ℕ → List BootMethodOf → BootClassOf
-plain_class name flags methods = record { name = name; super_name = Some (codes "java/lang/Object"); flags = flags; interfaces = []; pool = pool_bytes []; slots = 0; fields = []; methods = methods }
+plain_class name flags methods = simple_class name (Some (codes "java/lang/Object")) flags methods
 
 -- an interface with these methods
 abbrev pub interface : List ℕ → List BootMethodOf → BootClassOf
-interface name methods = record { name = name; super_name = Some (codes "java/lang/Object"); flags = public_interface; interfaces = []; pool = pool_bytes []; slots = 0; fields = []; methods = methods }
+interface name methods = plain_class name public_interface methods
 
 -- the constructors that Throwable and each built-in class below it declare
 abbrev pub throwable_constructors : List BootMethodOf
@@ -93,21 +97,12 @@ throwable_constructors =
 
 -- a class below Throwable
 abbrev pub throwable : List ℕ → List ℕ → BootClassOf
-throwable name above = record { name = name; super_name = Some above; flags = public; interfaces = []; pool = pool_bytes []; slots = 0; fields = []; methods = throwable_constructors }
+throwable name above = simple_class name (Some above) public throwable_constructors
 
--- CLASSES WITH MORE THAN THAT
+-- THE OTHERS, EACH BY ITSELF
 
 abbrev pub object_class_file : BootClassOf
-object_class_file = record {
-  name = codes "java/lang/Object";
-  super_name = None;
-  flags = public;
-  interfaces = [];
-  pool = pool_bytes [];
-  slots = 0;
-  fields = [];
-  methods = built_in (codes "<init>") (codes "()V") ∷ [];
-}
+object_class_file = simple_class (codes "java/lang/Object") None public (built_in (codes "<init>") (codes "()V") ∷ [])
 
 -- slot 0 is the message and slot 1 the cause; neither is a field that a name resolves to
 abbrev pub throwable_class : BootClassOf
@@ -179,45 +174,21 @@ thread = record {
 
 -- its one referent is no slot
 abbrev pub reference : BootClassOf
-reference = record {
-  name = codes "java/lang/ref/Reference";
-  super_name = Some (codes "java/lang/Object");
-  flags = public_abstract;
-  interfaces = [];
-  pool = pool_bytes [];
-  slots = 0;
-  fields = [];
-  methods = deferred (codes "get") (codes "()Ljava/lang/Object;") ∷ deferred (codes "clear") (codes "()V") ∷ [];
-}
+reference = plain_class (codes "java/lang/ref/Reference") public_abstract (deferred (codes "get") (codes "()Ljava/lang/Object;") ∷ deferred (codes "clear") (codes "()V") ∷ [])
 
 -- the second constructor gives a reference its queue, or none
 abbrev pub weak_reference : BootClassOf
-weak_reference = record {
-  name = codes "java/lang/ref/WeakReference";
-  super_name = Some (codes "java/lang/ref/Reference");
-  flags = public;
-  interfaces = [];
-  pool = pool_bytes [];
-  slots = 0;
-  fields = [];
-  methods =
-      deferred (codes "<init>") (codes "(Ljava/lang/Object;)V")
-      ∷ deferred (codes "<init>") (codes "(Ljava/lang/Object;Ljava/lang/ref/ReferenceQueue;)V")
-      ∷ [];
-}
+weak_reference =
+    simple_class (codes "java/lang/ref/WeakReference") (Some (codes "java/lang/ref/Reference")) public
+    (deferred (codes "<init>") (codes "(Ljava/lang/Object;)V")
+    ∷ deferred (codes "<init>") (codes "(Ljava/lang/Object;Ljava/lang/ref/ReferenceQueue;)V")
+    ∷ [])
 
 -- its one waiting list is no slot
 abbrev pub reference_queue : BootClassOf
-reference_queue = record {
-  name = codes "java/lang/ref/ReferenceQueue";
-  super_name = Some (codes "java/lang/Object");
-  flags = public;
-  interfaces = [];
-  pool = pool_bytes [];
-  slots = 0;
-  fields = [];
-  methods = deferred (codes "<init>") (codes "()V") ∷ deferred (codes "poll") (codes "()Ljava/lang/ref/Reference;") ∷ [];
-}
+reference_queue =
+    plain_class (codes "java/lang/ref/ReferenceQueue") public
+    (deferred (codes "<init>") (codes "()V") ∷ deferred (codes "poll") (codes "()Ljava/lang/ref/Reference;") ∷ [])
 
 abbrev pub string : BootClassOf
 string =

@@ -32,15 +32,34 @@ const PUBLIC_INTERFACE: u16 = 0x0601;
 /// The bytes of a pool without entries.
 const NO_ENTRIES: &[u8] = b"\x00\x01";
 
+/// A public method without code that isn't deferred.
+const PLAIN_METHOD: BootMethod = BootMethod {
+    name: b"",
+    descriptor: b"",
+    flags: PUBLIC,
+    code: None,
+    deferred: false,
+};
+
+/// A public class right below Object that declares nothing.
+const PLAIN_CLASS: BootClass = BootClass {
+    name: b"",
+    super_name: Some(b"java/lang/Object"),
+    flags: PUBLIC,
+    interfaces: &[],
+    pool: NO_ENTRIES,
+    slots: 0,
+    fields: &[],
+    methods: &[],
+};
+
 /// A public method that the machine runs itself.
 macro_rules! built_in {
     ($name:expr, $descriptor:expr) => {
         BootMethod {
             name: $name,
             descriptor: $descriptor,
-            flags: PUBLIC,
-            code: None,
-            deferred: false,
+            ..PLAIN_METHOD
         }
     };
 }
@@ -51,9 +70,8 @@ macro_rules! deferred {
         BootMethod {
             name: $name,
             descriptor: $descriptor,
-            flags: PUBLIC,
-            code: None,
             deferred: true,
+            ..PLAIN_METHOD
         }
     };
 }
@@ -65,8 +83,7 @@ macro_rules! without_body {
             name: $name,
             descriptor: $descriptor,
             flags: PUBLIC_ABSTRACT,
-            code: None,
-            deferred: false,
+            ..PLAIN_METHOD
         }
     };
 }
@@ -76,13 +93,9 @@ macro_rules! interface {
     ($name:expr, $methods:expr) => {
         BootClass {
             name: $name,
-            super_name: Some(b"java/lang/Object"),
             flags: PUBLIC_INTERFACE,
-            interfaces: &[],
-            pool: NO_ENTRIES,
-            slots: 0,
-            fields: &[],
             methods: $methods,
+            ..PLAIN_CLASS
         }
     };
 }
@@ -93,16 +106,12 @@ macro_rules! throwable {
         BootClass {
             name: $name,
             super_name: Some($above),
-            flags: PUBLIC,
-            interfaces: &[],
-            pool: NO_ENTRIES,
-            slots: 0,
-            fields: &[],
             methods: &[
                 built_in!(b"<init>", b"()V"),
                 built_in!(b"<init>", b"(Ljava/lang/String;)V"),
                 built_in!(b"<init>", b"(Ljava/lang/String;Ljava/lang/Throwable;)V"),
             ],
+            ..PLAIN_CLASS
         }
     };
 }
@@ -110,37 +119,23 @@ macro_rules! throwable {
 const OBJECT: BootClass = BootClass {
     name: b"java/lang/Object",
     super_name: None,
-    flags: PUBLIC,
-    interfaces: &[],
-    pool: NO_ENTRIES,
-    slots: 0,
-    fields: &[],
     methods: &[built_in!(b"<init>", b"()V")],
+    ..PLAIN_CLASS
 };
 
 const STRING: BootClass = BootClass {
     name: b"java/lang/String",
-    super_name: Some(b"java/lang/Object"),
     flags: PUBLIC_FINAL,
-    interfaces: &[],
-    pool: NO_ENTRIES,
-    slots: 0,
-    fields: &[],
     methods: &[
         deferred!(b"length", b"()I"),
         deferred!(b"charAt", b"(I)C"),
         deferred!(b"equals", b"(Ljava/lang/Object;)Z"),
     ],
+    ..PLAIN_CLASS
 };
 
 const STRING_BUILDER: BootClass = BootClass {
     name: b"java/lang/StringBuilder",
-    super_name: Some(b"java/lang/Object"),
-    flags: PUBLIC,
-    interfaces: &[],
-    pool: NO_ENTRIES,
-    slots: 0,
-    fields: &[],
     methods: &[
         deferred!(b"<init>", b"()V"),
         deferred!(b"<init>", b"(Ljava/lang/String;)V"),
@@ -152,16 +147,11 @@ const STRING_BUILDER: BootClass = BootClass {
         deferred!(b"append", b"(C)Ljava/lang/StringBuilder;"),
         deferred!(b"append", b"(Z)Ljava/lang/StringBuilder;"),
     ],
+    ..PLAIN_CLASS
 };
 
 const PRINT_STREAM: BootClass = BootClass {
     name: b"java/io/PrintStream",
-    super_name: Some(b"java/lang/Object"),
-    flags: PUBLIC,
-    interfaces: &[],
-    pool: NO_ENTRIES,
-    slots: 0,
-    fields: &[],
     methods: &[
         deferred!(b"print", b"(Ljava/lang/String;)V"),
         deferred!(b"print", b"(I)V"),
@@ -175,22 +165,18 @@ const PRINT_STREAM: BootClass = BootClass {
         deferred!(b"println", b"(Z)V"),
         deferred!(b"println", b"()V"),
     ],
+    ..PLAIN_CLASS
 };
 
 /// Its field is the one static field of a built-in class.
 const SYSTEM: BootClass = BootClass {
     name: b"java/lang/System",
-    super_name: Some(b"java/lang/Object"),
-    flags: PUBLIC,
-    interfaces: &[],
-    pool: NO_ENTRIES,
-    slots: 0,
     fields: &[BootField {
         name: b"out",
         descriptor: b"Ljava/io/PrintStream;",
         flags: PUBLIC_STATIC,
     }],
-    methods: &[],
+    ..PLAIN_CLASS
 };
 
 /// Thread's pool: 6 is the field `target`, 12 the method `run` of Runnable.
@@ -213,8 +199,6 @@ const THREAD_RUN: &[u8] = b"\x2a\xb4\x00\x06\xc6\x00\x0c\x2a\xb4\x00\x06\xb9\x00
 
 const THREAD: BootClass = BootClass {
     name: b"java/lang/Thread",
-    super_name: Some(b"java/lang/Object"),
-    flags: PUBLIC,
     interfaces: &[b"java/lang/Runnable"],
     pool: THREAD_POOL,
     slots: 1,
@@ -237,33 +221,25 @@ const THREAD: BootClass = BootClass {
                 max_locals: 1,
                 code: THREAD_RUN,
             }),
-            deferred: false,
+            ..PLAIN_METHOD
         },
     ],
+    ..PLAIN_CLASS
 };
 
 const REFERENCE: BootClass = BootClass {
     name: b"java/lang/ref/Reference",
-    super_name: Some(b"java/lang/Object"),
     flags: PUBLIC_ABSTRACT,
-    interfaces: &[],
-    pool: NO_ENTRIES,
-    slots: 0,
-    fields: &[],
     methods: &[
         deferred!(b"get", b"()Ljava/lang/Object;"),
         deferred!(b"clear", b"()V"),
     ],
+    ..PLAIN_CLASS
 };
 
 const WEAK_REFERENCE: BootClass = BootClass {
     name: b"java/lang/ref/WeakReference",
     super_name: Some(b"java/lang/ref/Reference"),
-    flags: PUBLIC,
-    interfaces: &[],
-    pool: NO_ENTRIES,
-    slots: 0,
-    fields: &[],
     methods: &[
         deferred!(b"<init>", b"(Ljava/lang/Object;)V"),
         deferred!(
@@ -271,31 +247,23 @@ const WEAK_REFERENCE: BootClass = BootClass {
             b"(Ljava/lang/Object;Ljava/lang/ref/ReferenceQueue;)V"
         ),
     ],
+    ..PLAIN_CLASS
 };
 
 const REFERENCE_QUEUE: BootClass = BootClass {
     name: b"java/lang/ref/ReferenceQueue",
-    super_name: Some(b"java/lang/Object"),
-    flags: PUBLIC,
-    interfaces: &[],
-    pool: NO_ENTRIES,
-    slots: 0,
-    fields: &[],
     methods: &[
         deferred!(b"<init>", b"()V"),
         deferred!(b"poll", b"()Ljava/lang/ref/Reference;"),
     ],
+    ..PLAIN_CLASS
 };
 
 /// Slot 0 is the message and slot 1 the cause; neither is a field that a name resolves to.
 const THROWABLE: BootClass = BootClass {
     name: b"java/lang/Throwable",
-    super_name: Some(b"java/lang/Object"),
-    flags: PUBLIC,
     interfaces: &[b"java/io/Serializable"],
-    pool: NO_ENTRIES,
     slots: 2,
-    fields: &[],
     methods: &[
         built_in!(b"<init>", b"()V"),
         built_in!(b"<init>", b"(Ljava/lang/String;)V"),
@@ -304,6 +272,7 @@ const THROWABLE: BootClass = BootClass {
         built_in!(b"getCause", b"()Ljava/lang/Throwable;"),
         built_in!(b"addSuppressed", b"(Ljava/lang/Throwable;)V"),
     ],
+    ..PLAIN_CLASS
 };
 
 /// The classes that aren't below Throwable, and Throwable.
