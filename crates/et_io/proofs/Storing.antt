@@ -21,6 +21,8 @@ module _ (answer : Put) (piece items items' : List ℕ) (marks mid marks' : List
   pub stored_taken : (n : ℕ) → answer ≡ put.Took n → items' ≡ items ++ take n piece → items' ≡ taken_bytes marks'
   stored_taken n is more = more ∙ (ap (λ (t : List ℕ). t ++ take n piece) stored ∙ (sym (bytes_after_took n piece marks) ∙ sym (marks_are (put.Took n) is)))
 
--- what was handed on is still there
-pub handed_still : (n : ℕ) (items items' more : List ℕ) → n ≤ length items → items' ≡ items ++ more → n ≤ length items'
-handed_still n items items' more le e = omega (arith, le, ap length e, length-append items more)
+-- no put makes the bytes fewer
+pub no_fewer : (answer : Put) (piece : List ℕ) (marks : List Mark) → length (taken_bytes marks) ≤ length (taken_bytes (after_put answer piece marks))
+no_fewer (put.Took n) piece marks = omega (arith, ap length (bytes_after_took n piece marks), length-append (taken_bytes marks) (take n piece))
+no_fewer put.Failed piece marks = omega (arith, ap length (bytes_after_failed piece marks))
+no_fewer put.NoMemory piece marks = omega arith

@@ -2,6 +2,7 @@
 use Rattle.std.specs.Prelude.{ℕ, ◌+◌, ◌^◌, ◌<◌, ◌≤◌, min, Bool, List, All}
 use Rattle.std.specs.List.{list_any}
 use Rattle.std.specs.Ordering.{nat_cmp, is_eq}
+use Rattle.std.specs.BTreeSet.{insert_key}
 use Rattle.et_io.specs.Faults.{count_after}
 
 -- how many calls were made, the numbers of those that are to fail, in order, and how many failed. Calls are numbered
@@ -14,6 +15,10 @@ pub record Calls : Type 0 where
 -- whether the next call is to fail
 abbrev pub next_fails : Calls → Bool
 next_fails calls = list_any (λ number. is_eq (nat_cmp (calls.made + 1) number)) calls.failing
+
+-- the calls, of which this one is to fail too
+abbrev pub with_failing : Calls → ℕ → Calls
+with_failing calls call = record calls { failing = insert_key nat_cmp calls.failing call }
 
 -- one call more
 abbrev pub after_call : Calls → Calls

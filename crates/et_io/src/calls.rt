@@ -1,8 +1,6 @@
 //! Calls that fail as they are told.
 ghost use Rattle.std.specs.Prelude.{◌≡◌, [], ◌<◌, ◌≤◌, ◌^◌, OnOk, OnErr};
-ghost use Rattle.std.specs.Ordering.{nat_cmp};
-ghost use Rattle.std.specs.BTreeSet.{insert_key};
-ghost use Rattle.et_io.specs.Calls.{next_fails, after_call};
+ghost use Rattle.et_io.specs.Calls.{next_fails, with_failing, after_call};
 
 use et_base::NoMemory;
 use std::alloc::Global;
@@ -47,8 +45,7 @@ impl CallBook {
     /// Lets the call of this number fail. After `NoMemory` all is as before.
     pub fn fail_at(&mut self, call: u64) -> Result<(), NoMemory>
         requires { call < 2 ^ 63 }
-        ensures ok { OnOk result
-            (self.new ≡ record self.old { failing = insert_key nat_cmp self.old.failing call }) }
+        ensures ok { OnOk result (self.new ≡ with_failing self.old call) }
         ensures err { OnErr result (self.new ≡ self.old) }
     {
         self.failing.insert(call)?;

@@ -1,16 +1,13 @@
 //! A sink in memory that gathers.
 ghost use Rattle.std.specs.Prelude.{◌≡◌, ◌<◌, ◌≤◌, ◌^◌, ◌↔◌, [], ◌∷◌, length, Some, IsTrue, OnOk, OnErr, true, not};
-ghost use Rattle.std.specs.Ordering.{nat_cmp};
-ghost use Rattle.std.specs.BTreeSet.{insert_key};
-ghost use Rattle.et_io.specs.Calls.{next_fails, after_call};
+ghost use Rattle.et_io.specs.Calls.{next_fails, with_failing, after_call};
 ghost use Rattle.et_io.specs.Faults.{count_after};
 ghost use Rattle.et_io.specs.GatheringMemSink.{handed_bytes};
 ghost use Rattle.et_io.specs.MemSink.{TakesMost};
 ghost use Rattle.et_io.specs.Sink.{Takes, is_put_failed, taken_bytes};
 
-use crate::calls::CallBook;
 use crate::gathering::GatheringSink;
-use crate::logs::{Made, Puts};
+use crate::mem_sink::MemSink;
 use crate::sink::{Put, Sink};
 use et_base::NoMemory;
 use std::alloc::Global;
@@ -21,24 +18,25 @@ use std::marker::Model;
 /// nothing. It tells all.
 #[derive(Drop)]
 pub struct GatheringMemSink {
-    taken: Vec<u8>,
+    sink: MemSink,
     count_handed: usize,
-    calls: CallBook,
-    puts: Puts,
 }
 
 impl Model for GatheringMemSink {
-    ghost use Rattle.std.specs.Prelude.{◌≡◌, ◌≤◌, length};
+    ghost use Rattle.std.specs.Prelude.{◌+◌, ◌^◌, ◌≤◌, length};
     ghost use Rattle.et_io.specs.Sink.{taken_bytes};
     ghost use Rattle.et_io.specs.GatheringMemSink.{GatheringSinkInMemory};
 
     ghost Value = { GatheringSinkInMemory };
 
-    ghost view = { λ s.
-        record { taken = s.puts.items; count_handed = s.count_handed; calls = s.calls } };
+    ghost view = { λ s. record {
+      taken = s.sink.taken;
+      count_handed = s.count_handed;
+      calls = s.sink.calls;
+    } };
 
-    ghost invariant = { λ s. (s.count_handed ≤ length s.taken.items)
-        × (s.taken.items ≡ taken_bytes s.puts.items) };
+    ghost invariant = { λ s. (2 ^ 64 ≤ s.sink.most + 1)
+        × (s.count_handed ≤ length (taken_bytes s.sink.taken)) };
 }
 
 impl GatheringMemSink {
@@ -51,30 +49,26 @@ impl GatheringMemSink {
         } }
     {
         GatheringMemSink {
-            taken: Vec::new(alloc),
+            sink: MemSink::begin(alloc, u64::MAX),
             count_handed: 0,
-            calls: CallBook::begin(alloc),
-            puts: Puts::begin(),
         }
     }
 
     /// Lets the call of this number fail; the first is 1. After `NoMemory` all is as before.
     pub fn fail_at(&mut self, call: u64) -> Result<(), NoMemory>
         requires { call < 2 ^ 63 }
-        ensures ok { OnOk result (self.new ≡ record self.old {
-          calls = record self.old.calls
-              { failing = insert_key nat_cmp self.old.calls.failing call };
-        }) }
+        ensures ok { OnOk result
+            (self.new ≡ record self.old { calls = with_failing self.old.calls call }) }
         ensures err { OnErr result (self.new ≡ self.old) }
     {
-        self.calls.fail_at(call)
+        self.sink.fail_at(call)
     }
 
     /// The bytes handed on so far.
     pub fn handed(&self) -> &[u8]
         ensures { result.now ≡ handed_bytes self.now }
     {
-        &self.taken[..self.count_handed]
+        &self.sink.bytes()[..self.count_handed]
     }
 }
 
@@ -94,16 +88,7 @@ impl Sink for GatheringMemSink {
         ensures calls { self.new.calls ≡ after_call self.old.calls }
         ensures gathers { handed_bytes self.new ≡ handed_bytes self.old }
     {
-        let answer = if self.calls.next_call() {
-            Put::Failed
-        } else {
-            match self.taken.extend_from_slice(piece) {
-                Ok(()) => Put::Took(piece.len()),
-                Err(_) => Put::NoMemory,
-            }
-        };
-        self.puts = self.puts.then(&Made { piece, answer });
-        answer
+        self.sink.put(piece)
     }
 }
 
@@ -120,10 +105,10 @@ impl GatheringSink for GatheringMemSink {
         ensures calls { self.new.calls ≡ after_call self.old.calls }
         ensures nothing { not result ≡ true → handed_bytes self.new ≡ handed_bytes self.old }
     {
-        if self.calls.next_call() {
+        if self.sink.next_call() {
             return false;
         }
-        self.count_handed = self.taken.len();
+        self.count_handed = self.sink.bytes().len();
         true
     }
 }

@@ -17,9 +17,7 @@ pub struct MemFiles {
 
 impl MemFiles {
     ghost use Rattle.std.specs.Prelude.{◌≡◌, ◌<◌, ◌≤◌, ◌^◌, List, ℕ, [], None, IfOk, OnOk, OnErr};
-    ghost use Rattle.std.specs.Ordering.{nat_cmp};
-    ghost use Rattle.std.specs.BTreeSet.{insert_key};
-    ghost use Rattle.et_io.specs.Calls.{next_fails, after_call};
+    ghost use Rattle.et_io.specs.Calls.{next_fails, with_failing, after_call};
     ghost use Rattle.et_io.specs.Files.{Finds, IsWithin};
     ghost use Rattle.et_io.specs.MemFiles.{held, calls_of, asked_of, Holds, IsUnchanged, FailsAsTold};
 
@@ -52,8 +50,7 @@ impl MemFiles {
     /// Lets the read of this number fail; the first is 1. After `NoMemory` all is as before.
     pub fn fail_at(&mut self, call: u64) -> Result<(), NoMemory>
         requires { call < 2 ^ 63 }
-        ensures ok { OnOk result (calls_of self.new ≡ record (calls_of self.old)
-            { failing = insert_key nat_cmp (calls_of self.old).failing call }) }
+        ensures ok { OnOk result (calls_of self.new ≡ with_failing (calls_of self.old) call) }
         ensures files { (path : List ℕ) → held self.new path ≡ held self.old path }
         ensures asked { asked_of self.new ≡ asked_of self.old }
         ensures err { OnErr result (calls_of self.new ≡ calls_of self.old) }

@@ -1,8 +1,6 @@
 //! A sink in memory.
 ghost use Rattle.std.specs.Prelude.{◌≡◌, ◌<◌, ◌≤◌, ◌^◌, ◌↔◌, [], Some, IsTrue, OnOk, OnErr};
-ghost use Rattle.std.specs.Ordering.{nat_cmp};
-ghost use Rattle.std.specs.BTreeSet.{insert_key};
-ghost use Rattle.et_io.specs.Calls.{next_fails, after_call};
+ghost use Rattle.et_io.specs.Calls.{next_fails, with_failing, after_call};
 ghost use Rattle.et_io.specs.MemSink.{TakesMost};
 ghost use Rattle.et_io.specs.Faults.{count_after};
 ghost use Rattle.et_io.specs.Sink.{Takes, is_put_failed, taken_bytes};
@@ -58,13 +56,19 @@ impl MemSink {
     /// Lets the put of this number fail; the first is 1. After `NoMemory` all is as before.
     pub fn fail_at(&mut self, call: u64) -> Result<(), NoMemory>
         requires { call < 2 ^ 63 }
-        ensures ok { OnOk result (self.new ≡ record self.old {
-          calls = record self.old.calls
-              { failing = insert_key nat_cmp self.old.calls.failing call };
-        }) }
+        ensures ok { OnOk result
+            (self.new ≡ record self.old { calls = with_failing self.old.calls call }) }
         ensures err { OnErr result (self.new ≡ self.old) }
     {
         self.calls.fail_at(call)
+    }
+
+    /// Counts a call that puts nothing, and says whether it is to fail.
+    pub(crate) fn next_call(&mut self) -> bool
+        ensures value { result ≡ next_fails self.old.calls }
+        ensures counted { self.new ≡ record self.old { calls = after_call self.old.calls } }
+    {
+        self.calls.next_call()
     }
 
     /// The bytes taken so far.
