@@ -1,10 +1,10 @@
 //! A sink in memory that gathers.
-ghost use Rattle.std.specs.Prelude.{◌≡◌, ◌<◌, ◌≤◌, ◌^◌, ◌↔◌, [], ◌∷◌, length, Some, IsTrue, OnOk, OnErr, true, not};
+ghost use Rattle.std.specs.Prelude.{◌≡◌, ◌<◌, ◌≤◌, ◌^◌, [], ◌∷◌, length, Some, OnOk, OnErr, true, not};
 ghost use Rattle.et_io.specs.Calls.{next_fails, with_failing, after_call};
 ghost use Rattle.et_io.specs.Faults.{count_after};
 ghost use Rattle.et_io.specs.GatheringMemSink.{handed_bytes};
-ghost use Rattle.et_io.specs.MemSink.{TakesMost};
-ghost use Rattle.et_io.specs.Sink.{Takes, is_put_failed, taken_bytes};
+ghost use Rattle.et_io.specs.MemSink.{TakesMost, PutsAsTold};
+ghost use Rattle.et_io.specs.Sink.{taken_bytes};
 
 use crate::gathering::GatheringSink;
 use crate::mem_sink::MemSink;
@@ -79,13 +79,9 @@ impl Sink for GatheringMemSink {
 
     /// Takes the whole piece, and hands on nothing. Fails exactly at the calls that are to fail.
     fn put(&mut self, piece: &[u8]) -> Put
-        ensures takes { Takes result (Some self.old.taken) (Some self.new.taken) piece.now }
-        ensures failed { self.new.calls.faults
-            ≡ count_after (is_put_failed result) self.old.calls.faults }
-        ensures never_falls { self.old.calls.faults ≤ self.new.calls.faults }
-        ensures fails { (result ≡ Put.Failed) ↔ IsTrue (next_fails self.old.calls) }
+        ensures told { PutsAsTold result piece.now
+            self.old.taken self.new.taken self.old.calls self.new.calls }
         ensures takes_all { TakesMost result piece.now (length piece.now) }
-        ensures calls { self.new.calls ≡ after_call self.old.calls }
         ensures gathers { handed_bytes self.new ≡ handed_bytes self.old }
     {
         self.sink.put(piece)

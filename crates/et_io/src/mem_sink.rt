@@ -1,9 +1,8 @@
 //! A sink in memory.
-ghost use Rattle.std.specs.Prelude.{◌≡◌, ◌<◌, ◌≤◌, ◌^◌, ◌↔◌, [], Some, IsTrue, OnOk, OnErr};
+ghost use Rattle.std.specs.Prelude.{◌≡◌, ◌<◌, ◌≤◌, ◌^◌, [], Some, OnOk, OnErr};
 ghost use Rattle.et_io.specs.Calls.{next_fails, with_failing, after_call};
-ghost use Rattle.et_io.specs.MemSink.{TakesMost};
-ghost use Rattle.et_io.specs.Faults.{count_after};
-ghost use Rattle.et_io.specs.Sink.{Takes, is_put_failed, taken_bytes};
+ghost use Rattle.et_io.specs.MemSink.{TakesMost, PutsAsTold};
+ghost use Rattle.et_io.specs.Sink.{taken_bytes};
 
 use crate::calls::CallBook;
 use crate::logs::{Made, Puts};
@@ -86,13 +85,9 @@ impl Sink for MemSink {
 
     /// Takes as many bytes of the piece as a call may. Fails exactly at the calls that are to fail.
     fn put(&mut self, piece: &[u8]) -> Put
-        ensures takes { Takes result (Some self.old.taken) (Some self.new.taken) piece.now }
-        ensures failed { self.new.calls.faults
-            ≡ count_after (is_put_failed result) self.old.calls.faults }
-        ensures never_falls { self.old.calls.faults ≤ self.new.calls.faults }
-        ensures fails { (result ≡ Put.Failed) ↔ IsTrue (next_fails self.old.calls) }
+        ensures told { PutsAsTold result piece.now
+            self.old.taken self.new.taken self.old.calls self.new.calls }
         ensures takes_most { TakesMost result piece.now self.old.most }
-        ensures calls { self.new.calls ≡ after_call self.old.calls }
         ensures most { self.new.most ≡ self.old.most }
     {
         let answer = if self.calls.next_call() {
