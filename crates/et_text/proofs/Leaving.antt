@@ -8,7 +8,7 @@ use Rattle.et_text.specs.Ranges.{IsInRange}
 use Rattle.et_text.specs.Rules.{order, unknown, twice, after, has_ended, keeps_order, is_known, keeps_lives, is_new, next_fault}
 use Rattle.et_text.specs.declared.standing.Standing.{Standing}
 use Rattle.et_text.specs.ByStanding.{is_open_in, order_in, known_in, lives_in, dies_once_in, fault_in}
-use Rattle.et_text.specs.StandsFor.{StandsForLines}
+use Rattle.et_text.specs.StandsFor.{Said, StandsForLines}
 use Rattle.et_text.specs.Follows.{Notes}
 use Rattle.et_text.proofs.Faults.{dies_once, fault_but_names, fault_is}
 use Rattle.et_text.proofs.Standings.{stands_header, stands_class, stands_method, stands_object, stands_update, stands_enter, stands_exit, stands_unwind, stands_flush, stands_death, stands_finish, class_is_new, method_is_new}
@@ -86,17 +86,17 @@ eqb-yes : (a b : ℕ) → eqb a b ≡ true → a ≡ b
 eqb-yes a b e = grind (arith, nat_tests)
 
 pub stands_on : (version : ℕ) (s s' : Standing) (past : List TraceLine) (line : TraceLine) (added : Bool) → s.ended ≡ false → order_in s line ≡ true → known_in s line ≡ true → IsInRange version line → Notes s s' line added → StandsForLines s past → StandsForLines s' (line ∷ past)
-stands_on version s s' past (Header v every) added unended o k r n h = subst (λ (t : Standing). StandsForLines t (Header v every ∷ past)) (sym n.1) (stands_header s past v every unended (sym h.begun_is ∙ not_true s.begun o) h)
+stands_on version s s' past (Header v every) added unended o k r n h = subst (λ (t : Standing). StandsForLines t (Header v every ∷ past)) (sym n.1) (stands_header s past v every unended (ap (λ (k : Said). k.begun) (sym h.said_is) ∙ not_true s.begun o) h)
 stands_on version s s' past (Class number name) added unended o k r n h = stands_class s s' past number name added unended (eqb-yes number (s.classes + 1) (both_true (is_open_in s) (eqb number (s.classes + 1)) o)) n h
 stands_on version s s' past (Method number class name descriptor) added unended o k r n h = stands_method s s' past number class name descriptor added unended (eqb-yes number (s.methods + 1) (both_true (is_open_in s) (eqb number (s.methods + 1)) o)) n h
 stands_on version s s' past (Alloc event thread object class size len) added unended o k r n h = stands_object s s' past event thread object class size len unended n.1 h
-stands_on version s s' past (Update event thread object slot old new) added unended o k r n h = subst (λ (t : Standing). StandsForLines t (Update event thread object slot old new ∷ past)) (sym n.1) (stands_update s past event thread object slot old new unended h)
-stands_on version s s' past (Enter event thread method receiver) added unended o k r n h = subst (λ (t : Standing). StandsForLines t (Enter event thread method receiver ∷ past)) (sym n.1) (stands_enter s past event thread method receiver unended h)
-stands_on version s s' past (Exit event thread method) added unended o k r n h = subst (λ (t : Standing). StandsForLines t (Exit event thread method ∷ past)) (sym n.1) (stands_exit s past event thread method unended h)
-stands_on version s s' past (Unwind event thread method exception) added unended o k r n h = subst (λ (t : Standing). StandsForLines t (Unwind event thread method exception ∷ past)) (sym n.1) (stands_unwind s past event thread method exception unended h)
+stands_on version s s' past (Update event thread object slot old new) added unended o k r n h = subst (λ (t : Standing). StandsForLines t (Update event thread object slot old new ∷ past)) (sym n.1) (stands_update s past event unended h thread object slot old new)
+stands_on version s s' past (Enter event thread method receiver) added unended o k r n h = subst (λ (t : Standing). StandsForLines t (Enter event thread method receiver ∷ past)) (sym n.1) (stands_enter s past event unended h thread method receiver)
+stands_on version s s' past (Exit event thread method) added unended o k r n h = subst (λ (t : Standing). StandsForLines t (Exit event thread method ∷ past)) (sym n.1) (stands_exit s past event unended h thread method)
+stands_on version s s' past (Unwind event thread method exception) added unended o k r n h = subst (λ (t : Standing). StandsForLines t (Unwind event thread method exception ∷ past)) (sym n.1) (stands_unwind s past event unended h thread method exception)
 stands_on version s s' past (Flush event deaths) added unended o k r n h = subst (λ (t : Standing). StandsForLines t (Flush event deaths ∷ past)) (sym n.1) (stands_flush s past event deaths unended h)
 stands_on version s s' past (Death object time) added unended o k r n h = let le : object ≤ length s.births.items = leb-true object (length s.births.items) k in let as_many = h.as_many in stands_death s s' past object time unended r.0.0 (omega arith) n.1 h
-stands_on version s s' past (Finish event how) added unended o k r n h = subst (λ (t : Standing). StandsForLines t (Finish event how ∷ past)) (sym n.1) (stands_finish s past event how unended h)
+stands_on version s s' past (Finish event how) added unended o k r n h = subst (λ (t : Standing). StandsForLines t (Finish event how ∷ past)) (sym n.1) (stands_finish s past event how h)
 
 at_past : (s : Standing) (past : List TraceLine) (line : TraceLine) → StandsForLines s past → None ≡ fault_in s line → ArePassed (has_ended past) (keeps_order past line) (is_known past line) (keeps_lives past line) (dies_once past line)
 at_past s past line h e = passed (has_ended past) (keeps_order past line) (is_known past line) (keeps_lives past line) (dies_once past line) (sym (fault_is s past line h) ∙ sym e)

@@ -1,5 +1,5 @@
 -- The rules, by what is kept of the lines so far.
-use Rattle.std.specs.Prelude.{ℕ, ◌+◌, ◌-◌, Bool, true, false, not, ◌&&◌, ◌||◌, ◌==◌, nat_lt, nat_le, if◌then◌else◌, length, slice_index, slice_index_or, Option, Some, None, unwrap_or}
+use Rattle.std.specs.Prelude.{ℕ, ◌+◌, ◌-◌, Bool, true, false, not, ◌&&◌, ◌||◌, ◌==◌, nat_lt, nat_le, if◌then◌else◌, List, length, slice_index, slice_index_or, Option, Some, None, unwrap_or}
 use Rattle.et_base.specs.declared.line.TraceLine.{TraceLine}
 use Rattle.et_base.specs.declared.line.TraceLine.TheVariants.{Header, Class, Method, Alloc, Update, Enter, Exit, Unwind, Flush, Death, Finish}
 use Rattle.et_text.specs.Rules.{order, unknown, twice, after, is_before, stands_at}
@@ -41,8 +41,12 @@ known_in s (Flush event deaths) = true
 known_in s (Death object time) = nat_le object (length s.births.items)
 known_in s (Finish event how) = true
 
+-- the flag of an object; 0 stands for none
+abbrev pub flag_at : List Bool → ℕ → Bool
+flag_at flags object = if object == 0 then false else slice_index_or flags (object - 1) false
+
 abbrev pub reported_in : Standing → ℕ → Bool
-reported_in s object = if object == 0 then false else slice_index_or s.reported.items (object - 1) false
+reported_in s object = flag_at s.reported.items object
 
 abbrev pub lives_in : Standing → TraceLine → Bool
 lives_in s (Update event thread object slot old new) = not (reported_in s object) && not (reported_in s old) && not (reported_in s new)

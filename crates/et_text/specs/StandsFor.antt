@@ -1,7 +1,8 @@
 -- What is kept is what the lines so far say.
-use Rattle.std.specs.Prelude.{◌≡◌, ℕ, ◌-◌, ◌%◌, ◌==◌, ◌≤◌, Bool, true, false, not, bytes_eq, if◌then◌else◌, List, [], ◌∷◌, ◌++◌, length, slice_index_or, slice_set, Option, Some, None}
+use Rattle.std.specs.Prelude.{◌≡◌, ℕ, ◌-◌, ◌%◌, ◌==◌, Bool, true, false, not, bytes_eq, if◌then◌else◌, List, [], ◌∷◌, ◌++◌, length, slice_set, Option, Some, None}
 use Rattle.et_base.specs.declared.line.TraceLine.{TraceLine}
 use Rattle.et_text.specs.Rules.{has_begun, has_ended, interval, classes, methods, births, latest, newest_flush, is_final, awaited, last_dead, standing_flush, is_reported, has_class, has_method}
+use Rattle.et_text.specs.ByStanding.{reported_in}
 use Rattle.et_text.specs.NameSets.{Bytes, MethodKey, has_name, has_key, same_method}
 use Rattle.et_text.specs.declared.standing.Standing.{Standing}
 
@@ -10,25 +11,61 @@ abbrev pub last_due : ℕ → Option ℕ → ℕ
 last_due every None = 0
 last_due every (Some event) = if every == 0 then 0 else event - event % every
 
+-- WHAT THE LINES SAY, but for their names, for the deaths and for the end
+pub record Said : Type 0 where
+  pub begun : Bool
+  pub interval : ℕ
+  pub classes : ℕ
+  pub methods : ℕ
+  pub births : List ℕ
+  pub latest : ℕ
+  pub flushed : Option ℕ
+  pub is_last : Bool
+  pub last_due : ℕ
+  pub standing : Option ℕ
+  pub awaited : ℕ
+  pub last_dead : ℕ
+
+abbrev pub said : List TraceLine → Said
+said past = record {
+  begun = has_begun past;
+  interval = interval past;
+  classes = classes past;
+  methods = methods past;
+  births = births past;
+  latest = latest past;
+  flushed = newest_flush past;
+  is_last = is_final (interval past) (newest_flush past);
+  last_due = last_due (interval past) (newest_flush past);
+  standing = standing_flush past;
+  awaited = awaited past;
+  last_dead = last_dead past;
+}
+
+-- .. as it is kept
+abbrev pub kept : Standing → Said
+kept s = record {
+  begun = s.begun;
+  interval = s.interval;
+  classes = s.classes;
+  methods = s.methods;
+  births = s.births.items;
+  latest = s.latest;
+  flushed = s.flushed;
+  is_last = s.is_last;
+  last_due = s.last_due;
+  standing = if s.stands then s.flushed else None;
+  awaited = s.awaited;
+  last_dead = s.last_dead;
+}
+
 pub record StandsForLines (s : Standing) (past : List TraceLine) : Type 0 where
-  pub begun_is : s.begun ≡ has_begun past
+  pub said_is : kept s ≡ said past
   pub ended_is : s.ended ≡ has_ended past
-  pub interval_is : s.interval ≡ interval past
-  pub classes_is : s.classes ≡ classes past
-  pub methods_is : s.methods ≡ methods past
-  pub births_is : s.births.items ≡ births past
-  pub latest_is : s.latest ≡ latest past
-  pub flushed_is : s.flushed ≡ newest_flush past
-  pub is_last_is : s.is_last ≡ is_final (interval past) (newest_flush past)
-  pub last_due_is : s.last_due ≡ last_due (interval past) (newest_flush past)
-  pub stands_is : (if s.stands then s.flushed else None) ≡ standing_flush past
-  pub awaited_is : s.awaited ≡ awaited past
-  pub last_dead_is : s.last_dead ≡ last_dead past
   pub as_many : length s.reported.items ≡ length s.births.items
-  pub none_dead : is_reported past 0 ≡ false
+  pub reported_is : (o : ℕ) → reported_in s o ≡ is_reported past o
   pub class_names_are : (q : Bytes) → has_name s.class_names q ≡ has_class past q.items
   pub method_names_are : (q : MethodKey) → has_key s.method_names q ≡ has_method past q.0 q.1.items q.2.items
-  pub reported_is : (o : ℕ) → 1 ≤ o → slice_index_or s.reported.items (o - 1) false ≡ is_reported past o
 
 -- an object was made
 pub record NotesObject (old new : Standing) (event : ℕ) : Type 0 where
