@@ -4,10 +4,11 @@ use Rattle.std.proofs.lemmas.List.{length-set, length-append, get_or-set_same, g
 use Rattle.std.proofs.lemmas.Bool.{cases_eq, cases_lt}
 use Rattle.std.specs.Result.{OnOk, OnErr}
 use Rattle.et_base.proofs.Lists.{Contains-none}
-use Rattle.et_heap.specs.Objects.{ObjectState}
-use Rattle.et_heap.specs.Stored.{Stored, StoredPlaces, unlinked, as_stored, stored_in, stored_at, is_stored, IsStored, without_stored_at}
+use Rattle.et_heap.specs.Objects.{ObjectState, Objects, IsHeld}
+use Rattle.et_heap.specs.Stored.{Stored, StoredPlaces, unlinked, as_stored, stored_in, stored_at, is_stored, IsStored, without_stored_at, on_state, states_of}
 use Rattle.et_heap.specs.Links.{next_of, last_of, waiting_of, IsRing, StandOnce, AreLinked, stored_with}
 use Rattle.et_heap.proofs.Places.{there_below}
+use Rattle.et_heap.proofs.States.{there}
 use Rattle.et_heap.proofs.Ways.{ring-kept}
 
 pub at-changed : (f : Stored → Stored) (P : StoredPlaces) (o : ℕ) → IsStored P o → stored_at (stored_with f o P) o ≡ f (stored_at P o)
@@ -101,6 +102,12 @@ written-linked f P o there waiting waits last next linked =
       lists = λ q. inr (keeps (λ (x : Stored). x.state.waiting) f P o q there waiting, keeps (λ (x : Stored). x.last) f P o q there last);
       kept = λ u lt stands. (stood f P o u there stands, keeps (λ (x : Stored). x.next) f P o u there next, keeps (λ (x : Stored). x.state.waits) f P o u there waits);
     }) linked
+
+-- .. as a heap is seen
+pub written_seen : (f : ObjectState → ObjectState) (heap : Objects) (P T : StoredPlaces) (o : ℕ) → states_of P ≡ heap → IsHeld heap o → T ≡ stored_with (on_state f) o P → ((x : ObjectState) → (f x).waiting ≡ x.waiting) → ((x : ObjectState) → (f x).waits ≡ x.waits) → AreLinked P → AreLinked T
+written_seen f heap P T o view held is waiting waits linked =
+    subst AreLinked (sym is)
+    (written-linked (on_state f) P o (there heap P o view held) (λ x. waiting x.state) (λ x. waits x.state) (λ x. refl) (λ x. refl) linked)
 
 -- an object is taken out
 pub without-linked : (P : StoredPlaces) (o : ℕ) → IsStored P o → AreLinked P → AreLinked (without_stored_at P o)

@@ -165,19 +165,25 @@ once_appended P T q r new linked free u =
       | inr other ↦ subst StandOnce (sym (new.others u other).0) (linked.once u)
     ]
 
+-- the ring of an object whose list stays as it is
+ring_elsewhere : (P T : StoredPlaces) (q u : ℕ) → AreLinked P → AllStand P q → (u ≡ q → ⊥)
+    → (waiting_of T u ≡ waiting_of P u) × (last_of T u ≡ last_of P u) → ((o : ℕ) → IsStored T o → IsStored P o)
+    → ((o : ℕ) → Contains (waiting_of P u) o → (last_of P q ≡ Some o → ⊥) → next_of T o ≡ next_of P o)
+    → AllStand T u → IsRing (next_of T) (last_of T u) (waiting_of T u)
+ring_elsewhere P T q u linked whole other as_before stands next all =
+    let before : AllStand P u = λ o c. stands o (all o (subst (λ (rs : List ℕ). Contains rs o) (sym as_before.0) c)) in
+    ring-at (next_of T) (last_of P u) (last_of T u) (waiting_of P u) (waiting_of T u) (sym as_before.1) (sym as_before.0)
+    (ring-kept (next_of P) (next_of T) (last_of P u) (waiting_of P u)
+    (λ o c. next o c (λ l. other (linked.apart u q o c (last-waits P q o linked whole l))))
+    (linked.rings u before))
+
 ring_appended : (P T : StoredPlaces) (q r : ℕ) → IsAppended P T q r → AreLinked P → AllStand P q → ((u : ℕ) → Contains (waiting_of P u) r → ⊥) → (u : ℕ) → AllStand T u → IsRing (next_of T) (last_of T u) (waiting_of T u)
 ring_appended P T q r new linked whole free u all =
     elim (cases_eq u q) [
       | inl e ↦ ring-at (next_of T) (Some r) (last_of T u) (waiting_of P q ++ r ∷ []) (waiting_of T u) (sym (ap (last_of T) e ∙ new.last)) (sym (ap (waiting_of T) e ∙ new.more)) new.ring
       | inr other ↦
-          let as-before = new.others u other in
-          let before : AllStand P u = λ o c. new.stands o (all o (subst (λ (rs : List ℕ). Contains rs o) (sym as-before.0) c)) in
-          ring-at (next_of T) (last_of P u) (last_of T u) (waiting_of P u) (waiting_of T u) (sym as-before.1) (sym as-before.0)
-          (ring-kept (next_of P) (next_of T) (last_of P u) (waiting_of P u)
-          (λ o c. new.next o
-          (λ e. free u (subst (λ (x : ℕ). Contains (waiting_of P u) x) e c))
-          (λ l. other (linked.apart u q o c (last-waits P q o linked whole l))))
-          (linked.rings u before))
+          ring_elsewhere P T q u linked whole other (new.others u other) new.stands
+          (λ o c. new.next o (λ e. free u (subst (λ (x : ℕ). Contains (waiting_of P u) x) e c))) all
     ]
 
 appended-linked : (P T : StoredPlaces) (q r : ℕ) → IsAppended P T q r → AreLinked P → AllStand P q → IsStored P r → ((u : ℕ) → Contains (waiting_of P u) r → ⊥) → AreLinked T
@@ -338,14 +344,9 @@ ring_shortened P T q w n rest new linked whole is once u all =
     elim (cases_eq u q) [
       | inl e ↦ ring-at (next_of T) n (last_of T u) rest (waiting_of T u) (sym (ap (last_of T) e ∙ new.last)) (sym (ap (waiting_of T) e ∙ new.fewer)) new.ring
       | inr other ↦
-          let as-before = new.others u other in
-          let before : AllStand P u = λ o c. new.stands o (all o (subst (λ (rs : List ℕ). Contains rs o) (sym as-before.0) c)) in
-          ring-at (next_of T) (last_of P u) (last_of T u) (waiting_of P u) (waiting_of T u) (sym as-before.1) (sym as-before.0)
-          (ring-kept (next_of P) (next_of T) (last_of P u) (waiting_of P u)
-          (λ o c. new.next o
-          (shortened_who P T q w n rest new linked is once u o (subst (λ (rs : List ℕ). Contains rs o) (sym as-before.0) c)).1
-          (λ l. other (linked.apart u q o c (last-waits P q o linked whole l))))
-          (linked.rings u before))
+          let same = new.others u other in
+          ring_elsewhere P T q u linked whole other same new.stands
+          (λ o c. new.next o (shortened_who P T q w n rest new linked is once u o (subst (λ (rs : List ℕ). Contains rs o) (sym same.0) c)).1) all
     ]
 
 shortened-linked : (P T : StoredPlaces) (q w : ℕ) (n : Option ℕ) (rest : List ℕ) → IsShortened P T q w n rest → AreLinked P → AllStand P q → waiting_of P q ≡ w ∷ rest → StandOnce (w ∷ rest) → AreLinked T

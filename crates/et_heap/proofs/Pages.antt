@@ -28,8 +28,8 @@ pub kept-held : (kept : StoredPlaces) (j : ℕ) → IsStored (places_of kept) j 
 kept-held [] j held = absurd (empty_places-none j held)
 kept-held (x ∷ xs) j held = (refl, there_below (x ∷ xs) j held)
 
-pub kept-within : (page kept : StoredPlaces) (j : ℕ) → places_of kept ≡ page → IsStored page j → j < length kept
-kept-within page kept j view held = (kept-held kept j (subst (λ h. IsStored h j) (sym view) held)).1
+pub kept_within : (page kept : StoredPlaces) (j : ℕ) → places_of kept ≡ page → IsStored page j → j < length kept
+kept_within page kept j view held = (kept-held kept j (subst (λ h. IsStored h j) (sym view) held)).1
 
 place_read : (page kept : StoredPlaces) (j : ℕ) (p : Option Stored) → places_of kept ≡ page → IsStored page j → p ≡ get_or kept j p → p ≡ stored_in page j
 place_read page kept j p view held is =
@@ -37,11 +37,11 @@ place_read page kept j p view held is =
     is ∙ (get_or_default kept j p None k.1 ∙ (ap (λ h. stored_in h j) (sym k.0) ∙ ap (λ h. stored_in h j) view))
 
 -- what stands at the place of an object is that object
-pub kept-found : (page kept : StoredPlaces) (j : ℕ) (p : Option Stored) → places_of kept ≡ page → IsStored page j → p ≡ get_or kept j p → as_stored p ≡ stored_at page j
-kept-found page kept j p view held is = ap as_stored (place_read page kept j p view held is)
+pub kept_found : (page kept : StoredPlaces) (j : ℕ) (p : Option Stored) → places_of kept ≡ page → IsStored page j → p ≡ get_or kept j p → as_stored p ≡ stored_at page j
+kept_found page kept j p view held is = ap as_stored (place_read page kept j p view held is)
 
-pub kept-stands : (page kept : StoredPlaces) (j : ℕ) (p : Option Stored) → places_of kept ≡ page → IsStored page j → p ≡ get_or kept j p → is_stored p
-kept-stands page kept j p view held is = subst is_stored (sym (place_read page kept j p view held is)) held
+pub kept_stands : (page kept : StoredPlaces) (j : ℕ) (p : Option Stored) → places_of kept ≡ page → IsStored page j → p ≡ get_or kept j p → is_stored p
+kept_stands page kept j p view held is = subst is_stored (sym (place_read page kept j p view held is)) held
 
 some_stored : (p : Option Stored) → is_stored p → p ≡ Some (as_stored p)
 some_stored None held = absurd held
@@ -58,7 +58,7 @@ set-places_of (x ∷ xs) (suc j) y some = refl
 -- writing in the list writes at the place
 kept-written : (page kept : StoredPlaces) (j : ℕ) (y : Option Stored) → places_of kept ≡ page → IsStored page j → places_of (set kept j y) ≡ set page j y
 kept-written page kept j y view held =
-    let lt = kept-within page kept j view held in
+    let lt = kept_within page kept j view held in
     set-places_of kept j y (omega arith) ∙ ap (λ h. set h j y) view
 
 pub stored_count-zero : (xs : StoredPlaces) → stored_count xs ≡ 0 → xs ≡ replicate (length xs) None
@@ -84,8 +84,8 @@ pub kept-emptied : (page kept : StoredPlaces) (j : ℕ) (q : Option Stored) → 
 kept-emptied page kept j q view held gone = kept-written page kept j q view held ∙ ap (set page j) gone
 
 -- changing what stands in the list changes it at the place
-pub kept-changed : (page kept : StoredPlaces) (j : ℕ) (p q : Option Stored) (f : Stored → Stored) → places_of kept ≡ page → IsStored page j → p ≡ get_or kept j p → q ≡ Some (f (as_stored p)) → places_of (set kept j q) ≡ stored_with f j page
-kept-changed page kept j p q f view held is changed =
+pub kept_changed : (page kept : StoredPlaces) (j : ℕ) (p q : Option Stored) (f : Stored → Stored) → places_of kept ≡ page → IsStored page j → p ≡ get_or kept j p → q ≡ Some (f (as_stored p)) → places_of (set kept j q) ≡ stored_with f j page
+kept_changed page kept j p q f view held is changed =
     kept-written page kept j q view held ∙ ap (set page j) (changed ∙ ap (λ y. Some (f (as_stored y))) (place_read page kept j p view held is))
 
 -- one object fewer

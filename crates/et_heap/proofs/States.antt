@@ -4,7 +4,7 @@ use Rattle.std.proofs.lemmas.List.{length-map, map-set, map_push}
 use Rattle.std.proofs.lemmas.List.Sums.{sum_by-cons}
 use Rattle.et_heap.specs.Objects.{ObjectState, Objects, at, found, object_at, is_there, IsHeld, IsNextHeld, slots_in, slot_count, ones_in, held_count, referents_in, referent_count, has_room, most_objects, most_slots}
 use Rattle.et_heap.specs.Queues.{changed_at, IsWhole}
-use Rattle.et_heap.specs.Stored.{Stored, StoredPlaces, as_stored, stored_in, stored_at, is_stored, IsStored, IsNextStored, slots_stored, stored_slots, ones_stored, stored_count, referents_stored, stored_referents, has_stored_room, state_in, states_of}
+use Rattle.et_heap.specs.Stored.{Stored, StoredPlaces, as_stored, stored_in, stored_at, is_stored, IsStored, IsNextStored, slots_stored, stored_slots, ones_stored, stored_count, referents_stored, stored_referents, has_stored_room, state_in, states_of, on_state, unlinked}
 use Rattle.et_heap.specs.Links.{AllStand, stored_with}
 
 at_shown : (xs : StoredPlaces) (o : ℕ) → at (states_of xs) o ≡ state_in (stored_in xs o)
@@ -75,6 +75,14 @@ pub all-there : (heap : Objects) (P : StoredPlaces) (o : ℕ) → states_of P �
 all-there heap P o view whole r c =
     there heap P r view (whole r (subst (λ (x : ObjectState). Contains x.waiting r) (shows heap P o view) c))
 
+-- what is changed of what is kept is changed of what is seen
+pub shown_written : (f : ObjectState → ObjectState) (heap : Objects) (P T : StoredPlaces) (o : ℕ) → states_of P ≡ heap → T ≡ stored_with (on_state f) o P → states_of T ≡ changed_at f o heap
+shown_written f heap P T o view is = ap states_of is ∙ (changed-shown f (on_state f) P o (λ x. refl) ∙ ap (changed_at f o) view)
+
+-- an object that is put behind what is kept is put behind what is seen
+pub shown_made : (x : ObjectState) (heap : Objects) (P T : StoredPlaces) → states_of P ≡ heap → T ≡ P ++ Some (unlinked x) ∷ [] → states_of T ≡ heap ++ Some x ∷ []
+shown_made x heap P T view is = ap states_of is ∙ (push-shown P (Some (unlinked x)) ∙ ap (λ (h : Objects). h ++ Some x ∷ []) view)
+
 -- COUNTS
 
 pub slots-shown : (xs : StoredPlaces) → slot_count (states_of xs) ≡ stored_slots xs
@@ -99,3 +107,7 @@ pub room-shown : (xs : StoredPlaces) (n s : ℕ) → has_room (states_of xs) n s
 room-shown xs n s =
     ap (λ (k : ℕ). nat_le (k - 1 + n) most_objects && nat_le (slot_count (states_of xs) + s) most_slots) (length-shown xs)
     ∙ ap (λ (k : ℕ). nat_le (length xs - 1 + n) most_objects && nat_le (k + s) most_slots) (slots-shown xs)
+
+-- there is as much room as is seen
+pub room_seen : (heap : Objects) (P : StoredPlaces) (n s : ℕ) → states_of P ≡ heap → has_room heap n s ≡ has_stored_room P n s
+room_seen heap P n s view = ap (λ (h : Objects). has_room h n s) (sym view) ∙ room-shown P n s

@@ -93,6 +93,7 @@ impl Page {
     }
 
     /// Writes a slot of an object, and answers what stood there.
+    #[tactic(auto, using(crate::proofs::Pages::kept_within, crate::proofs::Pages::kept_stands))]
     #[inline]
     pub fn set_slot(&mut self, place: usize, i: u32, v: Value) -> Value
         requires held { IsStored self.old place }
@@ -105,6 +106,7 @@ impl Page {
     }
 
     /// Writes the referent of an object, and answers the one before.
+    #[tactic(auto, using(crate::proofs::Pages::kept_within, crate::proofs::Pages::kept_stands))]
     pub fn set_referent(&mut self, place: usize, v: Value) -> Value
         requires { IsStored self.old place }
         ensures old { result ≡ referent_value (stored_at self.old place).state.referent }
@@ -116,6 +118,7 @@ impl Page {
     }
 
     /// Writes the queue of an object, and answers the one before.
+    #[tactic(auto, using(crate::proofs::Pages::kept_within, crate::proofs::Pages::kept_stands))]
     pub fn set_queue(&mut self, place: usize, v: Value) -> Value
         requires { IsStored self.old place }
         ensures old { result ≡ referent_value (stored_at self.old place).state.queue }
@@ -127,6 +130,7 @@ impl Page {
     }
 
     /// Writes the monitor of an object, and answers the one before.
+    #[tactic(auto, using(crate::proofs::Pages::kept_within, crate::proofs::Pages::kept_stands))]
     pub fn set_monitor(&mut self, place: usize, m: Monitor) -> Monitor
         requires { IsStored self.old place }
         ensures old { result ≡ (stored_at self.old place).state.monitor }
@@ -137,6 +141,7 @@ impl Page {
     }
 
     /// Writes the reference behind an object; it waits exactly where there is one.
+    #[tactic(auto, using(crate::proofs::Pages::kept_within, crate::proofs::Pages::kept_stands))]
     pub fn set_next(&mut self, place: usize, next: Option<ObjectId>)
         requires { IsStored self.old place }
         ensures { self.new ≡ stored_with (with_next next) place self.old }
@@ -146,6 +151,7 @@ impl Page {
     }
 
     /// Makes a reference the last of those that wait in an object.
+    #[tactic(auto, using(crate::proofs::Pages::kept_within, crate::proofs::Pages::kept_stands))]
     pub fn push_last(&mut self, place: usize, reference: ObjectId)
         requires { IsStored self.old place }
         ensures { self.new ≡ stored_with (with_last reference) place self.old }
@@ -155,6 +161,7 @@ impl Page {
     }
 
     /// Forgets the first of those that wait in an object. The last one is given: it is none where none is left.
+    #[tactic(auto, using(crate::proofs::Pages::kept_within, crate::proofs::Pages::kept_stands))]
     pub fn drop_first(&mut self, place: usize, last: Option<ObjectId>)
         requires { IsStored self.old place }
         ensures { self.new ≡ stored_with (without_first last) place self.old }

@@ -1,9 +1,9 @@
-use Rattle.std.proofs.Common.{◌≡◌, ◌++◌, ◌∷◌, [], Some, length, ap, subst, sym, refl, ◌∙◌}
+use Rattle.std.proofs.Common.{length, ap, subst, sym, refl, ◌∙◌}
 use Rattle.std.specs.Prelude.{IsTrue}
 use Rattle.std.proofs.lemmas.Result.{IfOk-weaker, on_ok_weaker, on_err_weaker}
-use Rattle.et_heap.specs.Objects.{new_object, has_room}
-use Rattle.et_heap.specs.Stored.{unlinked, states_of, has_stored_room}
-use Rattle.et_heap.proofs.States.{length-shown, push-shown, room-shown}
+use Rattle.et_heap.specs.Objects.{new_object}
+use Rattle.et_heap.specs.Stored.{states_of}
+use Rattle.et_heap.proofs.States.{length-shown, shown_made, room_seen}
 use Rattle.et_heap.proofs.Changes.{made-linked}
 use Rattle.et_heap.proofs.heap.Heap.make_object.Goals as goal
 
@@ -11,19 +11,14 @@ pub returns-clause-number : goal.returns-clause-number
 returns-clause-number c = IfOk-weaker c.make.result _ _ (λ o e. e ∙ (sym (length-shown c.self.inside.store) ∙ ap length c.self.view_is)) c.make.ensures.number
 
 pub returns-clause-new : goal.returns-clause-new
-returns-clause-new c =
-    on_ok_weaker c.make.result
-    (λ e. ap states_of e ∙ (push-shown c.self.inside.store (Some (unlinked (new_object c.args.class 0 c.args.slots))) ∙ ap (λ h. h ++ Some (new_object c.args.class 0 c.args.slots) ∷ []) c.self.view_is))
-    c.make.ensures.new
+returns-clause-new c = on_ok_weaker c.make.result (shown_made (new_object c.args.class 0 c.args.slots) _ _ _ c.self.view_is) c.make.ensures.new
 
 pub returns-clause-room : goal.returns-clause-room
-returns-clause-room c =
-    let same : has_room c.args.self.now 1 c.args.slots ≡ has_stored_room c.self.inside.store 1 c.args.slots = ap (λ h. has_room h 1 c.args.slots) (sym c.self.view_is) ∙ room-shown c.self.inside.store 1 c.args.slots in
-    on_ok_weaker c.make.result (subst (λ b. IsTrue b) (sym same)) c.make.ensures.room
+returns-clause-room c = on_ok_weaker c.make.result (subst (λ b. IsTrue b) (sym (room_seen _ _ 1 c.args.slots c.self.view_is))) c.make.ensures.room
 
 pub returns-clause-full : goal.returns-clause-full
 returns-clause-full c =
-    let same : has_room c.args.self.now 1 c.args.slots ≡ has_stored_room c.self.inside.store 1 c.args.slots = ap (λ h. has_room h 1 c.args.slots) (sym c.self.view_is) ∙ room-shown c.self.inside.store 1 c.args.slots in
+    let same = room_seen _ _ 1 c.args.slots c.self.view_is in
     (λ e. same ∙ c.make.ensures.full.0 e, λ e. c.make.ensures.full.1 (sym same ∙ e))
 
 pub returns-clause-err : goal.returns-clause-err

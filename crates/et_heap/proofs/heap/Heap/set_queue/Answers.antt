@@ -1,10 +1,7 @@
-use Rattle.std.proofs.Common.{refl, ap, subst, sym, ◌∙◌}
+use Rattle.std.proofs.Common.{refl, ap, ◌∙◌}
 use Rattle.et_heap.specs.Objects.{with_queue, referent_of, referent_value}
-use Rattle.et_heap.specs.Queues.{changed_at}
-use Rattle.et_heap.specs.Stored.{on_state, states_of}
-use Rattle.et_heap.specs.Links.{AreLinked}
-use Rattle.et_heap.proofs.States.{there, shows, changed-shown}
-use Rattle.et_heap.proofs.Changes.{written-linked}
+use Rattle.et_heap.proofs.States.{there, shows, shown_written}
+use Rattle.et_heap.proofs.Changes.{written_seen}
 use Rattle.et_heap.proofs.heap.Heap.set_queue.Goals as goal
 
 pub set_queue-requires : goal.set_queue-requires
@@ -14,10 +11,7 @@ pub returns-clause-old : goal.returns-clause-old
 returns-clause-old g c = c.set_queue.ensures.old ∙ ap (λ x. referent_value x.queue) (shows _ _ c.args.o c.self.view_is)
 
 pub returns-clause-new : goal.returns-clause-new
-returns-clause-new g c =
-    ap states_of c.set_queue.ensures.new ∙ (changed-shown (with_queue (referent_of c.args.v)) (on_state (with_queue (referent_of c.args.v))) c.self.inside.store c.args.o (λ x. refl) ∙ ap (changed_at (with_queue (referent_of c.args.v)) c.args.o) c.self.view_is)
+returns-clause-new g c = shown_written (with_queue (referent_of c.args.v)) _ _ _ c.args.o c.self.view_is c.set_queue.ensures.new
 
 pub invariant_of-self : goal.invariant_of-self
-invariant_of-self g c =
-    subst AreLinked (sym c.set_queue.ensures.new)
-    (written-linked (on_state (with_queue (referent_of c.args.v))) c.self.inside.store c.args.o (there _ _ _ c.self.view_is c.requires) (λ x. refl) (λ x. refl) (λ x. refl) (λ x. refl) c.self.invariant)
+invariant_of-self g c = written_seen (with_queue (referent_of c.args.v)) _ _ _ c.args.o c.self.view_is c.requires c.set_queue.ensures.new (λ x. refl) (λ x. refl) c.self.invariant

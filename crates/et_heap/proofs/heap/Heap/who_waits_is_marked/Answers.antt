@@ -1,4 +1,4 @@
-use Rattle.std.proofs.Common.{◌≡◌, ℕ, true, Contains, sym, subst}
+use Rattle.std.proofs.Common.{◌≡◌, true, Contains, sym, subst}
 use Rattle.et_heap.specs.Objects.{ObjectState}
 use Rattle.et_heap.proofs.States.{there, shows}
 use Rattle.et_heap.proofs.heap.Heap.who_waits_is_marked.Goals as goal

@@ -1,19 +1,13 @@
-use Rattle.std.proofs.Common.{ap, ◌∙◌, arith}
+use Rattle.std.proofs.Common.{ap, ◌∙◌}
 use Rattle.et_heap.specs.Objects.{with_monitor}
 use Rattle.et_heap.specs.Stored.{on_state}
-use Rattle.et_heap.proofs.Pages.{kept-within, kept-found, kept-stands, kept-changed}
+use Rattle.et_heap.proofs.Pages.{kept_found, kept_changed}
 use Rattle.et_heap.proofs.page.Page.set_monitor.Goals as goal
-
-pub index_mut-object-requires : goal.index_mut-object-requires
-index_mut-object-requires c = omega (arith, c.self.inside.kept.ok.0, kept-within _ _ _ c.self.view_is c.requires)
-
-pub set_monitor-requires : goal.set_monitor-requires
-set_monitor-requires c = kept-stands _ _ _ _ c.self.view_is c.requires c.index_mut-object.ensures.value
 
 pub returns-clause-old : goal.returns-clause-old
 returns-clause-old c =
-    let is = kept-found _ _ _ _ c.self.view_is c.requires c.index_mut-object.ensures.value in
+    let is = kept_found _ _ _ _ c.self.view_is c.requires c.index_mut-object.ensures.value in
     c.set_monitor.ensures.old ∙ ap (λ x. x.state.monitor) is
 
 pub returns-clause-new : goal.returns-clause-new
-returns-clause-new c = kept-changed _ _ _ _ _ (on_state (with_monitor c.args.m)) c.self.view_is c.requires c.index_mut-object.ensures.value c.set_monitor.ensures.new
+returns-clause-new c = kept_changed _ _ _ _ _ (on_state (with_monitor c.args.m)) c.self.view_is c.requires c.index_mut-object.ensures.value c.set_monitor.ensures.new

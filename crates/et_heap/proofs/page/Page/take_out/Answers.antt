@@ -1,11 +1,11 @@
 use Rattle.std.proofs.Common.{ap, ◌∙◌, arith}
 use Rattle.et_heap.specs.Pages.{places_of}
-use Rattle.et_heap.proofs.Pages.{kept-within, kept-emptied, kept-fewer, kept-given_back}
+use Rattle.et_heap.proofs.Pages.{kept_within, kept-emptied, kept-fewer, kept-given_back}
 use Rattle.et_heap.proofs.page.Page.take_out.Goals as goal
 use Rattle.et_heap.proofs.page.Page.take_out.Goals.{else-self-eq0-via-then-self-eq0+else-len-eq-PAGE_SIZE, else-self-eq0-via-else-self-eq0}
 
 pub index_mut-object-requires : goal.index_mut-object-requires
-index_mut-object-requires c = omega (arith, c.self.inside.kept.ok.0, kept-within _ _ _ c.self.view_is c.requires)
+index_mut-object-requires c = omega (arith, c.self.inside.kept.ok.0, kept_within _ _ _ c.self.view_is c.requires)
 
 pub overflow_sub-self : goal.overflow_sub-self
 overflow_sub-self c = omega (arith, kept-fewer _ _ _ _ c.self.view_is c.requires c.take_out.ensures)

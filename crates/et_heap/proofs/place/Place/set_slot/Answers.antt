@@ -1,4 +1,3 @@
-use Rattle.std.proofs.Common.{sym}
 use Rattle.et_heap.proofs.References.{none_written, no_reference}
 use Rattle.et_heap.proofs.place.Place.set_slot.Goals as goal
 
