@@ -146,6 +146,14 @@ set_at count held i at was entry order lt is read =
 pub inserted_at : (count : ℕ) (held : List Held) (at : ℕ) (x : Held) → x.local < count → IsGapFor held x.local at → spread count (insert held at x) ≡ set (spread count held) x.local x.entry
 inserted_at count held at x lt gap = set_spread count held (insert held at x) x.local x.entry lt (inserted held x at (λ j less same. omega (arith, gap.before j less, same)))
 
+-- .. as the local variables are seen
+pub put_in_gap : (count : ℕ) (held seen now : List Held) (at : ℕ) (x : Held) (was : List EntryType) → spread count held ≡ was → AreHeld count held → seen ≡ held → IsGapFor seen x.local at → x.local < count → now ≡ insert held at x → AreHeld count now × (spread count now ≡ set was x.local x.entry)
+put_in_gap count held seen now at x was view kept same gap lt is =
+    let there : IsGapFor held x.local at = subst (λ (hs : List Held). IsGapFor hs x.local at) same gap in (
+      subst (λ (hs : List Held). AreHeld count hs) (sym is) (held_inserted count held at x kept there lt),
+      ap (spread count) is ∙ (inserted_at count held at x lt there ∙ ap (λ (xs : List EntryType). set xs x.local x.entry) view),
+    )
+
 -- TYPES ARE JOINED, those of the first places so far
 
 -- one of them changes

@@ -1,5 +1,5 @@
 -- Types that are kept in slots: what writing one does.
-use Rattle.std.proofs.Common.{◌≡◌, ℕ, zero, suc, ◌+◌, ◌<◌, ◌≤◌, List, [], ◌∷◌, ◌++◌, length, get_or, set, Option, Some, None, refl, sym, ◌∙◌, ap, subst, inl, inr, arith, get_or-set_same, get_or-set_other}
+use Rattle.std.proofs.Common.{◌≡◌, ℕ, zero, suc, ◌+◌, ◌-◌, ◌<◌, ◌≤◌, List, [], ◌∷◌, ◌++◌, length, get_or, set, Option, Some, None, refl, sym, ◌∙◌, ap, subst, inl, inr, arith, get_or-set_same, get_or-set_other}
 use Rattle.std.specs.List.{slice_get}
 use Rattle.std.proofs.lemmas.Bool.{cases_eq}
 use Rattle.std.proofs.lemmas.List.{length-map, length-set, get_or_read}
@@ -139,7 +139,7 @@ apart_within slots used count le a = record { there = λ place. omega (arith, le
 
 -- TYPES THAT JOIN with those in a slot
 
-abbrev IsShaped : TypesOf → TypesOf → Type 0
+abbrev pub IsShaped : TypesOf → TypesOf → Type 0
 IsShaped us ts = (us.operands ≡ ts.operands) × (length us.locals ≡ length ts.locals)
 
 pub same_shape : (found : List TypesOf) (k : ℕ) (us vs ts : TypesOf) → k < length found → us ≡ get_or found k us → vs ≡ get_or found k vs → IsShaped us ts → IsShaped vs ts
@@ -158,3 +158,44 @@ some_same ts us e = cc
 pub not_shaped : (us ts : TypesOf) (o : Option TypesOf) → o ≡ Some us → (IsShaped us ts → ⊥) → IsJoinable o ts → ⊥
 not_shaped us ts None e never joinable = absurd (cc e)
 not_shaped us ts (Some vs) e never joinable = never (subst (λ (x : TypesOf). IsShaped x ts) (some_same vs us e) joinable)
+
+-- THE SLOT OF A PLACE, as it was read
+
+pub slot_read : (states : List (Option TypesOf)) (found : List TypesOf) (slots : List ℕ) (place slot : ℕ) → shown found slots ≡ states → place < length states → slot ≡ get_or slots place slot → slot ≡ slot_at slots place
+slot_read states found slots place slot view lt read = get_or_read slots place slot (omega (arith, lt, ap length view, long_shown found slots)) read 0
+
+-- .. is taken
+pub record IsTaken (found : List TypesOf) (slots : List ℕ) (place slot : ℕ) : Type 0 where
+  pub inside : place < length slots
+  pub there : slot_at slots place ≡ suc (slot - 1)
+  pub within : slot - 1 < length found
+
+pub slot_taken : (states : List (Option TypesOf)) (found : List TypesOf) (slots : List ℕ) (used place slot : ℕ) → shown found slots ≡ states → AreApart slots used × (used ≤ length found) → place < length states → slot ≡ get_or slots place slot → 0 < slot → IsTaken found slots place slot
+slot_taken states found slots used place slot view kept lt read some =
+    let is : slot ≡ slot_at slots place = slot_read states found slots place slot view lt read in
+    record {
+      inside = omega (arith, lt, ap length view, long_shown found slots);
+      there = omega (arith, is, some);
+      within = omega (arith, is, some, kept.0.there place, kept.1);
+    }
+
+pub taken_types : (states : List (Option TypesOf)) (found : List TypesOf) (slots : List ℕ) (place slot : ℕ) (us : TypesOf) → shown found slots ≡ states → IsTaken found slots place slot → us ≡ get_or found (slot - 1) us → types_at states place ≡ Some us
+taken_types states found slots place slot us view taken read =
+    subst (λ (xs : List (Option TypesOf)). types_at xs place ≡ Some us) view (taken_in found slots place (slot - 1) us taken.there taken.within (sym read))
+
+-- .. and other types joined those that are kept in it
+pub record IsJoinedIn (states : List (Option TypesOf)) (found : List TypesOf) (slots : List ℕ) (place slot : ℕ) (us ts vs : TypesOf) : Type 0 where
+  pub there : types_at states place ≡ Some us
+  pub shape : IsShaped us ts
+  pub new : vs ≡ joined_with (Some us) ts
+  pub shown_now : shown (set found (slot - 1) vs) slots ≡ set states place (Some vs)
+
+pub types_joined : (states : List (Option TypesOf)) (found : List TypesOf) (slots : List ℕ) (used place slot : ℕ) (us ts vs : TypesOf) → shown found slots ≡ states → AreApart slots used × (used ≤ length found) → IsTaken found slots place slot → us ≡ get_or found (slot - 1) us → IsShaped us ts → vs.operands ≡ us.operands → vs.locals ≡ joined_lists us.locals ts.locals → IsJoinedIn states found slots place slot us ts vs
+types_joined states found slots used place slot us ts vs view kept taken read shape operands locals = record {
+  there = taken_types states found slots place slot us view taken read;
+  shape = shape;
+  new = both_joined us ts vs operands locals;
+  shown_now =
+      change_in found slots place (slot - 1) vs taken.inside taken.there (apart_within slots used (length found) kept.1 kept.0)
+      ∙ ap (λ (xs : List (Option TypesOf)). set xs place (Some vs)) view;
+}

@@ -94,6 +94,12 @@ kept_there xs first last j lt =
 pub length-kept : (xs : List EntryType) (first last : ℕ) → length (without_upper last (without_lower first xs)) ≡ length xs
 length-kept xs first last = length-upper last (without_lower first xs) ∙ length-lower first xs
 
+-- .. after the two writes that keep them
+pub both_cut : (first last : ℕ) (was mid now : List EntryType) → mid ≡ without_lower first was → now ≡ without_upper last mid → (now ≡ without_upper last (without_lower first was)) × (length now ≡ length was)
+both_cut first last was mid now lower upper =
+    let is : now ≡ without_upper last (without_lower first was) = upper ∙ ap (without_upper last) lower in
+    (is, ap length is ∙ length-kept was first last)
+
 kept_lists : (xs ys : List EntryType) (first last : ℕ) → AreBelow xs ys → AreBelow (without_upper last (without_lower first xs)) (without_upper last (without_lower first ys))
 kept_lists xs ys first last h = record {
   long = length-kept xs first last ∙ (h.long ∙ sym (length-kept ys first last));

@@ -64,6 +64,12 @@ pub record IsStraight (leads : ℕ → TypesOf → Option LeadOf) (straight : �
   pub forward : (pc : ℕ) (ts : TypesOf) (l : LeadOf) (q : ℕ) → leads pc ts ≡ Some l → Contains l.nexts q → straight q ≡ true → pc < q
   pub alone : (pc kc : ℕ) (ts us : TypesOf) (l m : LeadOf) (q : ℕ) → leads pc ts ≡ Some l → leads kc us ≡ Some m → Contains l.nexts q → Contains m.nexts q → straight q ≡ true → pc ≡ kc
 
+-- CODE OF SO MANY PLACES that a search can follow
+pub record IsFollowable (count : ℕ) (leads : ℕ → TypesOf → Option LeadOf) (goes_straight : ℕ → Bool) : Type 0 where
+  pub within : IsWithin count leads
+  pub monotone : IsMonotone leads
+  pub straight : IsStraight leads goes_straight
+
 -- WHERE AN INSTRUCTION LEADS, as it is answered: the types became those after it
 
 -- a place, or none

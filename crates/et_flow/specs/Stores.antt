@@ -9,33 +9,26 @@ use Rattle.et_flow.specs.declared.types.EntryType.TheVariants.{Free, Int, Long, 
 abbrev pub with_free : ℕ → List EntryType → List EntryType
 with_free count entries = entries ++ replicate (count - length entries) Free
 
-abbrev pub is_long : EntryType → Bool
-is_long Free = false
-is_long Int = false
-is_long Long = true
-is_long LongHigh = false
-is_long Reference = false
-
-abbrev pub is_high : EntryType → Bool
-is_high Free = false
-is_high Int = false
-is_high Long = false
-is_high LongHigh = true
-is_high Reference = false
+-- the types are the same
+abbrev pub is_type : EntryType → EntryType → Bool
+is_type Free Free = true
+is_type Int Int = true
+is_type Long Long = true
+is_type LongHigh LongHigh = true
+is_type Reference Reference = true
+is_type a b = false
 
 abbrev pub is_int : EntryType → Bool
-is_int Free = false
-is_int Int = true
-is_int Long = false
-is_int LongHigh = false
-is_int Reference = false
+is_int t = is_type Int t
+
+abbrev pub is_long : EntryType → Bool
+is_long t = is_type Long t
+
+abbrev pub is_high : EntryType → Bool
+is_high t = is_type LongHigh t
 
 abbrev pub is_reference : EntryType → Bool
-is_reference Free = false
-is_reference Int = false
-is_reference Long = false
-is_reference LongHigh = false
-is_reference Reference = true
+is_reference t = is_type Reference t
 
 abbrev pub local_type : List EntryType → ℕ → EntryType
 local_type locals i = slice_index_or locals i Free

@@ -2,7 +2,7 @@
 
 ghost use Rattle.std.specs.Prelude.{◌≡◌, ℕ, ◌+◌, ◌*◌, ◌<◌, ◌≤◌, ◌^◌, [], ◌∷◌, ◌++◌, true, false, Bool, length, Option, None, Contains, IfOk, IfSome, vec_len};
 ghost use Rattle.et_flow.specs.Types.{TypesOf};
-ghost use Rattle.et_flow.specs.Flows.{LeadOf, Typing, HasTyping, IsMonotone, IsWithin, IsStraight, IsLed, heights, HasLocals, IsJoinable, types_at};
+ghost use Rattle.et_flow.specs.Flows.{LeadOf, Typing, HasTyping, IsFollowable, IsLed, heights, HasLocals, IsJoinable, types_at};
 ghost use Rattle.et_flow.specs.Searching.{HasJoined, HaveLocals, IsUnder, AreThere, Joins, Searches, AreKept};
 
 use crate::states::{Joined, States};
@@ -40,16 +40,16 @@ impl Lead {
 /// Code, of which is told where its instructions lead.
 pub trait Flow {
     /// Where the instruction at a place leads from types; `None` where there is none, or it doesn't accept them.
-    ghost leads: { ℕ → Self → TypesOf → Option LeadOf };
+    ghost leads: { Self → ℕ → TypesOf → Option LeadOf };
 
     /// Whether one instruction alone leads to a place, which stands before it.
-    ghost straight: { ℕ → Self → Bool };
+    ghost straight: { Self → ℕ → Bool };
 
     /// Tells where the instruction at a place leads from types, which become those after it. `false` where there is none, or it
     /// doesn't accept them; the types are of no use then.
     fn lead(&self, place: u32, types: &mut Types, lead: &mut Lead) -> Result<bool, NoMemory>
-        ensures { IfOk result (λ b. IsLed (λ q. straight q self.now) b lead.new types.new
-            (leads place self.now types.old)) };
+        ensures { IfOk result (λ b. IsLed (straight self.now) b lead.new types.new
+            (leads self.now place types.old)) };
 }
 
 /// Joins types with what was found at a place, and notes the place where that changed. It answers `false` where the place has
@@ -117,27 +117,25 @@ fn follow<F: Flow>(
     lead: &mut Lead,
 ) -> Result<bool, NoMemory>
     requires place { place < length states.old }
-    requires kept { F.straight place flow.now ≡ false }
-    requires noted { AreKept (λ q. F.straight q flow.now) (length states.old) work.old.items }
-    requires within { IsWithin (length states.old) (λ pc ts. F.leads pc flow.now ts) }
-    requires monotone { IsMonotone (λ pc ts. F.leads pc flow.now ts) }
-    requires straight { IsStraight (λ pc ts. F.leads pc flow.now ts) (λ q. F.straight q flow.now) }
+    requires kept { F.straight flow.now place ≡ false }
+    requires noted { AreKept (F.straight flow.now) (length states.old) work.old.items }
+    requires code { IsFollowable (length states.old) (F.leads flow.now) (F.straight flow.now) }
     ensures followed { IfOk result (λ b. b ≡ true → (entry : TypesOf) (locals : ℕ) →
-        Searches (λ pc ts. F.leads pc flow.now ts) (λ q. F.straight q flow.now) entry locals
+        Searches (F.leads flow.now) (F.straight flow.now) entry locals
         states.old (work.old.items ++ place ∷ []) →
-        Searches (λ pc ts. F.leads pc flow.now ts) (λ q. F.straight q flow.now) entry locals
+        Searches (F.leads flow.now) (F.straight flow.now) entry locals
         states.new work.new.items
         × (2 * heights locals states.new + vec_len work.new
         ≤ 2 * heights locals states.old + vec_len work.old)) }
     ensures none { IfOk result (λ b. b ≡ false → (entry : TypesOf) (locals : ℕ) →
-        Searches (λ pc ts. F.leads pc flow.now ts) (λ q. F.straight q flow.now) entry locals
+        Searches (F.leads flow.now) (F.straight flow.now) entry locals
         states.old (work.old.items ++ place ∷ []) →
-        HasTyping (λ pc ts. F.leads pc flow.now ts) entry → ⊥) }
+        HasTyping (F.leads flow.now) entry → ⊥) }
     ensures long { IfOk result (λ b. length states.new ≡ length states.old) }
     ensures noted { IfOk result (λ b. b ≡ true → (entry : TypesOf) (locals : ℕ) →
-        Searches (λ pc ts. F.leads pc flow.now ts) (λ q. F.straight q flow.now) entry locals
+        Searches (F.leads flow.now) (F.straight flow.now) entry locals
         states.old (work.old.items ++ place ∷ []) →
-        AreKept (λ q. F.straight q flow.now) (length states.old) work.new.items) }
+        AreKept (F.straight flow.now) (length states.old) work.new.items) }
 {
     if !states.read(place, types)? {
         return Ok(true);
@@ -194,13 +192,11 @@ fn search_all<F: Flow>(
     requires few { length states.old < 2 ^ 32 }
     requires none { (pc : ℕ) → types_at states.old pc ≡ None }
     requires idle { work.old.items ≡ [] }
-    requires within { IsWithin (length states.old) (λ pc ts. F.leads pc flow.now ts) }
-    requires monotone { IsMonotone (λ pc ts. F.leads pc flow.now ts) }
-    requires straight { IsStraight (λ pc ts. F.leads pc flow.now ts) (λ q. F.straight q flow.now) }
+    requires code { IsFollowable (length states.old) (F.leads flow.now) (F.straight flow.now) }
     ensures found { IfOk result (λ b.
-        b ≡ true → HasTyping (λ pc ts. F.leads pc flow.now ts) entry.now) }
+        b ≡ true → HasTyping (F.leads flow.now) entry.now) }
     ensures none { IfOk result (λ b.
-        b ≡ false → HasTyping (λ pc ts. F.leads pc flow.now ts) entry.now → ⊥) }
+        b ≡ false → HasTyping (F.leads flow.now) entry.now → ⊥) }
 {
     if !join_at(alloc, states, work, 0, entry)? {
         return Ok(false);
@@ -223,13 +219,11 @@ pub fn find_typing<F: Flow>(
 ) -> Result<bool, NoMemory>
     requires some { 0 < count }
     requires few { count < 2 ^ 32 }
-    requires within { IsWithin count (λ pc ts. F.leads pc flow.now ts) }
-    requires monotone { IsMonotone (λ pc ts. F.leads pc flow.now ts) }
-    requires straight { IsStraight (λ pc ts. F.leads pc flow.now ts) (λ q. F.straight q flow.now) }
+    requires code { IsFollowable count (F.leads flow.now) (F.straight flow.now) }
     ensures found { IfOk result (λ b.
-        b ≡ true → HasTyping (λ pc ts. F.leads pc flow.now ts) entry.now) }
+        b ≡ true → HasTyping (F.leads flow.now) entry.now) }
     ensures none { IfOk result (λ b.
-        b ≡ false → HasTyping (λ pc ts. F.leads pc flow.now ts) entry.now → ⊥) }
+        b ≡ false → HasTyping (F.leads flow.now) entry.now → ⊥) }
 {
     search.states.begin(count)?;
     search.work.clear();

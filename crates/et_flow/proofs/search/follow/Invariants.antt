@@ -11,14 +11,14 @@ abbrev pub invariant-run : goal.invariant-run
 invariant-run g l = record {
   long : length l.states ≡ length l.fn.states;
   runs : (entry : TypesOf) (locals : ℕ) →
-      Searches (λ pc ts. g.F.Flow.leads pc l.flow ts) (λ q. g.F.Flow.straight q l.flow) entry locals l.fn.states (l.fn.work.items ++ l.place ∷ []) →
-      IsRunning (λ pc ts. g.F.Flow.leads pc l.flow ts) (λ q. g.F.Flow.straight q l.flow) entry locals l.states l.work.items l.types l.next;
+      Searches (g.F.Flow.leads l.flow) (g.F.Flow.straight l.flow) entry locals l.fn.states (l.fn.work.items ++ l.place ∷ []) →
+      IsRunning (g.F.Flow.leads l.flow) (g.F.Flow.straight l.flow) entry locals l.states l.work.items l.types l.next;
   falls : (entry : TypesOf) (locals : ℕ) →
-      Searches (λ pc ts. g.F.Flow.leads pc l.flow ts) (λ q. g.F.Flow.straight q l.flow) entry locals l.fn.states (l.fn.work.items ++ l.place ∷ []) →
+      Searches (g.F.Flow.leads l.flow) (g.F.Flow.straight l.flow) entry locals l.fn.states (l.fn.work.items ++ l.place ∷ []) →
       2 * heights locals l.states + vec_len l.work ≤ 2 * heights locals l.fn.states + vec_len l.fn.work;
   noted : (entry : TypesOf) (locals : ℕ) →
-      Searches (λ pc ts. g.F.Flow.leads pc l.flow ts) (λ q. g.F.Flow.straight q l.flow) entry locals l.fn.states (l.fn.work.items ++ l.place ∷ []) →
-      AreKept (λ q. g.F.Flow.straight q l.flow) (length l.fn.states) l.work.items;
+      Searches (g.F.Flow.leads l.flow) (g.F.Flow.straight l.flow) entry locals l.fn.states (l.fn.work.items ++ l.place ∷ []) →
+      AreKept (g.F.Flow.straight l.flow) (length l.fn.states) l.work.items;
   inside : IfSome l.next (λ q. q < length l.fn.states);
 }
 

@@ -1,21 +1,19 @@
-use Rattle.std.proofs.Common.{◌≡◌, ℕ, ◌+◌, ◌*◌, ◌<◌, ◌≤◌, Bool, false, List, [], ◌∷◌, ◌++◌, length, Option, None, refl, sym, ◌∙◌, ap, subst, inl, inr, arith, vec_len, Contains}
+use Rattle.std.proofs.Common.{◌≡◌, ℕ, ◌+◌, ◌*◌, ◌<◌, ◌≤◌, Bool, false, List, [], ◌∷◌, ◌++◌, length, None, sym, ◌∙◌, ap, subst, inl, inr, arith, vec_len, Contains}
 use Rattle.std.proofs.lemmas.List.{length-append}
 use Rattle.std.proofs.lemmas.List.Elements.{Contains-push, Contains-append_left}
+use Rattle.et_base.proofs.Lists.{none_long}
 use Rattle.et_flow.specs.Types.{TypesOf}
-use Rattle.et_flow.specs.Flows.{LeadOf, heights}
+use Rattle.et_flow.specs.Flows.{heights}
 use Rattle.et_flow.specs.Searching.{HasJoined, Searches}
 use Rattle.et_flow.proofs.Places.{joined_among}
 use Rattle.et_flow.proofs.Rounds.{first_found, all_found}
+use Rattle.et_flow.proofs.search.search_all.Given.{Over}
+use Rattle.et_flow.proofs.search.search_all.Goals.{After-follow}
 use Rattle.et_flow.proofs.search.search_all.Goals as goal
-
-none_long : {X : Type 0} (xs : List X) → length xs ≡ 0 → xs ≡ []
-none_long [] e = refl
-none_long (x ∷ xs) e = absurd (omega arith)
 
 pub loop-place-init : goal.loop-place-init
 loop-place-init g c =
-    let leads : ℕ → TypesOf → Option LeadOf = (λ (pc : ℕ) (ts : TypesOf). g.F.Flow.leads pc c.args.flow.now ts) in
-    let straight : ℕ → Bool = (λ (q : ℕ). g.F.Flow.straight q c.args.flow.now) in
+    let straight : ℕ → Bool = (g.F.Flow.straight c.args.flow.now) in
     let entry : TypesOf = c.args.entry.now in
     let locals : ℕ = length c.args.entry.now.locals in
     let few : length entry.locals ≤ locals = omega arith in
@@ -24,10 +22,10 @@ loop-place-init g c =
     (c.in_ok-join_at.ensures.joined c.if-not-branch.false locals few) in
     record {
       long = c.in_ok-join_at.ensures.long;
-      searching = ((λ pc. None), first_found leads straight entry c.requires.monotone c.requires.straight c.args.states.now c.join_at.new.states c.join_at.new.work.items c.requires.some c.requires.none joined);
+      searching = ((λ pc. None), first_found (g.F.Flow.leads c.args.flow.now) straight entry c.requires.code.monotone c.requires.code.straight c.args.states.now c.join_at.new.states c.join_at.new.work.items c.requires.some c.requires.none joined);
       noted = λ q m. elim (joined_among locals c.args.states.now [] 0 entry c.join_at.new.states c.join_at.new.work.items joined q m) [
         | inl none ↦ absurd (omega (arith, none.1))
-        | inr same ↦ (subst (λ (k : ℕ). straight k ≡ false) same c.requires.straight.first, subst (λ (k : ℕ). k < length c.args.states.now) same c.requires.some)
+        | inr same ↦ (subst (λ (k : ℕ). straight k ≡ false) same c.requires.code.straight.first, subst (λ (k : ℕ). k < length c.args.states.now) same c.requires.some)
       ];
     }
 
@@ -43,55 +41,35 @@ follow-requires-clause-noted g c = λ q m.
     let k = c.loop-place.invariant.noted q (subst (λ (w : List ℕ). Contains w q) (sym c.in-Some.ensures.items) (Contains-append_left front (c.in-Some.place ∷ []) q m)) in
     (k.0, omega (arith, k.1, c.loop-place.invariant.long))
 
+-- the search has come to a place
+searching : (g : Over) (c : After-follow g) → Searches (g.F.Flow.leads c.args.flow.now) (g.F.Flow.straight c.args.flow.now) c.args.entry.now (length c.args.entry.now.locals) c.loop-place.states (c.pop.new.self.items ++ c.in-Some.place ∷ [])
+searching g c = subst (λ (w : List ℕ). Searches (g.F.Flow.leads c.args.flow.now) (g.F.Flow.straight c.args.flow.now) c.args.entry.now (length c.args.entry.now.locals) c.loop-place.states w) c.in-Some.ensures.items c.loop-place.invariant.searching
+
 pub returns-then-not-branch-2-clause-none : goal.returns-then-not-branch-2-clause-none
-returns-then-not-branch-2-clause-none g c =
-    let leads : ℕ → TypesOf → Option LeadOf = (λ (pc : ℕ) (ts : TypesOf). g.F.Flow.leads pc c.args.flow.now ts) in
-    let straight : ℕ → Bool = (λ (q : ℕ). g.F.Flow.straight q c.args.flow.now) in
-    let entry : TypesOf = c.args.entry.now in
-    let locals : ℕ = length c.args.entry.now.locals in
-    let front : List ℕ = c.pop.new.self.items in
-    let h : Searches leads straight entry locals c.loop-place.states (front ++ c.in-Some.place ∷ []) =
-    subst (λ (w : List ℕ). Searches leads straight entry locals c.loop-place.states w) c.in-Some.ensures.items c.loop-place.invariant.searching in
-    λ e has. c.in_ok-follow.ensures.none c.if-not-branch-2.true entry locals h has
+returns-then-not-branch-2-clause-none g c = λ e has.
+    c.in_ok-follow.ensures.none c.if-not-branch-2.true c.args.entry.now (length c.args.entry.now.locals) (searching g (goal.at.returns-then-not-branch-2-clause-none g c).After-follow) has
 
 pub loop-place-smaller : goal.loop-place-smaller
 loop-place-smaller g c =
-    let leads : ℕ → TypesOf → Option LeadOf = (λ (pc : ℕ) (ts : TypesOf). g.F.Flow.leads pc c.args.flow.now ts) in
-    let straight : ℕ → Bool = (λ (q : ℕ). g.F.Flow.straight q c.args.flow.now) in
-    let entry : TypesOf = c.args.entry.now in
-    let locals : ℕ = length c.args.entry.now.locals in
-    let front : List ℕ = c.pop.new.self.items in
-    let h : Searches leads straight entry locals c.loop-place.states (front ++ c.in-Some.place ∷ []) =
-    subst (λ (w : List ℕ). Searches leads straight entry locals c.loop-place.states w) c.in-Some.ensures.items c.loop-place.invariant.searching in
-    let on = c.in_ok-follow.ensures.followed c.if-not-branch-2.false entry locals h in
-    let popped : length c.loop-place.work.items ≡ length front + 1 = ap length c.in-Some.ensures.items ∙ length-append front (c.in-Some.place ∷ []) in
-    let less : 2 * heights locals c.follow.new.states + vec_len c.follow.new.work < 2 * heights locals c.loop-place.states + vec_len c.loop-place.work =
+    let on = c.in_ok-follow.ensures.followed c.if-not-branch-2.false c.args.entry.now (length c.args.entry.now.locals) (searching g (goal.at.loop-place-smaller g c).After-follow) in
+    let popped : length c.loop-place.work.items ≡ length c.pop.new.self.items + 1 = ap length c.in-Some.ensures.items ∙ length-append c.pop.new.self.items (c.in-Some.place ∷ []) in
+    let less : 2 * heights (length c.args.entry.now.locals) c.follow.new.states + vec_len c.follow.new.work < 2 * heights (length c.args.entry.now.locals) c.loop-place.states + vec_len c.loop-place.work =
     omega (arith, on.1, popped, c.loop-place.work.ok.0, c.pop.new.self.ok.0) in
     less
 
 pub loop-place-preserved : goal.loop-place-preserved
 loop-place-preserved g c =
-    let leads : ℕ → TypesOf → Option LeadOf = (λ (pc : ℕ) (ts : TypesOf). g.F.Flow.leads pc c.args.flow.now ts) in
-    let straight : ℕ → Bool = (λ (q : ℕ). g.F.Flow.straight q c.args.flow.now) in
-    let entry : TypesOf = c.args.entry.now in
-    let locals : ℕ = length c.args.entry.now.locals in
-    let front : List ℕ = c.pop.new.self.items in
-    let h : Searches leads straight entry locals c.loop-place.states (front ++ c.in-Some.place ∷ []) =
-    subst (λ (w : List ℕ). Searches leads straight entry locals c.loop-place.states w) c.in-Some.ensures.items c.loop-place.invariant.searching in
+    let h = searching g (goal.at.loop-place-preserved g c).After-follow in
     record {
       long = c.in_ok-follow.ensures.long ∙ c.loop-place.invariant.long;
-      searching = (c.in_ok-follow.ensures.followed c.if-not-branch-2.false entry locals h).0;
+      searching = (c.in_ok-follow.ensures.followed c.if-not-branch-2.false c.args.entry.now (length c.args.entry.now.locals) h).0;
       noted = λ q m.
-          let k = c.in_ok-follow.ensures.noted c.if-not-branch-2.false entry locals h q m in
+          let k = c.in_ok-follow.ensures.noted c.if-not-branch-2.false c.args.entry.now (length c.args.entry.now.locals) h q m in
           (k.0, omega (arith, k.1, c.loop-place.invariant.long));
     }
 
 pub returns-clause-found : goal.returns-clause-found
 returns-clause-found g c =
-    let leads : ℕ → TypesOf → Option LeadOf = (λ (pc : ℕ) (ts : TypesOf). g.F.Flow.leads pc c.args.flow.now ts) in
-    let straight : ℕ → Bool = (λ (q : ℕ). g.F.Flow.straight q c.args.flow.now) in
-    let entry : TypesOf = c.args.entry.now in
-    let locals : ℕ = length c.args.entry.now.locals in
     let empty : c.loop-place.work.items ≡ [] = none_long c.loop-place.work.items (omega (arith, c.loop-place.work.ok.0, c.in_default.ensures.cases)) in
-    let s : Searches leads straight entry locals c.loop-place.states [] = subst (λ (w : List ℕ). Searches leads straight entry locals c.loop-place.states w) empty c.loop-place.invariant.searching in
-    λ e. all_found leads straight entry c.requires.monotone c.requires.straight locals c.loop-place.states s.0 s.1
+    let s : Searches (g.F.Flow.leads c.args.flow.now) (g.F.Flow.straight c.args.flow.now) c.args.entry.now (length c.args.entry.now.locals) c.loop-place.states [] = subst (λ (w : List ℕ). Searches (g.F.Flow.leads c.args.flow.now) (g.F.Flow.straight c.args.flow.now) c.args.entry.now (length c.args.entry.now.locals) c.loop-place.states w) empty c.loop-place.invariant.searching in
+    λ e. all_found (g.F.Flow.leads c.args.flow.now) (g.F.Flow.straight c.args.flow.now) c.args.entry.now c.requires.code.monotone c.requires.code.straight (length c.args.entry.now.locals) c.loop-place.states s.0 s.1

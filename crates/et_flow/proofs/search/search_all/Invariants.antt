@@ -7,8 +7,8 @@ use Rattle.et_flow.proofs.search.search_all.Given as goal
 abbrev pub invariant-loop-place : goal.invariant-loop-place
 invariant-loop-place g l = record {
   long : length l.states ≡ length l.fn.states;
-  searching : Searches (λ pc ts. g.F.Flow.leads pc l.flow ts) (λ q. g.F.Flow.straight q l.flow) l.entry (length l.entry.locals) l.states l.work.items;
-  noted : AreKept (λ q. g.F.Flow.straight q l.flow) (length l.fn.states) l.work.items;
+  searching : Searches (g.F.Flow.leads l.flow) (g.F.Flow.straight l.flow) l.entry (length l.entry.locals) l.states l.work.items;
+  noted : AreKept (g.F.Flow.straight l.flow) (length l.fn.states) l.work.items;
 }
 
 abbrev pub decreases-loop-place : goal.decreases-loop-place

@@ -1,10 +1,9 @@
-use Rattle.std.proofs.Common.{◌≡◌, ℕ, ◌<◌, List, length, get_or, set, sym, ap, subst, ◌∙◌, arith}
-use Rattle.std.specs.List.{insert}
+use Rattle.std.proofs.Common.{◌≡◌, ℕ, ◌<◌, List, length, get_or, set, ap, subst, ◌∙◌, arith}
 use Rattle.std.proofs.lemmas.List.{get_or_read}
 use Rattle.et_flow.specs.declared.types.EntryType.{EntryType}
 use Rattle.et_flow.specs.declared.locals.Held.{Held}
-use Rattle.et_flow.specs.Locals.{spread, IsAt, IsGapFor, AreHeld}
-use Rattle.et_flow.proofs.Held.{nothing, length-spread, set_at, inserted_at, held_inserted}
+use Rattle.et_flow.specs.Locals.{IsAt}
+use Rattle.et_flow.proofs.Held.{nothing, length-spread, set_at, put_in_gap}
 use Rattle.et_flow.proofs.locals.Locals.put.Goals as goal
 
 pub overflow_cast-i : goal.overflow_cast-i
@@ -15,13 +14,8 @@ overflow_cast-local c = omega (arith, c.requires, c.self.invariant.few, ap lengt
 
 pub invariant_of-self-in-Continue-1 : goal.invariant_of-self-in-Continue-1
 invariant_of-self-in-Continue-1 c =
-    let held : List Held = c.self.inside.held.items in
-    let count : ℕ = c.self.inside.count in
-    let lt : c.args.i < count = omega (arith, c.requires, ap length c.self.view_is, length-spread count held) in
-    let x : Held = record { local = c.args.i; entry = c.args.entry } in
-    let gap : IsGapFor held c.args.i c.in-Err.at = subst (λ (hs : List Held). IsGapFor hs c.args.i c.in-Err.at) c.deref.ensures.value c.in-Err.ensures.absent in
-    let items : c.insert.new.self.items ≡ insert held c.in-Err.at x = c.in_ok-insert-in-Err.ensures.items in
-    subst (λ (hs : List Held). AreHeld count hs) (sym items) (held_inserted count held c.in-Err.at x c.self.invariant gap lt)
+    let lt : c.args.i < c.self.inside.count = omega (arith, c.requires, ap length c.self.view_is, length-spread c.self.inside.count c.self.inside.held.items) in
+    (put_in_gap c.self.inside.count c.self.inside.held.items _ c.insert.new.self.items c.in-Err.at (record { local = c.args.i; entry = c.args.entry }) c.args.self.now c.self.view_is c.self.invariant c.deref.ensures.value c.in-Err.ensures.absent lt c.in_ok-insert-in-Err.ensures.items).0
 
 pub returns-in-Ok : goal.returns-in-Ok
 returns-in-Ok c =
@@ -34,10 +28,5 @@ returns-in-Ok c =
 
 pub returns-in_ok-insert-in-Err : goal.returns-in_ok-insert-in-Err
 returns-in_ok-insert-in-Err c =
-    let held : List Held = c.self.inside.held.items in
-    let count : ℕ = c.self.inside.count in
-    let lt : c.args.i < count = omega (arith, c.requires, ap length c.self.view_is, length-spread count held) in
-    let x : Held = record { local = c.args.i; entry = c.args.entry } in
-    let gap : IsGapFor held c.args.i c.in-Err.at = subst (λ (hs : List Held). IsGapFor hs c.args.i c.in-Err.at) c.deref.ensures.value c.in-Err.ensures.absent in
-    let items : c.insert.new.self.items ≡ insert held c.in-Err.at x = c.in_ok-insert-in-Err.ensures.items in
-    ap (spread count) items ∙ (inserted_at count held c.in-Err.at x lt gap ∙ ap (λ (xs : List EntryType). set xs c.args.i c.args.entry) c.self.view_is)
+    let lt : c.args.i < c.self.inside.count = omega (arith, c.requires, ap length c.self.view_is, length-spread c.self.inside.count c.self.inside.held.items) in
+    (put_in_gap c.self.inside.count c.self.inside.held.items _ c.insert.new.self.items c.in-Err.at (record { local = c.args.i; entry = c.args.entry }) c.args.self.now c.self.view_is c.self.invariant c.deref.ensures.value c.in-Err.ensures.absent lt c.in_ok-insert-in-Err.ensures.items).1

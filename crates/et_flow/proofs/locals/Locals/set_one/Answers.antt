@@ -2,8 +2,8 @@ use Rattle.std.proofs.Common.{◌≡◌, ℕ, ◌<◌, Bool, List, length, Optio
 use Rattle.std.specs.Prelude.{if◌then◌else◌, slice_set}
 use Rattle.std.proofs.lemmas.Bool.{lt-ltb}
 use Rattle.et_flow.specs.declared.types.EntryType.{EntryType}
-use Rattle.et_flow.specs.Stores.{without_lower, without_upper, one_set}
-use Rattle.et_flow.proofs.Stores.{length-kept}
+use Rattle.et_flow.specs.Stores.{one_set}
+use Rattle.et_flow.proofs.Stores.{both_cut}
 use Rattle.et_flow.proofs.Held.{length-spread}
 use Rattle.et_flow.proofs.locals.Locals.set_one.Goals as goal
 
@@ -11,17 +11,13 @@ pub returns-then-i-self-clause-none : goal.returns-then-i-self-clause-none
 returns-then-i-self-clause-none c = λ e. omega (arith, c.if-i-self.true, ap length c.self.view_is, length-spread c.self.inside.count c.self.inside.held.items)
 
 pub put-requires : goal.put-requires
-put-requires c =
-    let i : ℕ = c.args.i in
-    let was : List EntryType = c.args.self.now in
-    let kept : c.without_upper.new.self ≡ without_upper i (without_lower i was) = c.in_ok-without_upper.ensures ∙ ap (without_upper i) c.in_ok-without_lower.ensures in
-    omega (arith, c.if-i-self.false, ap length c.self.view_is, length-spread c.self.inside.count c.self.inside.held.items, ap length kept, length-kept was i i)
+put-requires c = omega (arith, c.if-i-self.false, ap length c.self.view_is, length-spread c.self.inside.count c.self.inside.held.items, (both_cut c.args.i c.args.i c.args.self.now c.without_lower.new.self c.without_upper.new.self c.in_ok-without_lower.ensures c.in_ok-without_upper.ensures).1)
 
 pub returns-clause-written : goal.returns-clause-written
 returns-clause-written c = λ e.
     let i : ℕ = c.args.i in
     let was : List EntryType = c.args.self.now in
-    let kept : c.without_upper.new.self ≡ without_upper i (without_lower i was) = c.in_ok-without_upper.ensures ∙ ap (without_upper i) c.in_ok-without_lower.ensures in
+    let kept = (both_cut c.args.i c.args.i c.args.self.now c.without_lower.new.self c.without_upper.new.self c.in_ok-without_lower.ensures c.in_ok-without_upper.ensures).0 in
     let now : c.put.new.self ≡ one_set i c.args.entry was = c.in_ok-put.ensures ∙ ap (λ (xs : List EntryType). slice_set xs i c.args.entry) kept in
     let lt : i < length was = omega (arith, c.if-i-self.false, ap length c.self.view_is, length-spread c.self.inside.count c.self.inside.held.items) in
     ap (λ (b : Bool). let o : Option (List EntryType) = if b then Some (one_set i c.args.entry was) else None in o) (lt-ltb i (length was) lt) ∙ ap (λ (xs : List EntryType). let o : Option (List EntryType) = Some xs in o) (sym now)
