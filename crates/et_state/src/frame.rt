@@ -1,5 +1,5 @@
 //! One frame, as its thread shows it.
-ghost use Rattle.std.specs.Prelude.{◌≡◌, ◌+◌, ◌<◌, ◌≤◌, length, ◌++◌, OnOk};
+ghost use Rattle.std.specs.Prelude.{◌≡◌, ◌+◌, ◌<◌, ◌≤◌, ◌^◌, length, ◌++◌, OnOk};
 ghost use Rattle.et_state.specs.ThreadRoots.{frame_roots};
 ghost use Rattle.et_state.specs.Threads.{operand_of, local_of, lost_room};
 ghost use Rattle.et_state.specs.FrameInside.{frame_in, IsFrame};
@@ -97,6 +97,7 @@ impl<'a> Frame<'a> {
     pub fn depth(&self) -> u32
         ensures value { result ≡ length self.now.operands }
         ensures few { length self.now.operands ≤ self.now.room }
+        ensures short { length self.now.operands < 2 ^ 16 }
     {
         (self.values.len() - self.head.locals as usize) as u32
     }

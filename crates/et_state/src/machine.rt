@@ -367,6 +367,7 @@ impl Machine {
         ensures value { result ≡ length (top self.now.guest thread).operands }
         ensures few { length (top self.now.guest thread).operands
             ≤ (top self.now.guest thread).room }
+        ensures short { length (top self.now.guest thread).operands < 2 ^ 16 }
     {
         self.threads[thread.number() as usize].top().depth()
     }

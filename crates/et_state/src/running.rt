@@ -69,6 +69,7 @@ impl Running {
     pub fn depth(&self) -> u32
         ensures value { result ≡ length self.now.frame.operands }
         ensures few { length self.now.frame.operands ≤ self.now.frame.room }
+        ensures short { length self.now.frame.operands < 2 ^ 16 }
     {
         (self.top - self.floor) as u32
     }
