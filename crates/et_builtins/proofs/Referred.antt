@@ -7,7 +7,7 @@ use Rattle.et_pool.specs.Looks.{tag_at}
 use Rattle.et_pool.specs.declared.tags.TheConstants.{INTERFACE_METHODREF}
 use Rattle.et_program.specs.Entries.{Linked, method_at}
 use Rattle.et_program.specs.declared.errors.LinkError.{LinkError}
-use Rattle.et_program.specs.declared.referring.NamedMethod.{NamedMethod}
+use Rattle.et_program.specs.declared.lookup.referring.NamedMethod.{NamedMethod}
 use Rattle.et_program.specs.Referring.{Member, pool_of_class, member_described, named_in, method_in_owner, method_of_member, method_referred}
 use Rattle.et_program.specs.Resolution.{resolve_class, resolve_method}
 use Rattle.et_state.specs.Outcome.{Outcome}

@@ -6,8 +6,8 @@ use Rattle.et_hierarchy.specs.Outline.{Outline, class_place}
 use Rattle.et_program.specs.declared.info.MethodInfo.{MethodInfo}
 use Rattle.et_program.specs.declared.info.FieldInfo.{FieldInfo}
 use Rattle.et_program.specs.Loaded.{LoadedClass}
-use Rattle.et_link.specs.declared.reading.Declared.{Declared}
-use Rattle.et_link.specs.declared.classes.Known.{Known}
+use Rattle.et_link.specs.declared.linking.reading.Declared.{Declared}
+use Rattle.et_link.specs.declared.linking.classes.Known.{Known}
 use Rattle.et_program.specs.Files.{set_of}
 use Rattle.et_program.specs.MembersOf.{methods_of, fields_of}
 use Rattle.et_program.specs.Slots.{own_slots, slots_above}

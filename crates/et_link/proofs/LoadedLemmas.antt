@@ -11,7 +11,7 @@ use Rattle.et_class.specs.Layout.{member_of, member_list}
 use Rattle.et_class.specs.Fields.{constant_of}
 use Rattle.et_class.specs.Methods.{code_of}
 use Rattle.et_class.specs.Classes.{class_of, pool_of, HasItsParts}
-use Rattle.et_link.specs.declared.reading.Declared.{Declared}
+use Rattle.et_link.specs.declared.linking.reading.Declared.{Declared}
 use Rattle.et_link.specs.Declaring.{IsDeclared, IsDeclaredOf, HasItsFile}
 use Rattle.et_program.specs.LinkFaults.{IsLinkable}
 use Rattle.et_program.specs.Linking.{IsOfFile}

@@ -7,7 +7,7 @@ use Rattle.std.specs.Str.{bytes_eq}
 use Rattle.std.proofs.lemmas.Bool.{cond-true, cond-false}
 use Rattle.std.proofs.lemmas.List.{take_more}
 use Rattle.std.proofs.lemmas.List.Concat.{flat_map-append}
-use Rattle.et_program.specs.declared.names.NameIndex.{NameIndex}
+use Rattle.et_program.specs.declared.tables.names.NameIndex.{NameIndex}
 use Rattle.et_program.specs.Indices.{number_of_name}
 use Rattle.et_program.proofs.IndexLemmas.{position_push}
 use Rattle.et_program.specs.ArrayTypes.{with_element_types, is_type_known, name_added, names_added, array_names, array_at}

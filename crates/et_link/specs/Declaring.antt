@@ -3,7 +3,7 @@ use Rattle.std.specs.Prelude.{◌≡◌, ℕ, ◌<◌, ◌^◌, List, length, ma
 use Rattle.et_hierarchy.specs.Links.{links, HasLinksWithin}
 use Rattle.et_hierarchy.specs.Faults.{IsFaultless}
 use Rattle.et_hierarchy.specs.Ancestry.{Ancestry, ancestry_at, IsAncestry, IsBelow}
-use Rattle.et_link.specs.declared.reading.Declared.{Declared}
+use Rattle.et_link.specs.declared.linking.reading.Declared.{Declared}
 use Rattle.et_link.specs.declared.fault.LinkFault.{LinkFault}
 use Rattle.et_class.specs.Classes.{class_of}
 use Rattle.et_class.specs.Layout.{ClassOf}

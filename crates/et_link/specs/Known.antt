@@ -6,7 +6,7 @@ use Rattle.et_hierarchy.specs.Ancestry.{ancestry_at, IsBelow}
 use Rattle.et_hierarchy.specs.Initialization.{class_order}
 use Rattle.et_program.specs.Indices.{number_of_name}
 use Rattle.et_program.specs.Classes.{Heads}
-use Rattle.et_link.specs.declared.classes.Known.{Known}
+use Rattle.et_link.specs.declared.linking.classes.Known.{Known}
 
 abbrev pub heads_in : Known → Heads
 heads_in x = record {

@@ -1,6 +1,6 @@
 -- How names are found by indices.
 use Rattle.std.specs.Prelude.{◌≡◌, ℕ, List}
-use Rattle.et_program.specs.declared.names.NameIndex.{NameIndex}
+use Rattle.et_program.specs.declared.tables.names.NameIndex.{NameIndex}
 use Rattle.et_program.specs.Indices.{number_of_name}
 use Rattle.et_program.specs.ArrayTypes.{array_at}
 

@@ -1,20 +1,12 @@
 //! Linking: class files with the built-in classes make a program, or there is a fault (JVMS 5.3, 5.4).
 #![tactic(auto)]
 
-mod arrays;
-mod boots;
-mod classes;
-mod crossing;
 mod fault;
-mod heads;
 pub mod laws;
 mod linking;
 mod members;
 mod names;
-mod outlines;
-mod reading;
 mod refusal;
-mod slots;
 
 pub use et_program::{
     ClassInfo, Element, FieldInfo, LinkError, LinkFaultKind, MethodInfo, Program,

@@ -1,4 +1,8 @@
-//! The making of a program.
+//! The making of a program; below, what is read of the files, the classes, and the array classes.
+
+pub(crate) mod arrays;
+pub(crate) mod classes;
+pub(crate) mod reading;
 
 ghost use Rattle.std.specs.Prelude.{◌≡◌, ℕ, ◌+◌, ◌<◌, ◌≤◌, ◌^◌, List, length, map, All, IfOk};
 ghost use Rattle.std.specs.List.{slice_index_or};
@@ -20,17 +24,17 @@ ghost use Rattle.et_link.specs.Known.{heads_in, AreSized};
 ghost use Rattle.et_program.specs.MembersOf.{methods_of};
 ghost use Rattle.et_link.specs.Refusals.{linked_by};
 
-use crate::arrays::arrays_met;
-use crate::boots::boots;
-use crate::classes::{Known, all_classes};
 use crate::fault::LinkFault;
-use crate::heads::{classes_to_run, constants, initializers};
+use crate::linking::arrays::arrays_met;
+use crate::linking::classes::{Known, all_classes};
+use crate::linking::reading::{Declared, Hierarchy, Parts};
+use crate::members::outlines::{class_flags, outlines};
+use crate::members::slots::{own_slots, place_fields, slots_above, static_fields};
 use crate::members::{Members, all_fields, all_members};
+use crate::names::boots::boots;
+use crate::names::heads::{classes_to_run, constants, initializers};
 use crate::names::{array_names, index_set};
-use crate::outlines::{class_flags, outlines};
-use crate::reading::{Declared, Hierarchy, Parts};
 use crate::refusal::{check_methods, check_names, refusal};
-use crate::slots::{own_slots, place_fields, slots_above, static_fields};
 use et_base::{MethodId, Name, NoMemory};
 use et_class::ClassFile;
 use et_hierarchy::{ClassOutline, ancestries, class_orders};

@@ -1,4 +1,9 @@
-//! The members that the classes declare, and the pools.
+//! The members that the classes declare, and the pools; below, what linking looks at of the classes, the slots of fields, and
+//! methods that cross packages.
+
+pub(crate) mod crossing;
+pub(crate) mod outlines;
+pub(crate) mod slots;
 
 ghost use Rattle.std.specs.Prelude.{◌≡◌, ◌++◌, length, IfOk, OnOk, map, option_map};
 ghost use Rattle.et_pool.specs.Pools.{IsPool};
@@ -7,7 +12,7 @@ ghost use Rattle.et_program.specs.Loaded.{loaded_member, loaded_file};
 ghost use Rattle.et_program.specs.Files.{boots};
 ghost use Rattle.et_program.specs.MembersOf.{numbered, pool_text, boot_body, boot_method, file_method, boot_methods, file_methods, boot_field, file_field, boot_fields, file_fields, fields_of, is_boot_static};
 
-use crate::boots::{boot, boots};
+use crate::names::boots::{boot, boots};
 use et_base::{ClassId, Name, NoMemory};
 use et_boot::{BootClass, BootCode, BootField, BootMethod};
 use et_class::flags::{STATIC, has};

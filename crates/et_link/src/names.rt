@@ -1,4 +1,7 @@
-//! The names of the array classes, each once.
+//! The names of the array classes, each once; below, the built-in classes, and what is kept of each class beside its members.
+
+pub(crate) mod boots;
+pub(crate) mod heads;
 
 ghost use Rattle.std.specs.Prelude.{◌≡◌, ℕ, ◌<◌, [], List, length, filter, IfOk, OnOk, None};
 ghost use Rattle.std.specs.List.{flat_map, position_from};
@@ -8,7 +11,7 @@ ghost use Rattle.et_hierarchy.specs.Outline.{class_place};
 ghost use Rattle.et_program.specs.ArrayTypes.{is_type_known, with_element_types, name_added, names_added, array_names, element_of, kind_of};
 ghost use Rattle.et_link.specs.Naming.{IsIndexFrom};
 
-use crate::arrays::leaf_of;
+use crate::linking::arrays::leaf_of;
 use crate::members::class_at_place;
 use et_base::{ClassId, Name, NoMemory};
 use et_hierarchy::ClassOutline;

@@ -10,9 +10,9 @@ ghost use Rattle.et_program.specs.Files.{boots};
 ghost use Rattle.et_program.specs.ProgramOf.{is_main, main_of};
 ghost use Rattle.et_link.specs.Refusals.{NamesFault, RefusesSet, AnswersLate, link_kind};
 
-use crate::boots::boots;
-use crate::crossing::first_crossing;
 use crate::fault::LinkFault;
+use crate::members::crossing::first_crossing;
+use crate::names::boots::boots;
 use et_base::{MethodId, Name};
 use et_class::flags::{STATIC, has};
 use et_hierarchy::{ClassOutline, FaultKind, Links, Row, SetFault, check_set};

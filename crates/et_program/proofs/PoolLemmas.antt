@@ -5,8 +5,8 @@ use Rattle.std.specs.List.{slice_index_or}
 use Rattle.std.proofs.lemmas.Option.{unwrap_or-slice_get}
 use Rattle.std.proofs.lemmas.List.{length-append}
 use Rattle.et_class.specs.Entries.{Constants}
-use Rattle.et_program.specs.declared.resolved.Resolved.{Resolved}
-use Rattle.et_program.specs.declared.resolved.Resolved.TheVariants.{Nothing}
+use Rattle.et_program.specs.declared.lookup.resolved.Resolved.{Resolved}
+use Rattle.et_program.specs.declared.lookup.resolved.Resolved.TheVariants.{Nothing}
 use Rattle.et_program.specs.Entries.{Linked}
 use Rattle.et_program.specs.Referring.{no_constants, pool_of_class}
 use Rattle.et_program.specs.Resolved.{IsResolved, AreResolved, resolved_at}

@@ -1,6 +1,6 @@
 -- Of which methods an index is.
 use Rattle.std.specs.Prelude.{List, map}
-use Rattle.et_program.specs.declared.method_index.MethodIndex.{MethodIndex}
+use Rattle.et_program.specs.declared.tables.method_index.MethodIndex.{MethodIndex}
 use Rattle.et_program.specs.declared.info.MethodInfo.{MethodInfo}
 use Rattle.et_program.specs.Order.{method_key, IsOrder}
 

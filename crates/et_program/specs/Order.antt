@@ -8,9 +8,9 @@ use Rattle.std.specs.Cmp.Lexicographic.{slice_cmp}
 use Rattle.std.specs.Str.{bytes_eq}
 use Rattle.et_program.specs.declared.info.MethodInfo.{MethodInfo}
 use Rattle.et_program.specs.declared.info.FieldInfo.{FieldInfo}
-use Rattle.et_program.specs.declared.order.Key.{Key}
-use Rattle.et_program.specs.declared.order.Table.{Table}
-use Rattle.et_program.specs.declared.order.Table.TheVariants.{Classes, Methods, Fields}
+use Rattle.et_program.specs.declared.tables.order.Key.{Key}
+use Rattle.et_program.specs.declared.tables.order.Table.{Table}
+use Rattle.et_program.specs.declared.tables.order.Table.TheVariants.{Classes, Methods, Fields}
 use Rattle.et_program.specs.Entries.{ClassEntry}
 
 -- a name, a descriptor, and the number of a class

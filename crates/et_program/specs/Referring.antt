@@ -6,7 +6,7 @@ use Rattle.et_class.specs.Entries.{Item, Constants}
 use Rattle.et_class.specs.Looks.{tag_at, utf8_at, class_name_at, name_and_type_at, member_at}
 use Rattle.et_class.specs.PoolTags.TheConstants.{INTERFACE_METHODREF}
 use Rattle.et_program.specs.declared.errors.LinkError.{LinkError}
-use Rattle.et_program.specs.declared.referring.NamedMethod.{NamedMethod}
+use Rattle.et_program.specs.declared.lookup.referring.NamedMethod.{NamedMethod}
 use Rattle.et_program.specs.Entries.{Linked}
 use Rattle.et_program.specs.Resolution.{resolve_class, resolve_field, resolve_method}
 

@@ -1,10 +1,10 @@
 -- What is kept of the entries of the pools.
 use Rattle.std.specs.Prelude.{◌≡◌, ℕ, ◌<◌, true, List, [], length, Some, Ok, Err}
 use Rattle.std.specs.List.{slice_index_or}
-use Rattle.et_program.specs.declared.referring.MemberAt.{MemberAt}
-use Rattle.et_program.specs.declared.referring.NamedMethod.{NamedMethod}
-use Rattle.et_program.specs.declared.resolved.Resolved.{Resolved}
-use Rattle.et_program.specs.declared.resolved.Resolved.TheVariants.{Nothing, Class, NoClass, Field, NoField, Method, NoMethod}
+use Rattle.et_program.specs.declared.lookup.referring.MemberAt.{MemberAt}
+use Rattle.et_program.specs.declared.lookup.referring.NamedMethod.{NamedMethod}
+use Rattle.et_program.specs.declared.lookup.resolved.Resolved.{Resolved}
+use Rattle.et_program.specs.declared.lookup.resolved.Resolved.TheVariants.{Nothing, Class, NoClass, Field, NoField, Method, NoMethod}
 use Rattle.et_program.specs.Entries.{Linked}
 use Rattle.et_program.specs.Referring.{Member, class_referred, field_referred, is_field_referred, method_referred}
 

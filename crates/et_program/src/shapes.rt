@@ -4,7 +4,7 @@ ghost use Rattle.std.specs.Prelude.{◌≡◌, ℕ, ◌<◌, ◌^◌, None, IfOk
 ghost use Rattle.std.specs.List.{slice_index_or};
 ghost use Rattle.et_program.specs.Shapes.{member_shape, AreShaped};
 
-use crate::referring::member_at;
+use crate::lookup::referring::member_at;
 use et_base::NoMemory;
 use et_class::{CallShape, Pool, call_shape};
 use std::alloc::Global;

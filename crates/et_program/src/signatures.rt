@@ -8,9 +8,9 @@ ghost use Rattle.et_program.specs.Order.{method_key, IsOrder};
 ghost use Rattle.et_program.specs.Signatures.{signature_of as signature_in, AreSigned};
 ghost use Rattle.et_program.specs.declared.info.MethodInfo.{MethodInfo as Method};
 
-use crate::class::Class;
 use crate::info::MethodInfo;
-use crate::order::{Key, Order, Table};
+use crate::tables::class::Class;
+use crate::tables::order::{Key, Order, Table};
 use et_base::{MethodId, NoMemory};
 use et_boot::{BuiltIn, TextMethod, built_in_called, is_deferring, text_method_called};
 use et_class::flags::{ABSTRACT, NATIVE, STATIC, has};

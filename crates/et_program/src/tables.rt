@@ -1,7 +1,14 @@
-//! The tables of a program.
+//! The tables of a program; below, what they keep of a class, and the indices by which a name, a method or an array class is
+//! found.
 
-use crate::class::Class;
+pub(crate) mod class;
+pub(crate) mod indices;
+pub(crate) mod method_index;
+pub(crate) mod names;
+pub(crate) mod order;
+
 use crate::info::{FieldInfo, MethodInfo};
+use crate::tables::class::Class;
 use et_base::{FieldId, MethodId};
 use et_class::Pool;
 

@@ -5,7 +5,7 @@ use Rattle.et_heap.specs.Objects.{Objects, object_at, with_slot, with_object_at}
 use Rattle.et_state.specs.State.{MachineState}
 use Rattle.et_state.specs.declared.records.Record.{Record}
 use Rattle.et_event.specs.Moments.{Moment, Doing, slot_written}
-use Rattle.et_refs.specs.declared.filling.Filling.{Filling}
+use Rattle.et_refs.specs.declared.arrays.filling.Filling.{Filling}
 use Rattle.et_event.specs.Telling.{so_far, StandsAt}
 use Rattle.et_refs.specs.Filling.{IsFilling, AreFillings, next_filling, with_filled}
 use Rattle.et_refs.proofs.Finishing.{popped}

@@ -42,11 +42,11 @@ use Rattle.et_initialize.proofs.Counting.{room_fits}
 use Rattle.et_initialize.proofs.Setting.{written_state}
 use Rattle.et_initialize.proofs.Statics.{AreStatics}
 use Rattle.et_initialize.proofs.Stepping.{has_frame_on, top_on, one_fits}
-use Rattle.et_refs.specs.declared.accesses.Read.{Read}
-use Rattle.et_refs.specs.declared.accesses.Write.{Write}
-use Rattle.et_refs.specs.declared.accesses.Access.{Access}
-use Rattle.et_refs.specs.declared.accesses.Access.TheVariants as access
-use Rattle.et_refs.specs.declared.accesses.Wanted.{Wanted}
+use Rattle.et_refs.specs.declared.doing.accesses.Read.{Read}
+use Rattle.et_refs.specs.declared.doing.accesses.Write.{Write}
+use Rattle.et_refs.specs.declared.doing.accesses.Access.{Access}
+use Rattle.et_refs.specs.declared.doing.accesses.Access.TheVariants as access
+use Rattle.et_refs.specs.declared.doing.accesses.Wanted.{Wanted}
 use Rattle.et_refs.specs.Accesses.{with_access, access_outcome, objects_in, slots_accessed, MayAccess, MayRead, MayWrite, MayWant, CanAccess, Accesses, reads, access_written, replaces}
 
 -- so far the event has come to d: it initialized classes, and did nothing else

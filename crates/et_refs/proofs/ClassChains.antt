@@ -13,7 +13,7 @@ use Rattle.et_event.specs.Initialization.{initialized}
 use Rattle.et_event.specs.Kinds.{kind_of_field, narrowed}
 use Rattle.et_event.specs.Sites.{Site, Member}
 use Rattle.std.specs.Prelude.{nat_le, not, ◌+◌, length}
-use Rattle.et_refs.specs.declared.static_fields.StaticRead.{StaticRead}
+use Rattle.et_refs.specs.declared.slots.static_fields.StaticRead.{StaticRead}
 use Rattle.et_refs.specs.StaticReads.{read_of}
 
 -- GETSTATIC, whatever goes on

@@ -16,7 +16,7 @@ use Rattle.et_event.specs.Tops.{IsIn}
 use Rattle.et_refs.proofs.Reading.{kept_refers}
 use Rattle.et_event.specs.Programs.{HasSlots}
 use Rattle.et_event.proofs.Values.{read_width}
-use Rattle.et_refs.specs.declared.accesses.Access.TheVariants as access
+use Rattle.et_refs.specs.declared.doing.accesses.Access.TheVariants as access
 use Rattle.et_refs.specs.Accesses.{IsStaticField, MayWant}
 
 pub may_read : (p : Linked) (f : FrameState) (type : List ℕ) (field width : ℕ) (info : FieldInfo) (kind : Option Operand) → HasSlots p → IsStaticField p type field → width ≡ width_of type

@@ -12,7 +12,7 @@ use Rattle.et_state.specs.declared.records.Record.{Record}
 use Rattle.et_event.specs.Moments.{Moment, Doing, array_made, fits_heap}
 use Rattle.et_event.specs.Sites.{natural_of}
 use Rattle.et_event.specs.Heap.{naturals}
-use Rattle.et_refs.specs.declared.filling.Filling.{Filling}
+use Rattle.et_refs.specs.declared.arrays.filling.Filling.{Filling}
 use Rattle.et_event.specs.Telling.{so_far, StandsAt}
 use Rattle.et_refs.specs.Filling.{IsFilling, AreFillings, inner_dimensions, first_filling, with_filled}
 use Rattle.et_refs.proofs.Finishing.{pushed, next_fits, next_made}

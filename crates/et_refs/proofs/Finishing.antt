@@ -9,7 +9,7 @@ use Rattle.et_program.specs.Entries.{class_at}
 use Rattle.et_event.specs.Heap.{arrays_made, filled, element_class}
 use Rattle.et_event.specs.Moments.{Moment, Doing, next_object, array_made, slot_written, fits_heap}
 use Rattle.et_event.proofs.Making.{fits_made}
-use Rattle.et_refs.specs.declared.filling.Filling.{Filling}
+use Rattle.et_refs.specs.declared.arrays.filling.Filling.{Filling}
 use Rattle.et_refs.specs.Filling.{filled_from, inner_dimensions, rest_from, with_filled, first_filling, next_filling}
 use Rattle.et_refs.proofs.Making.{made_grows, same_slots}
 

@@ -21,7 +21,7 @@ use Rattle.et_ops.proofs.Lifting.{landed, landed_guest, landed_same, lifted, res
 use Rattle.et_event.proofs.Taking.{replaced}
 use Rattle.et_refs.specs.Changes.{MayExchange, exchange_outcome}
 use Rattle.et_refs.specs.Reads.{IsReadable, IsSoundHeap, exchanged}
-use Rattle.et_refs.specs.declared.changes.Exchange.{Exchange}
+use Rattle.et_refs.specs.declared.doing.changes.Exchange.{Exchange}
 use Rattle.et_refs.proofs.Over.{exchange_moves, held_led}
 
 -- a sound state may be read for each topmost frame

@@ -19,7 +19,7 @@ use Rattle.et_event.specs.Out.{OutRead, field_read, out_at, out_of}
 use Rattle.et_event.specs.Sites.{Member, Site, site_member}
 use Rattle.et_refs.specs.declared.refusals.Refusal.{Refusal}
 use Rattle.et_refs.specs.declared.refusals.Refusal.TheVariants as refusals
-use Rattle.et_refs.specs.declared.static_fields.StaticRead.{StaticRead}
+use Rattle.et_refs.specs.declared.slots.static_fields.StaticRead.{StaticRead}
 use Rattle.et_refs.specs.Refusals.{outcome_of, refusal_outcome}
 use Rattle.et_refs.specs.StaticReads.{is_out_class, out_slot, read_of}
 use Rattle.et_refs.proofs.ClassChains.{Going, read_then, reads, reads_field, static_then}

@@ -22,7 +22,7 @@ use Rattle.et_event.specs.Sites.{Site, site_member}
 use Rattle.et_event.specs.Places.{IsPlace, site_at}
 use Rattle.et_event.specs.declared.places.Place.{Place}
 use Rattle.et_refs.specs.declared.refusals.Refusal.{Refusal}
-use Rattle.et_refs.specs.declared.static_fields.StaticRead.{StaticRead}
+use Rattle.et_refs.specs.declared.slots.static_fields.StaticRead.{StaticRead}
 use Rattle.et_refs.specs.Accesses.{access_outcome}
 use Rattle.et_refs.specs.Refusals.{outcome_of}
 use Rattle.et_refs.specs.StaticReads.{is_out_class, out_slot, read_of, wanted_by}

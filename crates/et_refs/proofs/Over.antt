@@ -44,7 +44,7 @@ use Rattle.et_refs.specs.Reads.{exchanged, is_read_row, moment_over}
 use Rattle.et_refs.specs.Refusals.{outcome_of}
 use Rattle.et_refs.specs.Rows.{is_get_static}
 use Rattle.et_refs.specs.Steps.{Instructs, IsStepOver, MovesOver, StepsOver, over}
-use Rattle.et_refs.specs.declared.changes.Exchange.{Exchange}
+use Rattle.et_refs.specs.declared.doing.changes.Exchange.{Exchange}
 use Rattle.et_refs.specs.declared.refusals.Refusal.{Refusal}
 use Rattle.et_refs.proofs.Leading.{entries_refer, moves_held}
 

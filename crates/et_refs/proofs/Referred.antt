@@ -15,7 +15,7 @@ use Rattle.et_event.specs.Heap.{resolved_field, with_field}
 use Rattle.et_event.specs.Moments.{Moment, begins, ill_typed}
 use Rattle.et_event.specs.Sites.{Site, site_member, pool_index}
 use Rattle.et_refs.specs.NamedFields.{IsNamedBy, named_as, no_member}
-use Rattle.et_refs.specs.declared.fields.NamedField.{NamedField}
+use Rattle.et_refs.specs.declared.slots.fields.NamedField.{NamedField}
 use Rattle.et_refs.proofs.Reading.{field_described}
 
 -- WHAT AN ENTRY NAMES

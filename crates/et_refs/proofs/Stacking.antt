@@ -8,7 +8,7 @@ use Rattle.et_heap.specs.Objects.{ObjectState, Objects, IsHeld, is_there, found,
 use Rattle.et_heap.proofs.HeapLists.{held_within}
 use Rattle.et_event.specs.Sites.{natural_of}
 use Rattle.et_event.specs.Heap.{naturals}
-use Rattle.et_refs.specs.declared.filling.Filling.{Filling}
+use Rattle.et_refs.specs.declared.arrays.filling.Filling.{Filling}
 use Rattle.et_refs.specs.Filling.{IsFilling, AreFillings, inner_dimensions, element_count, next_filling}
 use Rattle.et_refs.proofs.Finishing.{lower_drop}
 

@@ -6,7 +6,7 @@ use Rattle.et_state.specs.State.{MachineState}
 use Rattle.et_state.specs.declared.records.Record.{Record}
 use Rattle.et_event.specs.Heap.{arrays_made, naturals}
 use Rattle.et_event.specs.Moments.{Moment, Doing, array_made, fits_heap}
-use Rattle.et_refs.specs.declared.filling.Filling.{Filling}
+use Rattle.et_refs.specs.declared.arrays.filling.Filling.{Filling}
 use Rattle.et_event.specs.Telling.{so_far, StandsAt}
 use Rattle.et_refs.specs.Filling.{IsFilling, inner_dimensions, first_filling, with_filled}
 use Rattle.et_refs.proofs.Descending.{came, lengths_at, new_filling}

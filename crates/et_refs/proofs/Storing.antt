@@ -38,7 +38,7 @@ use Rattle.et_refs.specs.Reads.{moment_over}
 use Rattle.et_refs.specs.Rows.{is_get_static}
 use Rattle.et_refs.specs.Steps.{Instructs, IsStepOver, MovesOver, StepsOver, over}
 use Rattle.et_refs.specs.Writes.{is_write_row, taken_for, written}
-use Rattle.et_refs.specs.declared.changes.Store.{Store}
+use Rattle.et_refs.specs.declared.doing.changes.Store.{Store}
 use Rattle.et_refs.proofs.Leading.{moves_held, write_led}
 use Rattle.et_refs.proofs.Over.{event_over, silent_over, site_in}
 

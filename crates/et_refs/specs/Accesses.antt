@@ -24,11 +24,11 @@ use Rattle.et_event.specs.Sites.{Site}
 use Rattle.et_event.specs.Sound.{is_of_kind}
 use Rattle.et_event.specs.Telling.{TellsUpdate}
 use Rattle.et_event.specs.Tops.{IsIn}
-use Rattle.et_refs.specs.declared.accesses.Read.{Read}
-use Rattle.et_refs.specs.declared.accesses.Write.{Write}
-use Rattle.et_refs.specs.declared.accesses.Access.{Access}
-use Rattle.et_refs.specs.declared.accesses.Access.TheVariants as access
-use Rattle.et_refs.specs.declared.accesses.Wanted.{Wanted}
+use Rattle.et_refs.specs.declared.doing.accesses.Read.{Read}
+use Rattle.et_refs.specs.declared.doing.accesses.Write.{Write}
+use Rattle.et_refs.specs.declared.doing.accesses.Access.{Access}
+use Rattle.et_refs.specs.declared.doing.accesses.Access.TheVariants as access
+use Rattle.et_refs.specs.declared.doing.accesses.Wanted.{Wanted}
 
 -- what was done, with the access
 abbrev pub with_access : Moment → Site → ℕ → Access → Doing → Doing

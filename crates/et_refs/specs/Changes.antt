@@ -15,11 +15,11 @@ use Rattle.et_event.specs.Heap.{leaving_values}
 use Rattle.et_event.specs.Sites.{Site}
 use Rattle.et_event.specs.Tops.{IsIn}
 use Rattle.et_refs.specs.Reads.{AreHeld}
-use Rattle.et_refs.specs.declared.changes.Exchange.{Exchange}
-use Rattle.et_refs.specs.declared.changes.Store.{Store}
-use Rattle.et_refs.specs.declared.changes.NewArray.{NewArray}
-use Rattle.et_refs.specs.declared.changes.Change.{Change}
-use Rattle.et_refs.specs.declared.changes.Change.TheVariants as change
+use Rattle.et_refs.specs.declared.doing.changes.Exchange.{Exchange}
+use Rattle.et_refs.specs.declared.doing.changes.Store.{Store}
+use Rattle.et_refs.specs.declared.doing.changes.NewArray.{NewArray}
+use Rattle.et_refs.specs.declared.doing.changes.Change.{Change}
+use Rattle.et_refs.specs.declared.doing.changes.Change.TheVariants as change
 
 -- a value was put in the place of operands, and these are below it
 abbrev pub put_outcome : Moment → Site → List Value → Value → Outcome Kept

@@ -6,7 +6,7 @@ use Rattle.et_heap.specs.Objects.{Objects, IsHeld, object_at}
 use Rattle.et_program.specs.Entries.{class_at}
 use Rattle.et_event.specs.Heap.{arrays_made, element_class}
 use Rattle.et_event.specs.Moments.{Moment, Doing, next_object, slot_written}
-use Rattle.et_refs.specs.declared.filling.Filling.{Filling}
+use Rattle.et_refs.specs.declared.arrays.filling.Filling.{Filling}
 
 -- so many elements of an array from i on are made, each with what is in it
 abbrev pub filled_from : Moment → ℕ → (Doing → Doing) → ℕ → ℕ → Doing → Doing

@@ -3,7 +3,7 @@ use Rattle.std.specs.Prelude.{◌≡◌, ◌<◌, length, Some}
 use Rattle.et_program.specs.Entries.{Linked}
 use Rattle.et_program.specs.Referring.{class_referred}
 use Rattle.et_program.specs.Resolution.{resolve_class}
-use Rattle.et_refs.specs.declared.casts.NamedClass.{NamedClass}
+use Rattle.et_refs.specs.declared.types.casts.NamedClass.{NamedClass}
 
 -- the entry names the class
 pub record IsNamedAt (p : Linked) (x : NamedClass) : Type 0 where

@@ -2,7 +2,7 @@
 use Rattle.std.specs.Prelude.{◌≡◌, ℕ, ◌<◌, [], length, unwrap_or, IfOk}
 use Rattle.et_program.specs.Entries.{Linked}
 use Rattle.et_program.specs.Referring.{Member, field_of_member, member_described, pool_of_class}
-use Rattle.et_refs.specs.declared.fields.NamedField.{NamedField}
+use Rattle.et_refs.specs.declared.slots.fields.NamedField.{NamedField}
 
 abbrev pub no_member : Member
 no_member = record { owner = []; name = []; descriptor = [] }

@@ -12,7 +12,7 @@ use Rattle.et_event.specs.declared.rows.HeapRow.TheVariants as row
 use Rattle.et_event.specs.Checks.{entries_of}
 use Rattle.et_event.specs.Moments.{Moment}
 use Rattle.et_event.specs.Sound.{IsSoundObject}
-use Rattle.et_refs.specs.declared.changes.Exchange.{Exchange}
+use Rattle.et_refs.specs.declared.doing.changes.Exchange.{Exchange}
 use Rattle.et_refs.specs.Steps.{over}
 
 -- thread t has the turn in a state with this heap

@@ -6,10 +6,10 @@ use Rattle.et_event.specs.Errors.{class_called}
 use Rattle.et_event.specs.Moments.{Moment}
 use Rattle.et_event.specs.Operands.{operand_kind}
 use Rattle.et_event.specs.Out.{is_done}
-use Rattle.et_refs.specs.declared.accesses.Access.TheVariants.{Read}
-use Rattle.et_refs.specs.declared.accesses.Wanted.{Wanted}
+use Rattle.et_refs.specs.declared.doing.accesses.Access.TheVariants.{Read}
+use Rattle.et_refs.specs.declared.doing.accesses.Wanted.{Wanted}
 use Rattle.et_refs.specs.declared.refusals.Refusal.{Refusal}
-use Rattle.et_refs.specs.declared.static_fields.StaticRead.{StaticRead}
+use Rattle.et_refs.specs.declared.slots.static_fields.StaticRead.{StaticRead}
 
 -- that of a field, as one of this descriptor
 abbrev pub read_of : Linked → List ℕ → ℕ → StaticRead

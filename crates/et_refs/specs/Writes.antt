@@ -5,7 +5,7 @@ use Rattle.et_heap.specs.Refs.{refs_of}
 use Rattle.et_state.specs.Running.{RunningState}
 use Rattle.et_event.specs.declared.rows.HeapRow.{HeapRow}
 use Rattle.et_event.specs.declared.rows.HeapRow.TheVariants as row
-use Rattle.et_refs.specs.declared.changes.Store.{Store}
+use Rattle.et_refs.specs.declared.doing.changes.Store.{Store}
 
 -- the rows that write a slot of an object
 abbrev pub is_write_row : HeapRow → Bool

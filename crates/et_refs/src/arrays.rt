@@ -1,4 +1,11 @@
-//! Arrays that are made (JVMS 6.5, newarray, anewarray).
+//! Arrays that are made (JVMS 6.5, newarray, anewarray, multianewarray): those of one dimension here, what making takes and the
+//! arrays of several dimensions below.
+
+pub(crate) mod counts;
+pub(crate) mod dimensions;
+pub(crate) mod filling;
+pub(crate) mod lengths;
+
 ghost use Rattle.std.specs.Prelude.{◌≡◌, ℕ, ◌+◌, ◌<◌, ◌≤◌, ◌^◌, drop, length, unwrap_or, IfOk};
 ghost use Rattle.et_state.specs.State.{Kept, kept_of};
 ghost use Rattle.et_state.specs.Words.{HasFrame, top};
@@ -14,12 +21,12 @@ ghost use Rattle.et_program.specs.Referring.{pool_of_class};
 ghost use Rattle.et_refs.specs.Refusals.{outcome_of};
 ghost use Rattle.et_event.specs.Programs.{AreElementsWithin};
 
-use crate::casts::class_named;
-use crate::changes::NewArray;
 use crate::checks::{resolve_named, throws_unless};
-use crate::kinds::{is_length, natural};
+use crate::doing::changes::NewArray;
 use crate::operands::{operands_fit, take_int};
 use crate::refusals::Refusal;
+use crate::types::casts::class_named;
+use crate::types::kinds::{is_length, natural};
 use et_base::{ClassId, ThreadId};
 use et_event::{GuestError, Place};
 use et_program::Program;

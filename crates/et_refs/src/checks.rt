@@ -8,8 +8,8 @@ ghost use Rattle.et_event.specs.Heap.{resolved_class};
 ghost use Rattle.et_refs.specs.NamedClasses.{IsNamedAt};
 ghost use Rattle.et_refs.specs.Refusals.{outcome_of};
 
-use crate::casts::NamedClass;
 use crate::refusals::Refusal;
+use crate::types::casts::NamedClass;
 use et_base::{ClassId, ObjectId};
 use et_event::GuestError;
 use et_program::Program;

@@ -7,7 +7,7 @@ ghost use Rattle.et_state.specs.State.{Kept};
 ghost use Rattle.et_state.specs.Moves.{IsUnderWay};
 ghost use Rattle.et_event.specs.Heap.{arrays_made};
 ghost use Rattle.et_event.specs.Moments.{Moment, Doing, next_object, array_made, slot_written, fits_heap};
-ghost use Rattle.et_refs.specs.declared.filling.Filling.{Filling};
+ghost use Rattle.et_refs.specs.declared.arrays.filling.Filling.{Filling};
 ghost use Rattle.et_refs.specs.Filling.{with_filled, first_filling, next_filling};
 ghost use Rattle.et_refs.specs.Legal.{HasMadeArrays};
 

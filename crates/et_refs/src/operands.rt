@@ -1,4 +1,7 @@
-//! The operands that a row takes.
+//! The operands that a row takes: of a machine here, of the frame that runs below.
+
+pub(crate) mod running;
+
 ghost use Rattle.std.specs.Prelude.{◌≡◌, ℤ, ◌+◌, ◌<◌, ◌≤◌, List, length, drop, true, Some, IfOk};
 ghost use Rattle.et_pool.specs.Descriptors.{is_field_descriptor};
 ghost use Rattle.et_event.specs.Kinds.{kind_of_field};
@@ -13,8 +16,8 @@ ghost use Rattle.et_event.specs.Tops.{IsIn};
 ghost use Rattle.et_refs.specs.Refusals.{outcome_of};
 ghost use Rattle.et_refs.specs.Changes.{IsNamedReference};
 
-use crate::kinds::kind_of_elements;
 use crate::refusals::Refusal;
+use crate::types::kinds::kind_of_elements;
 use et_base::{ObjectId, ThreadId, Value};
 use et_event::{Elements, Operand, int_at, long_at, reference_at};
 use et_heap::value_of_reference;

@@ -20,13 +20,13 @@ ghost use Rattle.et_state.specs.State.{kept_of};
 ghost use Rattle.et_state.specs.Threads.{FrameState};
 ghost use Rattle.et_state.specs.Words.{HasFrame, top};
 
-use crate::accesses::Wanted;
 use crate::arrays::{new_array, new_reference_array};
-use crate::casts::{check_cast, instance_of};
-use crate::changes::{Change, Exchange, NewArray};
-use crate::instances::new_object;
+use crate::doing::accesses::Wanted;
+use crate::doing::changes::{Change, Exchange, NewArray};
 use crate::refusals::Refusal;
-use crate::static_fields::write_field as write_static_field;
+use crate::slots::static_fields::write_field as write_static_field;
+use crate::types::casts::{check_cast, instance_of};
+use crate::types::instances::new_object;
 use et_base::{Steps, ThreadId};
 use et_event::{HeapRow, Place};
 use et_program::Program;

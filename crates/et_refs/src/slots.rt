@@ -1,4 +1,13 @@
-//! The slot of an object that an instruction reads or writes.
+//! The slots of objects that instructions read and write: which slot it is stands here, fields and elements below, with the
+//! reads and writes over frames that are lifted out of the machine.
+
+pub(crate) mod elements;
+pub(crate) mod fields;
+pub(crate) mod reads;
+pub(crate) mod static_fields;
+pub(crate) mod steps;
+pub(crate) mod writes;
+
 ghost use Rattle.std.specs.Prelude.{◌≡◌, ◌+◌, ◌<◌, ◌≤◌, length};
 ghost use Rattle.et_heap.specs.Objects.{IsHeld, object_at, slot_of};
 ghost use Rattle.et_heap.specs.Refs.{refs_of_value};
@@ -8,7 +17,7 @@ ghost use Rattle.et_program.specs.Entries.{Linked};
 ghost use Rattle.et_refs.specs.Reads.{AreHeld, IsSoundHeap};
 ghost use Rattle.et_refs.specs.Slots.{IsSlotAt, entries};
 
-use crate::kinds::or_zero;
+use crate::types::kinds::or_zero;
 use et_base::{ObjectId, Steps, Value};
 use et_event::Operand;
 use et_heap::Heap;

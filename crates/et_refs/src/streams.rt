@@ -13,9 +13,9 @@ ghost use Rattle.et_event.specs.Sites.{Site};
 ghost use Rattle.et_event.specs.Sound.{IsSoundFor};
 ghost use Rattle.et_event.specs.Places.{IsPlace};
 
-use crate::changes::replace_top;
-use crate::class_events::{has_room, ready_event};
-use crate::static_fields::read_field;
+use crate::doing::beginning::{has_room, ready_event};
+use crate::doing::changes::replace_top;
+use crate::slots::static_fields::read_field;
 use et_base::{NoMemory, ObjectId, ThreadId, Value};
 use et_event::{Place, add_instance, class_called, place_of, slots_of};
 use et_program::{BuiltInClass, Program};

@@ -4,12 +4,12 @@ use Rattle.std.proofs.lemmas.List.{length-reverse, length-take-le, length-drop, 
 use Rattle.et_base.specs.declared.value.Value.{Value}
 use Rattle.et_base.specs.declared.value.Value.TheVariants.{Unset}
 use Rattle.et_state.specs.Threads.{FrameState, first_frame, rest_of, at_pc, pushed, with_local, operand_of, local_of}
-use Rattle.et_state.specs.declared.frame.FrameHead.{FrameHead}
+use Rattle.et_state.specs.declared.frames.frame.FrameHead.{FrameHead}
 use Rattle.et_state.specs.FrameInside.{frame_in}
 use Rattle.et_state.specs.StackInside.{frames_in, AreFrames}
 use Rattle.et_state.specs.Running.{RunningState, steps_running}
 use Rattle.et_state.specs.RunningInside.{running_of, running_in, IsRunning}
-use Rattle.et_state.specs.declared.running.Running.TheInside.{Inside}
+use Rattle.et_state.specs.declared.frames.running.Running.TheInside.{Inside}
 use Rattle.et_state.proofs.Stacks.{Keeps, length-frames_in, last_read, keeps_pushed, keeps_local}
 
 -- what is read of the frame that runs, by where its parts stand among the values

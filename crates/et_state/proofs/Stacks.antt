@@ -8,7 +8,7 @@ use Rattle.et_base.specs.declared.value.Value.{Value}
 use Rattle.et_base.specs.declared.value.Value.TheVariants.{Unset}
 use Rattle.et_state.specs.Threads.{FrameState, first_frame, rest_of, at_pc, pushed, popped, without_operands, with_local, locals_with}
 use Rattle.et_state.specs.ThreadRoots.{frame_roots}
-use Rattle.et_state.specs.declared.frame.FrameHead.{FrameHead}
+use Rattle.et_state.specs.declared.frames.frame.FrameHead.{FrameHead}
 use Rattle.et_state.specs.FrameInside.{frame_in, IsFrame}
 use Rattle.et_state.specs.StackInside.{frames_in, IsTopmost, AreFrames, IsStacked}
 

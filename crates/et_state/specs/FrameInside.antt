@@ -2,7 +2,7 @@
 use Rattle.std.specs.Prelude.{◌+◌, ◌<◌, ◌≤◌, ◌^◌, List, length, take, drop, reverse}
 use Rattle.et_base.specs.declared.value.Value.{Value}
 use Rattle.et_state.specs.Threads.{FrameState}
-use Rattle.et_state.specs.declared.frame.FrameHead.{FrameHead}
+use Rattle.et_state.specs.declared.frames.frame.FrameHead.{FrameHead}
 
 abbrev pub frame_in : FrameHead → List Value → FrameState
 frame_in h vs = record {

@@ -1,7 +1,7 @@
 -- What is kept of the strings of constants.
 use Rattle.std.specs.Prelude.{◌≡◌, ℕ, ◌<◌, ◌^◌, All, List, length, map}
 use Rattle.et_state.specs.Interned.{interned_objects}
-use Rattle.et_state.specs.declared.interned.Interned.TheInside.{Inside}
+use Rattle.et_state.specs.declared.machine.interned.Interned.TheInside.{Inside}
 
 abbrev pub interned_in : Inside → List (List ℕ × ℕ)
 interned_in a = map (λ e. (e.0.items, e.1)) a.objects.entries

@@ -1,10 +1,10 @@
 -- What is kept of the frames of a thread while the topmost one runs: as of a thread, but that what it changes stands apart.
 use Rattle.std.specs.Prelude.{◌≡◌, ℕ, ◌+◌, ◌<◌, ◌^◌, List, ◌∷◌, take, reverse}
 use Rattle.et_state.specs.Threads.{FrameState, first_frame, rest_of, at_pc}
-use Rattle.et_state.specs.declared.frame.FrameHead.{FrameHead}
+use Rattle.et_state.specs.declared.frames.frame.FrameHead.{FrameHead}
 use Rattle.et_state.specs.StackInside.{frames_in, IsStacked}
 use Rattle.et_state.specs.Running.{RunningState}
-use Rattle.et_state.specs.declared.running.Running.TheInside.{Inside}
+use Rattle.et_state.specs.declared.frames.running.Running.TheInside.{Inside}
 
 -- frames of which the topmost one runs
 abbrev pub running_of : List FrameState → ℕ → List ℕ → RunningState

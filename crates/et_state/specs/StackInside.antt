@@ -3,8 +3,8 @@
 use Rattle.std.specs.Prelude.{ℕ, ◌+◌, ◌≤◌, List, [], ◌∷◌, length, take, drop, reverse}
 use Rattle.et_base.specs.declared.value.Value.{Value}
 use Rattle.et_state.specs.Threads.{FrameState}
-use Rattle.et_state.specs.declared.frame.FrameHead.{FrameHead}
-use Rattle.et_state.specs.declared.frame_stack.FrameStack.TheInside.{Inside}
+use Rattle.et_state.specs.declared.frames.frame.FrameHead.{FrameHead}
+use Rattle.et_state.specs.declared.frames.frame_stack.FrameStack.TheInside.{Inside}
 use Rattle.et_state.specs.FrameInside.{frame_in, IsFrame}
 
 -- the frames with these heads, the topmost first

@@ -1,7 +1,7 @@
 -- What is kept of a thread.
 use Rattle.std.specs.Prelude.{◌≤◌, length}
 use Rattle.et_state.specs.Threads.{ThreadState, most_frames}
-use Rattle.et_state.specs.declared.thread.Thread.TheInside.{Inside}
+use Rattle.et_state.specs.declared.threads.thread.Thread.TheInside.{Inside}
 
 abbrev pub thread_in : Inside → ThreadState
 thread_in t = record {

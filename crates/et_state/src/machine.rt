@@ -1,4 +1,11 @@
-//! The machine.
+//! The machine; below, what it keeps beside its threads, its first state, and what an event loses.
+
+pub(crate) mod first;
+pub(crate) mod interned;
+pub(crate) mod listing;
+pub(crate) mod losses;
+pub(crate) mod lost;
+
 ghost use Rattle.std.specs.Prelude.{◌≡◌, ◌+◌, ◌<◌, ◌≤◌, ◌^◌, ◌∷◌, ◌++◌, [], length, false, IsTrue, None, Some, IfSome, IfOk, OnOk, OnErr, slice_get, option_to_list};
 ghost use Rattle.std.specs.Option.{option_copied};
 ghost use Rattle.et_heap.specs.Objects.{IsHeld, object_at, with_object_at, with_slot, slot_of};
@@ -13,14 +20,14 @@ ghost use Rattle.et_state.specs.Running.{passed, with_frames};
 ghost use Rattle.et_state.specs.Words.{thread_at, with_new_thread, top, HasFrame, IsUnended, static_at, with_static, class_state_at, with_class_state, class_monitor_at, with_class_monitor, with_string, first_state, with_guest, begun, losing, steps_guest, steps_thread, steps_top, steps_object};
 
 use crate::class_state::ClassState;
-use crate::interned::Interned;
-use crate::listing::list_values;
-use crate::lost::Lost;
+use crate::frames::running::Running;
+use crate::machine::interned::Interned;
+use crate::machine::listing::list_values;
+use crate::machine::lost::Lost;
 use crate::new_frame::{NewFrame, NewHead};
-use crate::running::Running;
 use crate::stage::{Stage, Turn};
-use crate::thread::Thread;
 use crate::threads;
+use crate::threads::thread::Thread;
 use et_base::{ClassId, MethodId, NoMemory, ObjectId, Steps, ThreadId, Value, within};
 use et_heap::{Heap, MakeFault, Monitor, RootList};
 use std::alloc::Global;

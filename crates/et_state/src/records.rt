@@ -1,4 +1,8 @@
-//! What an event tells.
+//! What an event tells; below, the records of an event in order, and what events put out.
+
+pub(crate) mod lines;
+pub(crate) mod output;
+
 use et_base::{ClassId, MethodId};
 
 /// A record of an event. Classes and methods stand in it by their numbers in the program; a trace has numbers of

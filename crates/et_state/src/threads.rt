@@ -1,10 +1,13 @@
-//! Threads in order of start.
+//! Threads in order of start; below, one thread.
+
+pub(crate) mod thread;
+
 ghost use Rattle.std.specs.Prelude.{◌≡◌, ◌≤◌, ◌++◌, ◌==◌, length, not, OnOk};
 ghost use Rattle.std.specs.List.{filter, flat_map};
 ghost use Rattle.et_state.specs.Threads.{is_thread_object, thread_with, most_threads};
 ghost use Rattle.et_state.specs.ThreadRoots.{thread_roots};
 
-use crate::thread::Thread;
+use crate::threads::thread::Thread;
 use et_base::{NoMemory, ObjectId, ThreadId};
 use et_heap::RootList;
 

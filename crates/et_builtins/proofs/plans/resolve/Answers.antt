@@ -2,7 +2,7 @@ use Rattle.std.proofs.Common.{◌≡◌, sym, ◌∙◌, ap, subst}
 use Rattle.std.specs.Prelude.{Result, IfOk}
 use Rattle.et_program.specs.Entries.{method_at}
 use Rattle.et_program.specs.declared.errors.LinkError.{LinkError}
-use Rattle.et_program.specs.declared.referring.NamedMethod.{NamedMethod}
+use Rattle.et_program.specs.declared.lookup.referring.NamedMethod.{NamedMethod}
 use Rattle.et_event.specs.declared.errors.GuestError.{GuestError}
 use Rattle.et_event.specs.Moments.{begins, throws}
 use Rattle.et_event.specs.Sites.{names_interface}

@@ -3,8 +3,8 @@ use Rattle.et_hierarchy.specs.Links.{LinkEntry}
 use Rattle.et_hierarchy.specs.Ancestry.{IsAncestry}
 use Rattle.et_pool.specs.Entries.{Constants}
 use Rattle.et_program.specs.Entries.{Linked}
-use Rattle.et_link.specs.declared.reading.Declared.{Declared}
-use Rattle.et_link.specs.declared.classes.Known.{Known}
+use Rattle.et_link.specs.declared.linking.reading.Declared.{Declared}
+use Rattle.et_link.specs.declared.linking.classes.Known.{Known}
 use Rattle.et_program.specs.Files.{set_of}
 use Rattle.et_program.specs.Loaded.{loaded_class}
 use Rattle.et_program.specs.MembersOf.{HasPools}

@@ -6,7 +6,7 @@ use Rattle.et_loop.specs.Quiet.{IsStretch, IsBrokenOff, IsStep}
 use Rattle.et_loop.specs.Stamping.{Restamps}
 use Rattle.et_loop.specs.declared.next_flush.NextFlush.{NextFlush}
 use Rattle.et_loop.specs.declared.schedule.Rota.{Rota}
-use Rattle.et_state.specs.declared.output.Output.{Output}
+use Rattle.et_state.specs.declared.records.output.Output.{Output}
 use Rattle.et_loop.proofs.Pacing.{next_flush_on, rota_on}
 use Rattle.et_loop.proofs.Quiets.{ending_finished, ending_limit, step_over, tick_done}
 use Rattle.et_loop.proofs.RunLemmas.{on_any}

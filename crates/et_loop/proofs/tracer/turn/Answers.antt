@@ -10,7 +10,7 @@ use Rattle.et_loop.specs.Run.{due_lines, last_lines, PutsFlush, PutsLast}
 use Rattle.et_loop.specs.declared.schedule.Rota.{Rota}
 use Rattle.et_loop.specs.Pace.{IsRota}
 use Rattle.et_loop.specs.Quiet.{IsStep, IsBrokenStep, IsTurn}
-use Rattle.et_state.specs.declared.output.Output.{Output}
+use Rattle.et_state.specs.declared.records.output.Output.{Output}
 use Rattle.et_loop.proofs.Flushed.{IsSettled, broken_at_flush, broken_turn, turn_goes, turn_ends, turn_broken}
 use Rattle.et_loop.proofs.Quiets.{settled_there}
 use Rattle.et_loop.proofs.RunLemmas.{on_any}

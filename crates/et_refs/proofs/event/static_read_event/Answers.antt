@@ -7,7 +7,7 @@ use Rattle.et_event.specs.Places.{site_at}
 use Rattle.et_refs.specs.Accesses.{wanted_outcome}
 use Rattle.et_refs.specs.Refusals.{refusal_outcome}
 use Rattle.et_refs.specs.StaticReads.{wanted_by}
-use Rattle.et_refs.specs.declared.accesses.Wanted.{Wanted}
+use Rattle.et_refs.specs.declared.doing.accesses.Wanted.{Wanted}
 use Rattle.et_refs.proofs.Answering.{answers_as}
 use Rattle.et_refs.proofs.OutFound.{found_exactly, found_where}
 use Rattle.et_refs.proofs.OutPlaces.{answers_unless_out, is_left_there, left_to_other, not_left}

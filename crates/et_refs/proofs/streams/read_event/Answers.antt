@@ -10,9 +10,9 @@ use Rattle.et_event.specs.Places.{site_at}
 use Rattle.et_event.proofs.Answering.{if_ok}
 use Rattle.et_refs.specs.Accesses.{access_outcome}
 use Rattle.et_refs.specs.StaticReads.{out_slot}
-use Rattle.et_refs.specs.declared.accesses.Wanted.{Wanted}
+use Rattle.et_refs.specs.declared.doing.accesses.Wanted.{Wanted}
 use Rattle.et_refs.specs.declared.refusals.Refusal.{Refusal}
-use Rattle.et_refs.specs.declared.static_fields.StaticRead.{StaticRead}
+use Rattle.et_refs.specs.declared.slots.static_fields.StaticRead.{StaticRead}
 use Rattle.et_refs.proofs.OutReading.{never_refused, read_made, read_ready}
 use Rattle.et_refs.proofs.streams.read_event.Goals as goal
 

@@ -1,6 +1,6 @@
 use Rattle.std.proofs.Common.{List, [], ap, ◌∙◌}
 use Rattle.std.specs.List.{slice_index_or}
-use Rattle.et_program.specs.declared.resolved.Resolved.{Resolved}
+use Rattle.et_program.specs.declared.lookup.resolved.Resolved.{Resolved}
 use Rattle.et_program.proofs.PoolLemmas.{kept_right}
 use Rattle.et_program.proofs.program.Program.kept_at.Goals as goal
 

@@ -1,6 +1,6 @@
 use Rattle.std.proofs.Common.{◌≡◌, ℕ, length}
 use Rattle.std.specs.List.{slice_index_or}
-use Rattle.et_program.specs.declared.resolved.Resolved.TheVariants.{Nothing}
+use Rattle.et_program.specs.declared.lookup.resolved.Resolved.TheVariants.{Nothing}
 use Rattle.et_program.specs.Resolved.{IsResolved}
 use Rattle.et_program.proofs.program.Program.pool_resolved.Given as goal
 

@@ -1,9 +1,0 @@
-use Rattle.std.proofs.Common.{◌≡◌, ℕ, [], length}
-use Rattle.std.specs.List.{slice_index_or}
-use Rattle.et_link.proofs.heads.empty_lists.Given as goal
-
-abbrev pub invariant-loop : goal.invariant-loop
-invariant-loop l = record {
-  size : length l.lists.items ≡ l.counter;
-  empty : (k : ℕ) → slice_index_or l.lists.items k [] ≡ [];
-}

@@ -1,6 +1,0 @@
-use Rattle.et_refs.proofs.Leading.{put_led}
-use Rattle.et_refs.proofs.changes.put_value.Goals as goal
-
-pub returns : goal.returns
-returns c =
-    put_led c.args.machine.now c.args.thread c.args.x.taken c.args.next c.args.x.value _ _ c.requires.sound c.requires.frame c.requires.may.held c.begin_event.ensures c.replace_top.ensures

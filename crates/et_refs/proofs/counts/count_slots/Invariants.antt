@@ -1,7 +1,0 @@
-use Rattle.std.proofs.Common.{◌≡◌, ◌-◌, length, drop}
-use Rattle.et_event.specs.Heap.{naturals}
-use Rattle.et_refs.specs.Counts.{array_slots, capped_count}
-use Rattle.et_refs.proofs.counts.count_slots.Given as goal
-
-abbrev pub invariant-loop-k : goal.invariant-loop-k
-invariant-loop-k l = l.slots ≡ capped_count (array_slots (naturals (drop (length l.lengths - l.k) l.lengths)))

@@ -1,0 +1,22 @@
+use Rattle.std.proofs.Common.{◌∙◌, sym, append-nil}
+use Rattle.et_event.specs.Moments.{moment, begins}
+use Rattle.et_event.specs.Places.{site_at}
+use Rattle.et_refs.proofs.Carrying.{can_access, accessed_answers}
+use Rattle.et_refs.proofs.Quiet.{begun_initialized}
+use Rattle.et_refs.proofs.doing.beginning.ready_event.Goals as goal
+
+pub carry_out-requires-clause-can : goal.carry_out-requires-clause-can
+carry_out-requires-clause-can c =
+    let p = c.args.program.now in
+    let m = c.args.machine.now in
+    let d = begins (moment p m c.args.thread) in
+    can_access p c.args.thread m c.begin_event.new.self d c.args.wanted.now (begun_initialized p c.args.thread m c.requires.sound) c.requires.may
+    (sym c.access_fits.ensures ∙ c.if-not-access_fits.false) c.begin_event.ensures
+
+pub returns : goal.returns
+returns c =
+    let p = c.args.program.now in
+    let m = c.args.machine.now in
+    let d = begins (moment p m c.args.thread) in
+    accessed_answers p c.args.thread (site_at c.args.place.now) c.args.wanted.now m c.begin_event.new.self c.carry_out.new.machine d c.args.out.now c.args.out.now c.carry_out.new.out c.requires.sound.held c.requires.frame
+    (begun_initialized p c.args.thread m c.requires.sound) c.requires.may (sym c.access_fits.ensures ∙ c.if-not-access_fits.false) c.begin_event.ensures (sym (append-nil c.args.out.now)) c.in_ok-carry_out.ensures

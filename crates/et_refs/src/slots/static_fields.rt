@@ -1,0 +1,208 @@
+//! Static fields (JVMS 6.5, getstatic, putstatic).
+ghost use Rattle.std.specs.Prelude.{◌≡◌, ℕ, ◌+◌, ◌<◌, ◌≤◌, ◌^◌, length, nat_le, not, IfOk, OnOk};
+ghost use Rattle.et_state.specs.State.{Kept, kept_of};
+ghost use Rattle.et_state.specs.Words.{HasFrame, top};
+ghost use Rattle.et_state.specs.Outcome.{Outcome};
+ghost use Rattle.et_event.specs.declared.errors.GuestError.TheVariants.{IncompatibleClassChangeError, NoSuchFieldError};
+ghost use Rattle.et_event.specs.Checks.{ill_typed_unless as ill_unless, throws_unless as throwing_unless};
+ghost use Rattle.et_event.specs.Heap.{resolved_field, is_out as is_field_out, is_static_at, put_static, with_static_field};
+ghost use Rattle.et_event.specs.Moments.{Moment, moment, begins};
+ghost use Rattle.et_event.specs.Sites.{Member, natural_of};
+ghost use Rattle.et_event.specs.Sound.{IsSoundFor};
+ghost use Rattle.et_event.specs.Places.{site_at};
+ghost use Rattle.et_program.specs.Referring.{pool_of_class};
+ghost use Rattle.et_refs.specs.NamedFields.{IsAnswered, IsNamedBy};
+ghost use Rattle.et_refs.specs.Refusals.{outcome_of};
+ghost use Rattle.et_event.specs.Programs.{HasSlots};
+ghost use Rattle.et_refs.specs.Accesses.{IsStaticField, MayWant, wanted_outcome};
+ghost use Rattle.et_refs.specs.StaticReads.{is_out_class as is_class_of_out, read_of, wanted_by};
+ghost use Rattle.et_refs.specs.declared.slots.static_fields.StaticRead.{StaticRead as StaticReadOf};
+
+use crate::checks::{ill_typed_unless, throws_unless};
+use crate::doing::accesses::{Access, Read, Wanted, Write};
+use crate::operands::take_typed;
+use crate::refusals::Refusal;
+use crate::slots::fields::{NamedField, field_named};
+use crate::types::kinds::{narrowed, width_of};
+use et_base::{ClassId, FieldId, ThreadId};
+use et_class::flags::{STATIC, has};
+use et_event::{GuestError, Place, class_called, index_of};
+use et_pool::kind_of;
+use et_program::{BuiltInClass, Program};
+use et_state::{ClassState, Machine};
+
+/// Whether so many entries fit on top.
+fn fits(machine: &Machine, thread: ThreadId, width: u32) -> bool
+    requires frame { HasFrame machine.now.guest thread }
+    requires small { width ≤ 2 }
+    ensures { result ≡ nat_le (width + length (top machine.now.guest thread).operands)
+        (top machine.now.guest thread).room }
+{
+    let room = machine.room(thread) as u32;
+    width + machine.depth(thread) <= room
+}
+
+/// The event has no meaning unless so many entries fit on top.
+pub(crate) fn width_fits(machine: &Machine, thread: ThreadId, width: u32) -> Result<(), Refusal>
+    requires frame { HasFrame machine.now.guest thread }
+    requires small { width ≤ 2 }
+    ensures is { (e : Moment) (go : Outcome Kept) →
+        ill_unless e (nat_le (width + length (top machine.now.guest thread).operands)
+        (top machine.now.guest thread).room) go ≡ outcome_of e result (λ u. go) }
+    ensures fits { OnOk result (width + length (top machine.now.guest thread).operands
+        ≤ (top machine.now.guest thread).room) }
+{
+    ill_typed_unless(fits(machine, thread, width))
+}
+
+/// The static field that an instruction names.
+fn static_field(program: &Program, named: &NamedField<'_>) -> Result<FieldId, Refusal>
+    requires { IsAnswered program.now named.now }
+    ensures is { (m : Member) (s : Kept) (t : ℕ) (go : ℕ → Outcome Kept) →
+        IsNamedBy program.now m named.now →
+        resolved_field (record { program = program.now; before = s; thread = t }) (begins
+        (record { program = program.now; before = s; thread = t })) m
+        (λ f. throwing_unless (record { program = program.now; before = s; thread = t }) (begins
+        (record { program = program.now; before = s; thread = t })) IncompatibleClassChangeError
+        (is_static_at program.now f) (go f))
+        ≡ outcome_of (record { program = program.now; before = s; thread = t }) result go }
+    ensures field { IfOk result (λ f. IsStaticField program.now named.now.descriptor.now f) }
+{
+    let field = match named.answer {
+        Ok(field) => field,
+        Err(error) => return Err(Refusal::Throws(GuestError::of(error))),
+    };
+    let is_static = has(program.field(field).flags, STATIC);
+    throws_unless(GuestError::IncompatibleClassChangeError, is_static)?;
+    Ok(field)
+}
+
+/// Whether a field is System.out, the one static field of a built-in class.
+fn is_out(program: &Program, field: FieldId) -> bool
+    requires { field < length program.now.fields }
+    ensures { result ≡ is_field_out program.now field }
+{
+    program.field(field).class == class_called(program, BuiltInClass::System)
+}
+
+/// The static field that `putstatic` names. No instruction writes System.out.
+fn written_field(program: &Program, named: &NamedField<'_>) -> Result<FieldId, Refusal>
+    requires { IsAnswered program.now named.now }
+    ensures is { (m : Member) (s : Kept) (t : ℕ) (go : ℕ → Outcome Kept) →
+        IsNamedBy program.now m named.now →
+        resolved_field (record { program = program.now; before = s; thread = t }) (begins
+        (record { program = program.now; before = s; thread = t })) m
+        (λ f. throwing_unless (record { program = program.now; before = s; thread = t }) (begins
+        (record { program = program.now; before = s; thread = t })) IncompatibleClassChangeError
+        (is_static_at program.now f)
+        (throwing_unless (record { program = program.now; before = s; thread = t }) (begins
+        (record { program = program.now; before = s; thread = t })) NoSuchFieldError
+        (not (is_field_out program.now f)) (go f)))
+        ≡ outcome_of (record { program = program.now; before = s; thread = t }) result go }
+    ensures field { IfOk result (λ f. IsStaticField program.now named.now.descriptor.now f) }
+{
+    let field = static_field(program, named)?;
+    throws_unless(GuestError::NoSuchFieldError, !is_out(program, field))?;
+    Ok(field)
+}
+
+/// A static field that is read.
+#[derive(Clone, Copy)]
+pub struct StaticRead {
+    /// The class that declares it.
+    pub class: ClassId,
+    /// Its value is put on top.
+    pub read: Read,
+}
+
+impl StaticRead {
+    /// The class, which is initialized first, and the value.
+    pub(crate) fn wanted(self) -> Wanted
+        ensures { result ≡ wanted_by self }
+    {
+        Wanted {
+            class: self.class,
+            access: Access::Read(self.read),
+        }
+    }
+}
+
+/// The static field that `getstatic` reads.
+#[inline(always)]
+pub(crate) fn read_field(
+    program: &Program,
+    machine: &Machine,
+    thread: ThreadId,
+    place: &Place<'_>,
+) -> Result<StaticRead, Refusal>
+    requires program { HasSlots program.now }
+    requires frame { HasFrame machine.now.guest thread }
+    requires class { place.now.class < length program.now.classes }
+    requires index { natural_of place.now.instr.first < 2 ^ 16 }
+    requires pool { (site_at place.now).pool ≡ pool_of_class program.now place.now.class }
+    ensures is { (go : StaticReadOf → Outcome Kept) →
+        with_static_field (moment program.now machine.now thread) (site_at place.now)
+        (λ m f. go (read_of program.now m.descriptor f))
+        ≡ outcome_of (moment program.now machine.now thread) result go }
+    ensures may { IfOk result
+        (λ x. MayWant program.now (top machine.now.guest thread) (wanted_by x)) }
+{
+    let named = match field_named(program, place.class, index_of(place)) {
+        Ok(named) => named,
+        Err(refusal) => return Err(refusal),
+    };
+    width_fits(machine, thread, width_of(named.descriptor))?;
+    let field = static_field(program, &named)?;
+    let info = program.field(field);
+    Ok(StaticRead {
+        class: info.class,
+        read: Read {
+            slot: info.slot,
+            kind: kind_of(named.descriptor),
+        },
+    })
+}
+
+/// Whether the static field of a class is System.out, which may be read.
+pub(crate) fn is_out_class(program: &Program, machine: &Machine, class: ClassId) -> bool
+    requires classes { length machine.now.guest.classes ≡ length program.now.classes }
+    ensures { (t : ℕ) → result ≡ is_class_of_out (moment program.now machine.now t) class }
+{
+    class == class_called(program, BuiltInClass::System)
+        && matches!(machine.class_state(class), ClassState::Done)
+}
+
+/// What `putstatic` wants.
+pub(crate) fn write_field(
+    program: &Program,
+    machine: &Machine,
+    thread: ThreadId,
+    place: &Place<'_>,
+) -> Result<Wanted, Refusal>
+    requires program { HasSlots program.now }
+    requires frame { HasFrame machine.now.guest thread }
+    requires sound { IsSoundFor program.now (kept_of machine.now) }
+    requires class { place.now.class < length program.now.classes }
+    requires index { natural_of place.now.instr.first < 2 ^ 16 }
+    requires pool { (site_at place.now).pool ≡ pool_of_class program.now place.now.class }
+    ensures is { put_static (moment program.now machine.now thread) (site_at place.now)
+        ≡ outcome_of (moment program.now machine.now thread) result
+        (wanted_outcome (moment program.now machine.now thread) (site_at place.now)) }
+    ensures may { IfOk result (λ x. MayWant program.now (top machine.now.guest thread) x) }
+{
+    let named = match field_named(program, place.class, index_of(place)) {
+        Ok(named) => named,
+        Err(refusal) => return Err(refusal),
+    };
+    let taken = take_typed(machine, thread, named.descriptor)?;
+    let field = written_field(program, &named)?;
+    let info = program.field(field);
+    Ok(Wanted {
+        class: info.class,
+        access: Access::Write(Write {
+            slot: info.slot,
+            taken: taken.width,
+            value: narrowed(named.descriptor, taken.value),
+        }),
+    })
+}
