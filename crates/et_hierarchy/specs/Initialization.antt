@@ -4,9 +4,13 @@ use Rattle.std.specs.List.{slice_index_or, flat_map}
 use Rattle.et_hierarchy.specs.Links.{LinkEntry, no_links}
 use Rattle.et_hierarchy.specs.Ancestry.{Ancestry, ancestry_at, once, added_all}
 
--- the superinterfaces by the interface lists of a class, each after its own superinterfaces, that have a method to run
+-- the superinterfaces by the interface list of a class, each after its own superinterfaces
+abbrev pub listed_interfaces : List Ancestry → LinkEntry → List ℕ
+listed_interfaces rows l = once (flat_map (λ i. (ancestry_at rows i).superinterfaces ++ i ∷ []) l.interfaces)
+
+-- those that have a method to run
 abbrev pub interfaces_to_run : (ℕ → Bool) → List Ancestry → LinkEntry → List ℕ
-interfaces_to_run needs rows l = filter needs (once (flat_map (λ i. (ancestry_at rows i).superinterfaces ++ i ∷ []) l.interfaces))
+interfaces_to_run needs rows l = filter needs (listed_interfaces rows l)
 
 -- a class after those interfaces
 abbrev pub with_interfaces : (ℕ → Bool) → List LinkEntry → List Ancestry → ℕ → List ℕ

@@ -1,10 +1,10 @@
 //! The order of initialization (JVMS 5.5).
 
-ghost use Rattle.std.specs.Prelude.{◌≡◌, ℕ, ◌<◌, ◌≤◌, ◌^◌, Bool, false, List, [], length, drop, All, OnOk, IfOk};
+ghost use Rattle.std.specs.Prelude.{◌≡◌, ℕ, ◌<◌, ◌≤◌, ◌^◌, Bool, false, List, [], length, drop, filter, All, OnOk, IfOk};
 ghost use Rattle.std.specs.List.{slice_index_or};
 ghost use Rattle.et_hierarchy.specs.Links.{LinkEntry, IsAcyclic, HasLinksWithin};
 ghost use Rattle.et_hierarchy.specs.Ancestry.{Ancestry, added_all, once, ancestry_at, IsAncestry};
-ghost use Rattle.et_hierarchy.specs.Initialization.{interfaces_to_run, with_interfaces, class_order};
+ghost use Rattle.et_hierarchy.specs.Initialization.{listed_interfaces, interfaces_to_run, with_interfaces, class_order};
 ghost use Rattle.et_hierarchy.specs.Orders.{order_down, IsStop, HasOrder, AreOrders, OrdersGrow};
 ghost use Rattle.et_hierarchy.specs.declared.order.Stop.{Stop};
 
@@ -17,26 +17,21 @@ use crate::tables::{add_all, add_each, add_interfaces, distinct};
 use et_base::ClassId;
 use std::alloc::{AllocError, Global};
 
-/// The superinterfaces by the interface list of a class, each after its own superinterfaces, that are marked as having
-/// a method to run. The list is for the work alone.
+/// Makes a list of the superinterfaces by the interface list of a class, each after its own superinterfaces.
 #[tactic(auto, using(crate::proofs::AddLemmas::add_rules))]
-fn interfaces_marked(
+fn list_interfaces(
     alloc: Global,
     list: &mut DistinctClasses,
-    needs: &[bool],
     rows: &[Row],
     links: &Links,
-) -> Result<Vec<u32>, AllocError>
+) -> Result<(), AllocError>
     requires { All (λ i. i < length rows.now) links.now.interfaces }
-    ensures { IfOk result (λ found.
-        found.items
-        ≡ interfaces_to_run (λ k. slice_index_or needs.now k false) rows.now links.now) }
+    ensures { OnOk result (list.new ≡ listed_interfaces rows.now links.now) }
 {
     let interfaces = distinct(alloc, list, links.interfaces())?;
     list.clear();
     add_interfaces(list, rows, interfaces.as_slice())?;
-    let found = marked_among(alloc, needs, list.as_slice())?;
-    Ok(found)
+    Ok(())
 }
 
 /// The superinterfaces by the interface list of a class, each after its own superinterfaces, that are marked as having
@@ -52,10 +47,9 @@ pub fn interfaces_to_run(
         list.items ≡ interfaces_to_run (λ k. slice_index_or needs.now k false) rows.now links.now) }
 {
     let mut list = DistinctClasses::begin(alloc);
-    interfaces_marked(alloc, &mut list, needs, rows, links)
+    list_interfaces(alloc, &mut list, rows, links)?;
+    marked_among(alloc, needs, list.as_slice())
 }
-
-ghost use Rattle.std.specs.Prelude.{filter};
 
 /// Those of these classes that are marked.
 fn marked_among(alloc: Global, marks: &[bool], classes: &[ClassId]) -> Result<Vec<u32>, AllocError>
@@ -69,6 +63,14 @@ fn marked_among(alloc: Global, marks: &[bool], classes: &[ClassId]) -> Result<Ve
         }
     }
     Ok(list)
+}
+
+/// The superclasses of a class, nearest first.
+fn supers_of(rows: &[Row], class: u32) -> &[ClassId]
+    requires { class < length rows.now }
+    ensures { result.now ≡ (ancestry_at rows.now class).supers }
+{
+    rows[class as usize].supers()
 }
 
 /// How many of these superclasses, the nearest ones, have no list yet.
@@ -135,7 +137,8 @@ fn add_class(
         (with_interfaces (λ k. slice_index_or needs.now k false) table.now rows.now class)) }
 {
     let links = &table[class as usize];
-    let found = interfaces_marked(alloc, &mut work.interfaces, needs, rows, links)?;
+    list_interfaces(alloc, &mut work.interfaces, rows, links)?;
+    let found = marked_among(alloc, needs, work.interfaces.as_slice())?;
     add_all(&mut work.order, found.as_slice())?;
     work.order.add(class)?;
     Ok(())
@@ -163,7 +166,7 @@ fn add_supers(
     ensures stops { IfOk result (λ stops. All (IsStop (λ k. slice_index_or needs.now k false)
         table.now rows.now work.new.order) stops.items) }
 {
-    let supers = rows[class as usize].supers();
+    let supers = supers_of(rows, class);
     let mut stops = Vec::with_capacity(alloc, missing)?;
     for i in (0..missing).rev() {
         let class = supers[i];
@@ -191,6 +194,36 @@ fn give(orders: &mut Vec<ClassList>, list: &ClassList, stops: &[Stop]) -> Result
     Ok(())
 }
 
+/// The list of a class, and where in it the orders of its superclasses that have none end.
+fn whole_list(
+    alloc: Global,
+    work: &mut Work,
+    needs: &[bool],
+    table: &[Links],
+    rows: &[Row],
+    orders: &[ClassList],
+    class: u32,
+) -> Result<(ClassList, Vec<Stop>), AllocError>
+    requires class { class < length table.now }
+    requires within { HasLinksWithin (length table.now) table.now }
+    requires rows { IsAncestry table.now rows.now }
+    requires orders { AreOrders (λ k. slice_index_or needs.now k false)
+        table.now rows.now orders.now }
+    ensures list { IfOk result (λ x. x.0
+        ≡ class_order (λ k. slice_index_or needs.now k false) table.now rows.now class) }
+    ensures stops { IfOk result (λ x. All (IsStop (λ k. slice_index_or needs.now k false)
+        table.now rows.now x.0) x.1.items) }
+{
+    let supers = supers_of(rows, class);
+    let missing = count_missing(orders, supers);
+    begin_order(&mut work.order, orders, supers, missing)?;
+    let stops = add_supers(alloc, work, needs, table, rows, class, missing)?;
+    add_class(alloc, work, needs, table, rows, class)?;
+    let classes = Vec::from_slice(alloc, work.order.as_slice())?;
+    let list = ClassList::of(classes)?;
+    Ok((list, stops))
+}
+
 /// Makes the list of a class, and gives its superclasses that have none their parts of it.
 fn make_order(
     alloc: Global,
@@ -211,13 +244,7 @@ fn make_order(
     ensures class { OnOk result (HasOrder (λ k. slice_index_or needs.now k false)
         table.now rows.now orders.new.items class) }
 {
-    let supers = rows[class as usize].supers();
-    let missing = count_missing(orders.as_slice(), supers);
-    begin_order(&mut work.order, orders.as_slice(), supers, missing)?;
-    let stops = add_supers(alloc, work, needs, table, rows, class, missing)?;
-    add_class(alloc, work, needs, table, rows, class)?;
-    let classes = Vec::from_slice(alloc, work.order.as_slice())?;
-    let list = ClassList::of(classes)?;
+    let (list, stops) = whole_list(alloc, work, needs, table, rows, orders.as_slice(), class)?;
     give(orders, &list, stops.as_slice())?;
     orders[class as usize] = list;
     Ok(())

@@ -79,19 +79,6 @@ fn add_superinterfaces_over(
     }
 }
 
-/// Puts the classes where a superclass looks for a field behind a list.
-fn add_field_order_over(
-    list: &mut DistinctClasses,
-    rows: &[Row],
-    above: Option<u32>,
-) -> Result<(), AllocError>
-    requires { IfSome above (λ s. s < length rows.now) }
-    ensures { OnOk result
-        (list.new ≡ added_all list.old (field_order_over rows.now above)) }
-{
-    add_each(list, field_order_over(rows, above))
-}
-
 /// Puts interfaces, each after its superinterfaces, behind a list.
 #[tactic(auto, using(crate::proofs::AddLemmas::add_rules))]
 pub(crate) fn add_interfaces(
@@ -170,7 +157,7 @@ fn searched(
     list.clear();
     list.add(class)?;
     add_field_orders(list, rows, interfaces.as_slice())?;
-    add_field_order_over(list, rows, above)?;
+    add_each(list, field_order_over(rows, above))?;
     let found = Vec::from_slice(alloc, list.as_slice())?;
     let order = ClassList::of(found)?;
     Ok(order)

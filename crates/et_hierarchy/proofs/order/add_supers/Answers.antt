@@ -2,10 +2,9 @@ use Rattle.std.proofs.Common.{◌≡◌, ℕ, ◌+◌, ◌-◌, ◌<◌, Bool, f
 use Rattle.std.specs.Prelude.{All}
 use Rattle.std.specs.List.{slice_index_or}
 use Rattle.std.proofs.lemmas.List.Elements.{All-push}
-use Rattle.et_hierarchy.specs.Ancestry.{Ancestry, ancestry_at, added_all}
+use Rattle.et_hierarchy.specs.Ancestry.{ancestry_at, added_all}
 use Rattle.et_hierarchy.specs.Initialization.{with_interfaces}
 use Rattle.et_hierarchy.specs.Orders.{order_down, IsStop}
-use Rattle.et_hierarchy.proofs.AddLemmas.{row_at}
 use Rattle.et_hierarchy.proofs.OrderParts.{super_at, super_read, down_turn, stop_here, stops_on}
 use Rattle.et_hierarchy.proofs.order.add_supers.Goals as goal
 
@@ -13,10 +12,8 @@ pub add_class-requires-clause-class : goal.add_class-requires-clause-class
 add_class-requires-clause-class c =
     let i : ℕ = c.loop-i.i - 1 in
     let k : ℕ = c.args.class in
-    let known : k < length c.args.rows.now = omega (arith, c.requires.class, c.requires.rows.each) in
-    let same : c.supers-supers.result.now ≡ (ancestry_at c.args.rows.now k).supers = c.supers-supers.ensures ∙ ap (λ (r : Ancestry). r.supers) (sym (row_at c.args.rows.now k _ known c.index-rows-class.is)) in
     let less : i < length (ancestry_at c.args.rows.now k).supers = omega (arith, c.loop-i.auto.i, c.requires.missing, c.loop-i-test.true) in
-    let here : c.number.result ≡ slice_index_or (ancestry_at c.args.rows.now k).supers i 0 = super_read _ _ i _ _ same less c.index-supers-i.is c.number.ensures.value in
+    let here : c.number.result ≡ slice_index_or (ancestry_at c.args.rows.now k).supers i 0 = super_read _ _ i _ _ c.supers_of-supers.ensures less c.index-supers-i.is c.number.ensures.value in
     subst (λ n. n < length c.args.table.now) (sym here) (super_at c.args.table.now c.args.rows.now c.requires.rows c.requires.within k i c.requires.class less).0
 
 pub loop-i-preserved : goal.loop-i-preserved
@@ -27,8 +24,7 @@ loop-i-preserved c =
     let i : ℕ = c.loop-i.i - 1 in
     let k : ℕ = c.args.class in
     let supers : List ℕ = (ancestry_at rows k).supers in
-    let known : k < length rows = omega (arith, c.requires.class, c.requires.rows.each) in
-    let same : c.supers-supers.result.now ≡ supers = c.supers-supers.ensures ∙ ap (λ (r : Ancestry). r.supers) (sym (row_at rows k _ known c.index-rows-class.is)) in
+    let same : c.supers_of-supers.result.now ≡ supers = c.supers_of-supers.ensures in
     let less : i < length supers = omega (arith, c.loop-i.auto.i, c.requires.missing, c.loop-i-test.true) in
     let here : c.number.result ≡ slice_index_or supers i 0 = super_read _ _ i _ _ same less c.index-supers-i.is c.number.ensures.value in
     let on : c.loop-i.i ≡ i + 1 = omega (arith, c.loop-i-test.true) in
