@@ -1,12 +1,18 @@
--- A step that the walks of `src/ghost_list.rt` share. Assumes `Logic`.
+-- What the walks of `src/ghost_list.rt` share. Assumes `Logic`.
 use Rattle.std.proofs.Common.{List, [], ◌∷◌, refl}
 use seplogic.Ra.Ura.{Ura}
+use mir.Syntax.{Fn}
 use mir.Val.{Val, vstruct, vcons, vnil}
+use base.Logic.{SProp, ent}
+use prog.Wp.{Calls, Loops, WpFn}
 use types.Logic.{Logic}
 use types.Kit.{Goal, Step, step, Item, ‵, ◌$◌, move, fjoin, fpack, feq_i}
 use denote.RattleType.{RattleType, Valss}
 use denote.Steps.{nothing}
 use denote.Struct.Struct.{Struct, within}
+use denote.Triple.Clauses.{Clauses, Ended}
+use denote.Triple.Entry.{alive}
+use denote.Triple.Walked.{Stays, walk_of}
 
 -- a struct by its fields alone: what it owns does not read its name
 abbrev pub plainly : List RattleType → RattleType
@@ -23,3 +29,19 @@ module _ {M : Type 1} {𝓤 : Ura M} {𝓛 : Logic 𝓤} {K : Type 0} {Γ : List
   one_made t R x u = step (λ s.
       nothing t $ move t (1 ∷ 0 ∷ []) $ fjoin t $ feq_i t (List Val) (one u ∷ []) (one u ∷ []) refl $ fjoin t $
       fpack t (Valss (R ∷ [])) (within (record { name = []; args = []; types = []; fields = R ∷ [] }) (x, tt) (one u ∷ [])) (u ∷ [], tt) $ s)
+
+-- what a walk starts from, what it is to end in, and what it has to show of the function
+module _ {M : Type 1} {𝓤 : Ura M} (𝓛 : Logic 𝓤) (ended : Ended) (stayed : Stays ended.signature.params ended.kept) (held : Clauses 𝓤 ended) where
+  open 𝓛 use {H}
+
+  abbrev pub Start : Type 0
+  Start = (walk_of 𝓛 ended stayed held).Ghost
+
+  abbrev pub wanted : Start → Val → SProp 𝓤
+  wanted z = (walk_of 𝓛 ended stayed held).post z
+
+  abbrev pub tokens : Start → SProp 𝓤
+  tokens z = alive 𝓛 ended.signature z.0.0 z.0.1
+
+  abbrev pub Walks : Calls 𝓤 H → Loops 𝓤 H → Fn → Start → Type 1
+  Walks C Λ function z = ent 𝓤 ((walk_of 𝓛 ended stayed held).pre z) (WpFn 𝓤 H C Λ function ((walk_of 𝓛 ended stayed held).args z) (wanted z))
