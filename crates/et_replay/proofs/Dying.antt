@@ -15,7 +15,7 @@ use Rattle.et_replay.specs.Lives.{never, no_size, Sizes, with_time, died_by}
 use Rattle.et_replay.specs.Parts.{item_event, death_of, deaths_from}
 use Rattle.et_replay.specs.Timeline.{tells_at, dies_at, death_at}
 use Rattle.et_replay.proofs.ByKey.{equal}
-use Rattle.et_replay.proofs.Living.{follows, both_true, leb-yes, eqb-yes, lives, times_push, set_here, set_there, cases_eqb, not_true, not_or}
+use Rattle.et_replay.proofs.Living.{follows, both_true, leb-yes, eqb-yes, lives, times_push, told_after, not_true, not_or}
 
 abbrev at : Sizes → ℕ → ℕ × ℕ
 at sizes i = get_or sizes i no_size
@@ -46,21 +46,7 @@ abbrev IsTold : List TraceLine → Sizes → ℕ → Type 0
 IsTold past d e = (o : ℕ) → 1 ≤ o → eqb (at d (o - 1)).0 e ≡ dies_at past e o
 
 told_died : (past : List TraceLine) (object time e : ℕ) (d : Sizes) → 1 ≤ object → object - 1 < length d → is_reported past object ≡ false → IsTold past d e → IsTold (Death object time ∷ past) (with_time d (object - 1) time) e
-told_died past object time e d low lt once h o ge = elim (cases_eqb object o) [
-  | inl t ↦
-      let same : object ≡ o = t.1 in
-      let time_is : (at (with_time d (object - 1) time) (object - 1)).0 ≡ time = ap (λ (x : ℕ × ℕ). x.0) (set_here d (object - 1) time lt) in
-      let untold : dies_at past e object ≡ false = not_told past e object once in
-      let yes_here : eqb object object ≡ true = grind (arith, nat_tests) in
-      let tail : eqb time e ≡ (eqb time e || false) = elim (eqb time e) as (λ v. v ≡ (v || false)) [ true ↦ refl | false ↦ refl ] in
-      let told : dies_at (Death object time ∷ past) e object ≡ (eqb time e || false) = rw (yes_here, untold) refl in
-      subst (λ (k : ℕ). eqb (at (with_time d (object - 1) time) (k - 1)).0 e ≡ dies_at (Death object time ∷ past) e k) same (ap (λ (k : ℕ). eqb k e) time_is ∙ (tail ∙ sym told))
-  | inr t ↦
-      let ne : object ≢ o = t.1 in
-      let apart : o - 1 ≢ object - 1 = omega (arith, ne, low, ge) in
-      let other : dies_at (Death object time ∷ past) e o ≡ dies_at past e o = (let f : eqb object o ≡ false = t.0 in rw f refl) in
-      ap (λ (x : ℕ × ℕ). eqb x.0 e) (set_there d (object - 1) (o - 1) time apart) ∙ (h o ge ∙ sym other)
-]
+told_died past object time e d low lt once h = told_after (λ t. eqb t e) (λ k. dies_at past e k) object time d low lt (not_told past e object once) h
 
 told_on : (version : ℕ) (past : List TraceLine) (line : TraceLine) (e : ℕ) → AreFine version (line ∷ past) → IsTold past (died_by past) e → IsTold (line ∷ past) (died_by (line ∷ past)) e
 told_on version past (Header v n) e f h = h

@@ -178,6 +178,22 @@ set_here d i time lt = rw get_or-set_same refl
 pub set_there : (d : Sizes) (i j time : ℕ) → j ≢ i → at (with_time d i time) j ≡ at d j
 set_there d i j time ne = rw get_or-set_other refl
 
+-- what is asked of the time of each object stands for what the lines tell, also behind the line that tells of a death
+pub told_after : (test : ℕ → Bool) (dies : ℕ → Bool) (object time : ℕ) (d : Sizes) → 1 ≤ object → object - 1 < length d → dies object ≡ false → ((o : ℕ) → 1 ≤ o → test (at d (o - 1)).0 ≡ dies o)
+    → (o : ℕ) → 1 ≤ o → test (at (with_time d (object - 1) time) (o - 1)).0 ≡ ((eqb object o && test time) || dies o)
+told_after test dies object time d low lt once h o ge = elim (cases_eqb object o) [
+  | inl t ↦
+      let same : object ≡ o = t.1 in
+      let time_is : (at (with_time d (object - 1) time) (object - 1)).0 ≡ time = ap (λ (x : ℕ × ℕ). x.0) (set_here d (object - 1) time lt) in
+      let tail : test time ≡ (test time || false) = elim (test time) as (λ v. v ≡ (v || false)) [ true ↦ refl | false ↦ refl ] in
+      let told : ((eqb object o && test time) || dies o) ≡ (test time || false) = rw t.0 (ap (λ (v : Bool). test time || v) (subst (λ (k : ℕ). dies k ≡ false) same once)) in
+      subst (λ (k : ℕ). test (at (with_time d (object - 1) time) (k - 1)).0 ≡ ((eqb object o && test time) || dies o)) same (ap test time_is ∙ (tail ∙ sym told))
+  | inr t ↦
+      let ne : object ≢ o = t.1 in
+      let apart : o - 1 ≢ object - 1 = omega (arith, ne, low, ge) in
+      rw t.0 (ap (λ (x : ℕ × ℕ). test x.0) (set_there d (object - 1) (o - 1) time apart) ∙ h o ge)
+]
+
 pub not_or : (a b : Bool) → (a || b) ≡ false → (a ≡ false) × (b ≡ false)
 not_or true b e = absurd cc
 not_or false b e = (refl, e)
@@ -219,21 +235,7 @@ lives_died past object time b d low high made once h =
             subst (λ (k : ℕ). (at b k).0 ≤ (at (with_time d (object - 1) time) k).0) (sym e.1) (omega (arith, born_is, time_is, made))
         | inr n ↦ let same : (at (with_time d (object - 1) time) i).0 ≡ (at d i).0 = ap (λ (x : ℕ × ℕ). x.0) (set_there d (object - 1) i time n.1) in let le = h.after i l in omega (arith, same, le)
       ];
-      times = λ e o le ge. elim (cases_eqb object o) [
-        | inl t ↦
-            let same : object ≡ o = t.1 in
-            let time_is : (at (with_time d (object - 1) time) (object - 1)).0 ≡ time = ap (λ (x : ℕ × ℕ). x.0) (set_here d (object - 1) time lt) in
-            let untold : dies_before past e object ≡ false = not_told past e object once in
-            let yes_here : eqb object object ≡ true = grind (arith, nat_tests) in
-            let tail : ltb time e ≡ (ltb time e || false) = elim (ltb time e) as (λ v. v ≡ (v || false)) [ true ↦ refl | false ↦ refl ] in
-            let told : dies_before (Death object time ∷ past) e object ≡ (ltb time e || false) = rw (yes_here, untold) refl in
-            subst (λ (k : ℕ). ltb (at (with_time d (object - 1) time) (k - 1)).0 e ≡ dies_before (Death object time ∷ past) e k) same (ap (λ (k : ℕ). ltb k e) time_is ∙ (tail ∙ sym told))
-        | inr t ↦
-            let ne : object ≢ o = t.1 in
-            let apart : o - 1 ≢ object - 1 = omega (arith, ne, low, ge) in
-            let other : dies_before (Death object time ∷ past) e o ≡ dies_before past e o = (let f : eqb object o ≡ false = t.0 in rw f refl) in
-            ap (λ (x : ℕ × ℕ). ltb x.0 e) (set_there d (object - 1) (o - 1) time apart) ∙ (h.times e o le ge ∙ sym other)
-      ];
+      times = λ e o le. told_after (λ t. ltb t e) (λ k. dies_before past e k) object time d low lt (not_told past e object once) (λ k. h.times e k le) o;
       small = h.small;
       few = h.few;
     }
