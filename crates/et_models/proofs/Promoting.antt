@@ -76,8 +76,8 @@ begins reached v n past a b r =
     let h = v.heap in
     let g = nursery_graph reached past h in
     let test = λ (pair : ℕ × ℕ). list_any (λ object. eqb object pair.1) h.nursery in
-    let live = unflagged_is n past v.sizes v.dead h.nursery r.fed r.knows r.young_made in
-    let some : (o : ℕ) → Contains h.nursery o → o ≢ 0 = λ o c z. (let first = (in_range n past o r.fed (of_all (λ x. is_made past x ≡ true) h.nursery o r.young_made c)).0 in absurd (omega (arith, first, z))) in
+    let live = unflagged_is n past v.sizes v.dead h.nursery r.fed r.knows r.holds.young_made in
+    let some : (o : ℕ) → Contains h.nursery o → o ≢ 0 = λ o c z. (let first = (in_range n past o r.fed (of_all (λ x. is_made past x ≡ true) h.nursery o r.holds.young_made c)).0 in absurd (omega (arith, first, z))) in
     let young : (o : ℕ) → place_at v.places o ≡ Nursery → Contains h.nursery o = λ o y. elim (r.places.only o) [ inl e ↦ nowhere_nursery (place_at v.places o) e y | inr x ↦ elim x [ inl c ↦ c | inr c ↦ old_nursery (place_at v.places o) (r.places.old o c) y ] ] in
     record {
       draws = record {

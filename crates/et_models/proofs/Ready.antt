@@ -1,6 +1,6 @@
 -- What keeps the tables of two spaces true.
 use Rattle.std.proofs.Common.{◌≡◌, ◌≢◌, ℕ, ◌+◌, ◌-◌, ◌<◌, ◌≤◌, Bool, true, false, cond, not, ◌&&◌, eqb, List, [], ◌∷◌, ◌++◌, length, get_or, filter, Option, Some, None, refl, sym, ap, subst, ◌∙◌, arith, inl, inr, ◌⊎◌, max}
-use Rattle.std.specs.Prelude.{Contains, is_some, unwrap_or}
+use Rattle.std.specs.Prelude.{Contains, is_some, sum, unwrap_or}
 use Rattle.std.specs.List.{sum_by}
 use Rattle.std.specs.BTreeMap.{BTreeMap, get}
 use Rattle.std.specs.Ordering.{nat_cmp}
@@ -24,7 +24,7 @@ use Rattle.et_models.specs.Tables.{size_at, flag_at, with_flag}
 use Rattle.et_models.specs.Places.{place_at, with_place, is_kept, place_settled, without_dead, AreCollected}
 use Rattle.et_models.specs.Marking.{BeginsMarking, IsFound}
 use Rattle.et_models.specs.Spaces.{unflagged}
-use Rattle.et_models.specs.Generations.{Both, KnowsSlots, KnowsPlaces, AreNoted, IsReadyToCollect, WritesSlot, swept, promoted, placed_young, placed_old, left_out, reference_noted}
+use Rattle.et_models.specs.Generations.{Both, KnowsSlots, KnowsPlaces, AreNoted, HoldsMade, IsReadyToCollect, WritesSlot, swept, promoted, placed_young, placed_old, left_out, reference_noted}
 use Rattle.et_replay.proofs.Coming.{AreMade, are_made_on, apart, bytes_stay, size_here, all_low, cases_eqb, in_range}
 use Rattle.et_models.proofs.Marking.{at_end, in_front, in_longer}
 use Rattle.et_models.proofs.Totals.{sum_is, unflagged_is, knows_more, knows_death}
@@ -71,13 +71,13 @@ swept_places v n k =
 pub swept_ready : (v : Both) (n : ℕ) (past : List Item) (a b : ℕ) → IsReadyToCollect v n past a b → IsReadyToCollect (swept v) n past a (b + 1) × ((swept v).heap ≡ sweep past v.heap)
 swept_ready v n past a b r =
     let h = v.heap in
-    let live : unflagged v.dead h.space ≡ live_of past h.space = unflagged_is n past v.sizes v.dead h.space r.fed r.knows r.old_made in
-    let stay : AreMade past (live_of past h.space) = All-filter (is_live past) (λ o. is_made past o ≡ true) h.space r.old_made in
+    let live : unflagged v.dead h.space ≡ live_of past h.space = unflagged_is n past v.sizes v.dead h.space r.fed r.knows r.holds.old_made in
+    let stay : AreMade past (live_of past h.space) = All-filter (is_live past) (λ o. is_made past o ≡ true) h.space r.holds.old_made in
     let stays : AreMade past (unflagged v.dead h.space) = subst (λ (l : List ℕ). AreMade past l) (sym live) stay in
     let kept : sum_by (size_at v.sizes) (unflagged v.dead h.space) ≡ bytes past (unflagged v.dead h.space) = sum_is n past v.sizes v.dead (unflagged v.dead h.space) r.fed r.knows stays in
     let same : bytes past (unflagged v.dead h.space) ≡ bytes past (live_of past h.space) = ap (λ (l : List ℕ). bytes past l) live in
     let parts = sum_by-filter_both (is_live past) (λ o. not (is_live past o)) (λ o. refl) (λ o. unwrap_or (size_in past o) 0) h.space in
-    let old = r.old_bytes_is in let sums = r.sums in let major = r.major_low in
+    let old = r.holds.old_bytes_is in let sums = r.holds.sums in let major = r.collected.major_low in
     let freed : h.freed + (v.old_bytes - sum_by (size_at v.sizes) (unflagged v.dead h.space)) ≡ h.freed + bytes past (dead_of past h.space) = omega (arith, old, kept, same, parts) in (
       record {
         fed = r.fed;
@@ -89,14 +89,14 @@ swept_ready v n past a b r =
           young = λ u t c m y. r.noted.young u t (filter_kept (λ p. not (flag_at v.dead p)) h.space u c).0 m (elim (without_each v.dead h.space v.places t) [ inl e ↦ sym e ∙ y | inr k ↦ nowhere_nursery (place_at (without_dead v.dead h.space v.places) t) k.2 y ]);
           early = r.noted.early;
         };
-        young_bytes_is = r.young_bytes_is;
-        old_bytes_is = kept;
-        young_made = r.young_made;
-        old_made = stays;
-        sums = omega (arith, old, kept, same, parts, sums);
-        kept_low = r.kept_low;
-        minor_low = r.minor_low;
-        major_low = omega (arith, major);
+        holds = record {
+          young_bytes_is = r.holds.young_bytes_is;
+          old_bytes_is = kept;
+          young_made = r.holds.young_made;
+          old_made = stays;
+          sums = omega (arith, old, kept, same, parts, sums);
+        };
+        collected = record { kept_low = r.collected.kept_low; minor_low = r.collected.minor_low; major_low = omega (arith, major) };
       },
       ap (λ (l : List ℕ). record h { space = l; major = h.major + 1; freed = h.freed + (v.old_bytes - sum_by (size_at v.sizes) (unflagged v.dead h.space)) }) live
           ∙ ap (λ (f : ℕ). record h { space = live_of past h.space; major = h.major + 1; freed = f }) freed,
@@ -138,11 +138,11 @@ promoted_ready v n past a b marked places r found cleared =
     let test = λ (o : ℕ). is_kept (place_at marked o) in
     let f = found (nursery_graph is_reached past h) h.space (begins is_reached v n past a b r) in
     let low = all_low n past r.few r.fed in
-    let stay : AreMade past (filter test h.nursery) = All-filter test (λ o. is_made past o ≡ true) h.nursery r.young_made in
+    let stay : AreMade past (filter test h.nursery) = All-filter test (λ o. is_made past o ≡ true) h.nursery r.holds.young_made in
     let more : sum_by (size_at v.sizes) (filter test h.nursery) ≡ bytes past (filter test h.nursery) = sum_is n past v.sizes v.dead (filter test h.nursery) r.fed r.knows stay in
     let le = filter_le test (λ o. unwrap_or (size_in past o) 0) h.nursery in
     let both = sum_by-append (λ o. unwrap_or (size_in past o) 0) h.space (filter test h.nursery) in
-    let old = r.old_bytes_is in let sums = r.sums in let minor = r.minor_low in let kept = r.kept_low in
+    let old = r.holds.old_bytes_is in let sums = r.holds.sums in let minor = r.collected.minor_low in let kept = r.collected.kept_low in
     let settled_places = promoted_places v n (nursery_graph is_reached past h) marked places r.places f cleared in
     record {
       fed = r.fed;
@@ -157,14 +157,14 @@ promoted_ready v n past a b marked places r found cleared =
         ];
         early = r.noted.early;
       };
-      young_bytes_is = refl;
-      old_bytes_is = omega (arith, old, more, both);
-      young_made = λ k d lt. absurd (omega (arith, lt));
-      old_made = All-append (λ o. is_made past o ≡ true) h.space (filter test h.nursery) r.old_made stay;
-      sums = omega (arith, sums, le, both);
-      kept_low = omega (arith, kept, more, le, sums, low);
-      minor_low = omega (arith, minor);
-      major_low = r.major_low;
+      holds = record {
+        young_bytes_is = refl;
+        old_bytes_is = omega (arith, old, more, both);
+        young_made = λ k d lt. absurd (omega (arith, lt));
+        old_made = All-append (λ o. is_made past o ≡ true) h.space (filter test h.nursery) r.holds.old_made stay;
+        sums = omega (arith, sums, le, both);
+      };
+      collected = record { kept_low = omega (arith, kept, more, le, sums, low); minor_low = omega (arith, minor); major_low = r.collected.major_low };
     }
 
 pub promoted_is : (reached : Graph → ℕ → Bool) → Decides reached → (v : Both) (n : ℕ) (past : List Item) (a b : ℕ) (marked places : List Place) → IsReadyToCollect v n past a b → ((g : Graph) (space : List ℕ) → BeginsMarking g v.heap.nursery space (v.remembered ++ v.early) v.dead v.slots v.places → IsFound g v.places marked) → (promoted marked places v).heap ≡ promote reached past v.heap
@@ -172,7 +172,7 @@ promoted_is reached decides v n past a b marked places r found =
     let h = v.heap in
     let test = λ (o : ℕ). is_kept (place_at marked o) in
     let g = nursery_graph reached past h in
-    let stay : AreMade past (filter test h.nursery) = All-filter test (λ o. is_made past o ≡ true) h.nursery r.young_made in
+    let stay : AreMade past (filter test h.nursery) = All-filter test (λ o. is_made past o ≡ true) h.nursery r.holds.young_made in
     let more : sum_by (size_at v.sizes) (filter test h.nursery) ≡ bytes past (filter test h.nursery) = sum_is n past v.sizes v.dead (filter test h.nursery) r.fed r.knows stay in
     let same : filter test h.nursery ≡ survivors reached past h = survive reached decides g h.nursery v.places marked r.places.young (found g h.space (begins reached v n past a b r)) in
     ap (λ (m : ℕ). record h { nursery = []; space = h.space ++ filter test h.nursery; minor = h.minor + 1; kept = h.kept + m }) more
@@ -190,23 +190,40 @@ of_new past object new o m q = apart past object o new m (sym q)
 plus_is : (a b c d : ℕ) → a ≡ b → c ≡ d → a + c ≡ b + d
 plus_is a b c d e f = omega arith
 
+-- what both spaces hold once a new object came, which neither holds yet
+record Came (v : Both) (past : List Item) (event object size : ℕ) : Type 0 where
+  pub holds : HoldsMade v (Alloc event object size ∷ past)
+  pub made : is_made (Alloc event object size ∷ past) object ≡ true
+  pub own : unwrap_or (size_in (Alloc event object size ∷ past) object) 0 ≡ size
+  pub room : v.heap.freed + (bytes (Alloc event object size ∷ past) v.heap.nursery + bytes (Alloc event object size ∷ past) v.heap.space) + size ≤ sum (sizes (Alloc event object size ∷ past))
+
+came : (v : Both) (n : ℕ) (past : List Item) (event object size : ℕ) → IsNewObject n past object size → HoldsMade v past → Came v past event object size
+came v n past event object size c k =
+    let item = Alloc event object size in
+    let young = bytes_stay n past item v.heap.nursery c k.young_made in
+    let old = bytes_stay n past item v.heap.space c k.old_made in
+    let all = sum_by-cons (λ x. x) size (sizes past) in
+    let yb = k.young_bytes_is in let ob = k.old_bytes_is in let sums = k.sums in
+    record {
+      holds = record { young_bytes_is = omega (arith, yb, young); old_bytes_is = omega (arith, ob, old); young_made = are_made_on past item v.heap.nursery k.young_made; old_made = are_made_on past item v.heap.space k.old_made; sums = omega (arith, sums, young, old, all) };
+      made = ap (λ (s : Option ℕ). is_some s) (size_here past event object size);
+      own = ap (λ (s : Option ℕ). unwrap_or s 0) (size_here past event object size);
+      room = omega (arith, sums, young, old, all);
+    }
+
 pub young_ready : (v : Both) (n : ℕ) (past : List Item) (a b event object size : ℕ) → IsNewObject n past object size → IsReadyToCollect v n past a b → IsReadyToCollect (placed_young object size v) n (Alloc event object size ∷ past) a b × ((placed_young object size v).heap ≡ place_young (Alloc event object size ∷ past) object v.heap)
 young_ready v n past a b event object size c r =
     let h = v.heap in
     let item = Alloc event object size in
-    let young = bytes_stay n past item h.nursery c r.young_made in
-    let old = bytes_stay n past item h.space c r.old_made in
-    let one : unwrap_or (size_in (item ∷ past) object) 0 ≡ size = ap (λ (s : Option ℕ). unwrap_or s 0) (size_here past event object size) in
+    let new = came v n past event object size c r.holds in
     let more = sum_by_push (λ o. unwrap_or (size_in (item ∷ past) o) 0) h.nursery object in
-    let all = sum_by-cons (λ x. x) size (sizes past) in
-    let yb = r.young_bytes_is in let ob = r.old_bytes_is in let sums = r.sums in
+    let own = new.own in let room = new.room in let held = new.holds.young_bytes_is in
     let last = c.last in let long = r.places.long in
     let within : object < length v.places = omega (arith, last, long) in
     let here = set_here v.places object Nursery within in
     let there = set_there v.places object Nursery in
     let new_one = of_new past object c.new in
-    let total : v.young_bytes + size ≡ bytes (item ∷ past) (h.nursery ++ object ∷ []) = omega (arith, yb, young, one, more) in
-    let rest : v.old_bytes ≡ bytes (item ∷ past) h.space = omega (arith, ob, old) in (
+    let total : v.young_bytes + size ≡ bytes (item ∷ past) (h.nursery ++ object ∷ []) = omega (arith, held, own, more) in (
       record {
         fed = (r.fed, c);
         few = r.few;
@@ -222,7 +239,7 @@ young_ready v n past a b event object size c r =
             | inl e ↦ inr (inl (subst (λ (x : ℕ). Contains (h.nursery ++ object ∷ []) x) (sym e.1) (at_end h.nursery object)))
             | inr e ↦ elim (r.places.only o) [ inl f ↦ inl (there o e.1 ∙ f) | inr x ↦ elim x [ inl k ↦ inr (inl (in_front h.nursery object o k)) | inr k ↦ inr (inr k) ] ]
           ];
-          old = λ o k. there o (new_one o (of_all (λ x. is_made past x ≡ true) h.space o r.old_made k)) ∙ r.places.old o k;
+          old = λ o k. there o (new_one o (of_all (λ x. is_made past x ≡ true) h.space o r.holds.old_made k)) ∙ r.places.old o k;
         };
         noted = record {
           young = λ u t k m y. elim (cases_eqb t object) [
@@ -232,16 +249,16 @@ young_ready v n past a b event object size c r =
           ];
           early = λ u t m nz un. r.noted.early u t m nz (unmade_before past item t un);
         };
-        young_bytes_is = total;
-        old_bytes_is = rest;
-        young_made = All-push (λ o. is_made (item ∷ past) o ≡ true) h.nursery object (are_made_on past item h.nursery r.young_made) (ap (λ (s : Option ℕ). is_some s) (size_here past event object size));
-        old_made = are_made_on past item h.space r.old_made;
-        sums = omega (arith, sums, young, old, one, more, all);
-        kept_low = r.kept_low;
-        minor_low = r.minor_low;
-        major_low = r.major_low;
+        holds = record {
+          young_bytes_is = total;
+          old_bytes_is = new.holds.old_bytes_is;
+          young_made = All-push (λ o. is_made (item ∷ past) o ≡ true) h.nursery object new.holds.young_made new.made;
+          old_made = new.holds.old_made;
+          sums = omega (arith, room, own, more);
+        };
+        collected = record { kept_low = r.collected.kept_low; minor_low = r.collected.minor_low; major_low = r.collected.major_low };
       },
-      ap (λ (k : ℕ). record h { nursery = h.nursery ++ object ∷ []; peak = max h.peak k }) (plus_is (v.young_bytes + size) (bytes (item ∷ past) (h.nursery ++ object ∷ [])) v.old_bytes (bytes (item ∷ past) h.space) total rest),
+      ap (λ (k : ℕ). record h { nursery = h.nursery ++ object ∷ []; peak = max h.peak k }) (plus_is (v.young_bytes + size) (bytes (item ∷ past) (h.nursery ++ object ∷ [])) v.old_bytes (bytes (item ∷ past) h.space) total new.holds.old_bytes_is),
     )
 
 -- what is at a place of the nursery is in it, so it is made and not null
@@ -252,7 +269,7 @@ in_nursery v n past a b o r y = elim (r.places.only o) [
 ]
 
 in_nursery_made : (v : Both) (n : ℕ) (past : List Item) (a b o : ℕ) → IsReadyToCollect v n past a b → place_at v.places o ≡ Nursery → is_made past o ≡ true
-in_nursery_made v n past a b o r y = of_all (λ x. is_made past x ≡ true) v.heap.nursery o r.young_made (in_nursery v n past a b o r y)
+in_nursery_made v n past a b o r y = of_all (λ x. is_made past x ≡ true) v.heap.nursery o r.holds.young_made (in_nursery v n past a b o r y)
 
 in_nursery_some : (v : Both) (n : ℕ) (past : List Item) (a b o : ℕ) → IsReadyToCollect v n past a b → place_at v.places o ≡ Nursery → o ≢ 0
 in_nursery_some v n past a b o r y z = (let first = (in_range n past o r.fed (in_nursery_made v n past a b o r y)).0 in omega (arith, first, z))
@@ -300,44 +317,37 @@ pub old_ready : (v : Both) (n : ℕ) (past : List Item) (a b event object size :
 old_ready v n past a b event object size c r =
     let h = v.heap in
     let item = Alloc event object size in
-    let young = bytes_stay n past item h.nursery c r.young_made in
-    let old = bytes_stay n past item h.space c r.old_made in
-    let one : unwrap_or (size_in (item ∷ past) object) 0 ≡ size = ap (λ (s : Option ℕ). unwrap_or s 0) (size_here past event object size) in
+    let new = came v n past event object size c r.holds in
     let more = sum_by_push (λ o. unwrap_or (size_in (item ∷ past) o) 0) h.space object in
-    let all = sum_by-cons (λ x. x) size (sizes past) in
-    let yb = r.young_bytes_is in let ob = r.old_bytes_is in let sums = r.sums in
+    let own = new.own in let room = new.room in let held = new.holds.old_bytes_is in
     let last = c.last in let long = r.places.long in
     let within : object < length v.places = omega (arith, last, long) in
     let new_one = of_new past object c.new in
-    let rest : v.young_bytes ≡ bytes (item ∷ past) h.nursery = omega (arith, yb, young) in
-    let total : v.old_bytes + size ≡ bytes (item ∷ past) (h.space ++ object ∷ []) = omega (arith, ob, old, one, more) in (
+    let total : v.old_bytes + size ≡ bytes (item ∷ past) (h.space ++ object ∷ []) = omega (arith, held, own, more) in (
       record {
         fed = (r.fed, c);
         few = r.few;
         knows = knows_more n past v.sizes v.dead event object size c r.knows;
         slots = slots_stay v.slots n past event object size r.slots;
-        places = places_with v n past object within (λ o k. new_one o (of_all (λ x. is_made past x ≡ true) h.nursery o r.young_made k)) (λ o k. new_one o (of_all (λ x. is_made past x ≡ true) h.space o r.old_made k)) r.places;
+        places = places_with v n past object within (λ o k. new_one o (of_all (λ x. is_made past x ≡ true) h.nursery o r.holds.young_made k)) (λ o k. new_one o (of_all (λ x. is_made past x ≡ true) h.space o r.holds.old_made k)) r.places;
         noted = noted_with v n past a b event object size within c r;
-        young_bytes_is = rest;
-        old_bytes_is = total;
-        young_made = are_made_on past item h.nursery r.young_made;
-        old_made = All-push (λ o. is_made (item ∷ past) o ≡ true) h.space object (are_made_on past item h.space r.old_made) (ap (λ (s : Option ℕ). is_some s) (size_here past event object size));
-        sums = omega (arith, sums, young, old, one, more, all);
-        kept_low = r.kept_low;
-        minor_low = r.minor_low;
-        major_low = r.major_low;
+        holds = record {
+          young_bytes_is = new.holds.young_bytes_is;
+          old_bytes_is = total;
+          young_made = new.holds.young_made;
+          old_made = All-push (λ o. is_made (item ∷ past) o ≡ true) h.space object new.holds.old_made new.made;
+          sums = omega (arith, room, own, more);
+        };
+        collected = record { kept_low = r.collected.kept_low; minor_low = r.collected.minor_low; major_low = r.collected.major_low };
       },
-      ap (λ (k : ℕ). record h { space = h.space ++ object ∷ []; peak = max h.peak k }) (plus_is v.young_bytes (bytes (item ∷ past) h.nursery) (v.old_bytes + size) (bytes (item ∷ past) (h.space ++ object ∷ [])) rest total),
+      ap (λ (k : ℕ). record h { space = h.space ++ object ∷ []; peak = max h.peak k }) (plus_is v.young_bytes (bytes (item ∷ past) h.nursery) (v.old_bytes + size) (bytes (item ∷ past) (h.space ++ object ∷ [])) new.holds.young_bytes_is total),
     )
 
 pub left_ready : (v : Both) (n : ℕ) (past : List Item) (a b event object size : ℕ) → IsNewObject n past object size → IsReadyToCollect v n past a b → IsReadyToCollect (left_out event object size v) n (Alloc event object size ∷ past) a b × ((left_out event object size v).heap ≡ exhaust event v.heap)
 left_ready v n past a b event object size c r =
     let h = v.heap in
     let item = Alloc event object size in
-    let young = bytes_stay n past item h.nursery c r.young_made in
-    let old = bytes_stay n past item h.space c r.old_made in
-    let all = sum_by-cons (λ x. x) size (sizes past) in
-    let yb = r.young_bytes_is in let ob = r.old_bytes_is in let sums = r.sums in (
+    let t = (came v n past event object size c r.holds).holds in (
       record {
         fed = (r.fed, c);
         few = r.few;
@@ -345,14 +355,8 @@ left_ready v n past a b event object size c r =
         slots = slots_stay v.slots n past event object size r.slots;
         places = r.places;
         noted = record { young = r.noted.young; early = λ u t m nz un. r.noted.early u t m nz (unmade_before past item t un) };
-        young_bytes_is = omega (arith, yb, young);
-        old_bytes_is = omega (arith, ob, old);
-        young_made = are_made_on past item h.nursery r.young_made;
-        old_made = are_made_on past item h.space r.old_made;
-        sums = omega (arith, sums, young, old, all);
-        kept_low = r.kept_low;
-        minor_low = r.minor_low;
-        major_low = r.major_low;
+        holds = record { young_bytes_is = t.young_bytes_is; old_bytes_is = t.old_bytes_is; young_made = t.young_made; old_made = t.old_made; sums = t.sums };
+        collected = record { kept_low = r.collected.kept_low; minor_low = r.collected.minor_low; major_low = r.collected.major_low };
       },
       refl,
     )
@@ -365,14 +369,8 @@ ready_more v n past a b a' b' x y r = record {
   slots = r.slots;
   places = r.places;
   noted = r.noted;
-  young_bytes_is = r.young_bytes_is;
-  old_bytes_is = r.old_bytes_is;
-  young_made = r.young_made;
-  old_made = r.old_made;
-  sums = r.sums;
-  kept_low = r.kept_low;
-  minor_low = (let m = r.minor_low in omega (arith, m, x));
-  major_low = (let m = r.major_low in omega (arith, m, y));
+  holds = r.holds;
+  collected = record { kept_low = r.collected.kept_low; minor_low = (let m = r.collected.minor_low in omega (arith, m, x)); major_low = (let m = r.collected.major_low in omega (arith, m, y)) };
 }
 
 -- A DEATH
@@ -385,14 +383,8 @@ died_ready v n past a b object time r = record {
   slots = record { long = r.slots.long; content_is = r.slots.content_is };
   places = r.places;
   noted = record { young = r.noted.young; early = r.noted.early };
-  young_bytes_is = r.young_bytes_is;
-  old_bytes_is = r.old_bytes_is;
-  young_made = r.young_made;
-  old_made = r.old_made;
-  sums = r.sums;
-  kept_low = r.kept_low;
-  minor_low = r.minor_low;
-  major_low = r.major_low;
+  holds = record { young_bytes_is = r.holds.young_bytes_is; old_bytes_is = r.holds.old_bytes_is; young_made = r.holds.young_made; old_made = r.holds.old_made; sums = r.holds.sums };
+  collected = record { kept_low = r.collected.kept_low; minor_low = r.collected.minor_low; major_low = r.collected.major_low };
 }
 
 -- SOMETHING IS WRITTEN TO A SLOT
@@ -484,14 +476,8 @@ with_slots v n past a b event object slot new slots' remembered early k noted_no
   slots = k;
   places = r.places;
   noted = noted_now;
-  young_bytes_is = r.young_bytes_is;
-  old_bytes_is = r.old_bytes_is;
-  young_made = r.young_made;
-  old_made = r.old_made;
-  sums = r.sums;
-  kept_low = r.kept_low;
-  minor_low = r.minor_low;
-  major_low = r.major_low;
+  holds = record { young_bytes_is = r.holds.young_bytes_is; old_bytes_is = r.holds.old_bytes_is; young_made = r.holds.young_made; old_made = r.holds.old_made; sums = r.holds.sums };
+  collected = record { kept_low = r.collected.kept_low; minor_low = r.collected.minor_low; major_low = r.collected.major_low };
 }
 
 pub wrote_ready : (v : Both) (n : ℕ) (past : List Item) (a b event object slot new : ℕ) (slots' : List (BTreeMap ℕ ℕ)) → is_made past object ≡ true → WritesSlot v.slots slots' object slot new → IsReadyToCollect v n past a b → IsReadyToCollect (record (reference_noted object new v) { slots = slots' }) n (Write event object slot new ∷ past) a b

@@ -59,14 +59,8 @@ opened_ready v first second n few o =
         young = λ u t c m y. absurd (Contains-none u c);
         early = λ u t m nz un. absurd (nothing m.own m.refers.0 t (subst (λ (k : BTreeMap ℕ ℕ). k.entries ≡ []) (sym m.stands) (o.slots_empty u m.own m.within)) m.refers.1);
       };
-      young_bytes_is = o.young_none;
-      old_bytes_is = o.old_none;
-      young_made = λ k d lt. absurd (omega (arith, lt));
-      old_made = λ k d lt. absurd (omega (arith, lt));
-      sums = omega arith;
-      kept_low = omega arith;
-      minor_low = omega arith;
-      major_low = omega arith;
+      holds = record { young_bytes_is = o.young_none; old_bytes_is = o.old_none; young_made = λ k d lt. absurd (omega (arith, lt)); old_made = λ k d lt. absurd (omega (arith, lt)); sums = omega arith };
+      collected = record { kept_low = omega arith; minor_low = omega arith; major_low = omega arith };
     })
 
 pub opened_stands : (policy : Policy) (v : Both) (n : ℕ) → n ≤ 16777215 → policy.kind ≡ Generational → Opens policy.first policy.second n v → StandsAs policy policy v n []

@@ -3,7 +3,7 @@ use Rattle.std.proofs.Common.{◌≡◌, ℕ, ◌+◌, ◌*◌, ◌^◌, ◌<◌
 use Rattle.std.specs.Prelude.{is_some, Result, Ok, Err, OnOk}
 use Rattle.std.specs.List.{sum_by}
 use Rattle.std.specs.BTreeMap.{BTreeMap}
-use Rattle.std.proofs.lemmas.Bool.Decides.{nat_tests}
+use Rattle.std.proofs.lemmas.Bool.{cond-false, cond-true, le-leb, le-ltb, lt-leb, lt-ltb}
 use Rattle.std.proofs.lemmas.List.{get_or_past}
 use Rattle.et_graph.specs.Graph.{Graph, Decides}
 use Rattle.et_replay.specs.declared.item.Item.{Item}
@@ -22,26 +22,6 @@ pub on_ok : {A E : Type 0} (P Q : Type 0) (r : Result A E) → (P → Q) → OnO
 on_ok P Q (Ok x) f p = f p
 on_ok P Q (Err e) f p = tt
 
-cond_true : {A : Type 0} (b : Bool) (x y : A) → b ≡ true → cond b x y ≡ x
-cond_true true x y e = refl
-cond_true false x y e = absurd cc
-
-cond_false : {A : Type 0} (b : Bool) (x y : A) → b ≡ false → cond b x y ≡ y
-cond_false false x y e = refl
-cond_false true x y e = absurd cc
-
-le_true : (a b : ℕ) → a ≤ b → leb a b ≡ true
-le_true a b le = grind (arith, nat_tests)
-
-le_false : (a b : ℕ) → b < a → leb a b ≡ false
-le_false a b lt = grind (arith, nat_tests)
-
-lt_true : (a b : ℕ) → a < b → nat_lt a b ≡ true
-lt_true a b lt = grind (arith, nat_tests)
-
-lt_false : (a b : ℕ) → b ≤ a → nat_lt a b ≡ false
-lt_false a b le = grind (arith, nat_tests)
-
 -- WHAT FITS
 
 pub record IsLow (v : Both) : Type 0 where
@@ -55,13 +35,13 @@ pub record IsLow (v : Both) : Type 0 where
 ready_low : (v : Both) (n : ℕ) (past : List Item) (a b : ℕ) → a ≤ 16777216 → b ≤ 16777216 → IsReadyToCollect v n past a b → IsLow v
 ready_low v n past a b x y r =
     let low = all_low n past r.few r.fed in
-    let sums = r.sums in let yb = r.young_bytes_is in let ob = r.old_bytes_is in
-    let minor = r.minor_low in let major = r.major_low in
+    let sums = r.holds.sums in let yb = r.holds.young_bytes_is in let ob = r.holds.old_bytes_is in
+    let minor = r.collected.minor_low in let major = r.collected.major_low in
     record {
-      young = sum_is n past v.sizes v.dead v.heap.nursery r.fed r.knows r.young_made ∙ sym r.young_bytes_is;
-      old = sum_is n past v.sizes v.dead v.heap.space r.fed r.knows r.old_made ∙ sym r.old_bytes_is;
+      young = sum_is n past v.sizes v.dead v.heap.nursery r.fed r.knows r.holds.young_made ∙ sym r.holds.young_bytes_is;
+      old = sum_is n past v.sizes v.dead v.heap.space r.fed r.knows r.holds.old_made ∙ sym r.holds.old_bytes_is;
       all = omega (arith, sums, low, yb, ob);
-      kept = r.kept_low;
+      kept = r.collected.kept_low;
       minor = omega (arith, minor, x);
       major = omega (arith, major, y);
     }
@@ -113,21 +93,21 @@ collects_is : (reached : Graph → ℕ → Bool) → Decides reached → (v w : 
 collects_is reached d v w n past a b r k =
     let m = promotes_ready v k.middle n past a b r k.promotes in
     let h = k.middle.heap in
-    let ob = m.old_bytes_is in
+    let ob = m.holds.old_bytes_is in
     let cap : k.middle.second ≡ v.second = ap (λ (u : Both). u.second) k.promotes.is in
     let here : w.heap ≡ cond (fits_capacity past h.space 0 v.second) h (sweep past h) = elim k.is [
-      | inl e ↦ (let le = e.0 in ap (λ (u : Both). u.heap) e.1 ∙ sym (cond_true (fits_capacity past h.space 0 v.second) h (sweep past h) (le_true (bytes past h.space + 0) v.second (omega (arith, le, ob, cap)))))
-      | inr e ↦ (let lt = e.0 in ap (λ (u : Both). u.heap) e.1 ∙ ((swept_ready k.middle n past (a + 1) b m).1 ∙ sym (cond_false (fits_capacity past h.space 0 v.second) h (sweep past h) (le_false (bytes past h.space + 0) v.second (omega (arith, lt, ob, cap))))))
+      | inl e ↦ (let le = e.0 in ap (λ (u : Both). u.heap) e.1 ∙ sym (cond-true (fits_capacity past h.space 0 v.second) h (sweep past h) (le-leb (bytes past h.space + 0) v.second (omega (arith, le, ob, cap)))))
+      | inr e ↦ (let lt = e.0 in ap (λ (u : Both). u.heap) e.1 ∙ ((swept_ready k.middle n past (a + 1) b m).1 ∙ sym (cond-false (fits_capacity past h.space 0 v.second) h (sweep past h) (lt-leb (bytes past h.space + 0) v.second (omega (arith, lt, ob, cap))))))
     ] in
     subst (λ (g : Heap). w.heap ≡ cond (fits_capacity past g.space 0 v.second) g (sweep past g)) (promotes_is reached d v k.middle n past a b r k.promotes) here
 
 -- AN OBJECT COMES
 
 on_young : (reached : Graph → ℕ → Bool) (first second : ℕ) (past : List Item) (event object size : ℕ) (heap : Heap) → size ≤ first → generations_on reached first second past (Alloc event object size) heap ≡ nursery_on reached first second past event object size heap
-on_young reached first second past event object size heap le = cond_false (nat_lt first size) (place_with sweep second past event object size heap) (nursery_on reached first second past event object size heap) (lt_false first size le)
+on_young reached first second past event object size heap le = cond-false (nat_lt first size) (place_with sweep second past event object size heap) (nursery_on reached first second past event object size heap) (le-ltb first size le)
 
 on_old : (reached : Graph → ℕ → Bool) (first second : ℕ) (past : List Item) (event object size : ℕ) (heap : Heap) → first < size → generations_on reached first second past (Alloc event object size) heap ≡ place_with sweep second past event object size heap
-on_old reached first second past event object size heap lt = cond_true (nat_lt first size) (place_with sweep second past event object size heap) (nursery_on reached first second past event object size heap) (lt_true first size lt)
+on_old reached first second past event object size heap lt = cond-true (nat_lt first size) (place_with sweep second past event object size heap) (nursery_on reached first second past event object size heap) (lt-ltb first size lt)
 
 abbrev settle : ℕ → List Item → ℕ → ℕ → ℕ → Heap → Heap
 settle second past event object size g = cond (fits_capacity past g.space 0 second) (place_young (Alloc event object size ∷ past) object g) (exhaust event g)
@@ -148,21 +128,21 @@ young_at_once v event object size le room = record {
   stable = λ n past c r. (let m = length (made_objects past) in let q = length (made_objects (Alloc event object size ∷ past)) in
       ready_more (placed_young object size v) n (Alloc event object size ∷ past) m m q q (no_fewer past event object size) (no_fewer past event object size) (young_ready v n past m m event object size c r).0);
   heap_is = λ n past c r reached d. (let m = length (made_objects past) in
-      let yb = r.young_bytes_is in
+      let yb = r.holds.young_bytes_is in
       (young_ready v n past m m event object size c r).1
       ∙ sym (on_young reached v.first v.second past event object size v.heap le
-      ∙ cond_true (fits_capacity past v.heap.nursery size v.first) (place_young (Alloc event object size ∷ past) object v.heap) (settle v.second past event object size (minor_collection reached v.second past v.heap))
-      (le_true (bytes past v.heap.nursery + size) v.first (omega (arith, room, yb)))));
+      ∙ cond-true (fits_capacity past v.heap.nursery size v.first) (place_young (Alloc event object size ∷ past) object v.heap) (settle v.second past event object size (minor_collection reached v.second past v.heap))
+      (le-leb (bytes past v.heap.nursery + size) v.first (omega (arith, room, yb)))));
 }
 
 -- .. after a collection
 collected_on : (reached : Graph → ℕ → Bool) → Decides reached → (v w : Both) (n : ℕ) (past : List Item) (event object size : ℕ) → size ≤ v.first → v.first < v.young_bytes + size → IsStable v n past → Collects v w → generations_on reached v.first v.second past (Alloc event object size) v.heap ≡ settle v.second past event object size w.heap
 collected_on reached d v w n past event object size le lt r k =
     let m = length (made_objects past) in
-    let yb = r.young_bytes_is in
+    let yb = r.holds.young_bytes_is in
     on_young reached v.first v.second past event object size v.heap le
-    ∙ (cond_false (fits_capacity past v.heap.nursery size v.first) (place_young (Alloc event object size ∷ past) object v.heap) (settle v.second past event object size (minor_collection reached v.second past v.heap))
-    (le_false (bytes past v.heap.nursery + size) v.first (omega (arith, lt, yb)))
+    ∙ (cond-false (fits_capacity past v.heap.nursery size v.first) (place_young (Alloc event object size ∷ past) object v.heap) (settle v.second past event object size (minor_collection reached v.second past v.heap))
+    (lt-leb (bytes past v.heap.nursery + size) v.first (omega (arith, lt, yb)))
     ∙ ap (λ (g : Heap). settle v.second past event object size g) (sym (collects_is reached d v w n past m m r k)))
 
 pub young_after : (v w : Both) (event object size : ℕ) → size ≤ v.first → v.first < v.young_bytes + size → Collects v w → w.old_bytes ≤ w.second → StepsBoth (Alloc event object size) v (placed_young object size w)
@@ -173,12 +153,12 @@ young_after v w event object size le lt k room = record {
       ready_more (placed_young object size w) n (Alloc event object size ∷ past) (m + 1) (m + 1) q q (one_more past event object size) (one_more past event object size) (young_ready w n past (m + 1) (m + 1) event object size c (collects_ready v w n past m m r k)).0);
   heap_is = λ n past c r reached d. (let m = length (made_objects past) in
       let s = collects_ready v w n past m m r k in
-      let ob = s.old_bytes_is in
+      let ob = s.holds.old_bytes_is in
       let cap = collects_second v w k in
       (young_ready w n past (m + 1) (m + 1) event object size c s).1
       ∙ sym (collected_on reached d v w n past event object size le lt r k
-      ∙ cond_true (fits_capacity past w.heap.space 0 v.second) (place_young (Alloc event object size ∷ past) object w.heap) (exhaust event w.heap)
-      (le_true (bytes past w.heap.space + 0) v.second (omega (arith, room, ob, cap)))));
+      ∙ cond-true (fits_capacity past w.heap.space 0 v.second) (place_young (Alloc event object size ∷ past) object w.heap) (exhaust event w.heap)
+      (le-leb (bytes past w.heap.space + 0) v.second (omega (arith, room, ob, cap)))));
 }
 
 pub young_not : (v w : Both) (event object size : ℕ) → size ≤ v.first → v.first < v.young_bytes + size → Collects v w → w.second < w.old_bytes → StepsBoth (Alloc event object size) v (left_out event object size w)
@@ -189,11 +169,11 @@ young_not v w event object size le lt k full = record {
       ready_more (left_out event object size w) n (Alloc event object size ∷ past) (m + 1) (m + 1) q q (one_more past event object size) (one_more past event object size) (left_ready w n past (m + 1) (m + 1) event object size c (collects_ready v w n past m m r k)).0);
   heap_is = λ n past c r reached d. (let m = length (made_objects past) in
       let s = collects_ready v w n past m m r k in
-      let ob = s.old_bytes_is in
+      let ob = s.holds.old_bytes_is in
       let cap = collects_second v w k in
       sym (collected_on reached d v w n past event object size le lt r k
-      ∙ cond_false (fits_capacity past w.heap.space 0 v.second) (place_young (Alloc event object size ∷ past) object w.heap) (exhaust event w.heap)
-      (le_false (bytes past w.heap.space + 0) v.second (omega (arith, full, ob, cap)))));
+      ∙ cond-false (fits_capacity past w.heap.space 0 v.second) (place_young (Alloc event object size ∷ past) object w.heap) (exhaust event w.heap)
+      (lt-leb (bytes past w.heap.space + 0) v.second (omega (arith, full, ob, cap)))));
 }
 
 -- .. into the old space
@@ -204,21 +184,21 @@ old_at_once v event object size lt room = record {
   stable = λ n past c r. (let m = length (made_objects past) in let q = length (made_objects (Alloc event object size ∷ past)) in
       ready_more (placed_old object size v) n (Alloc event object size ∷ past) m m q q (no_fewer past event object size) (no_fewer past event object size) (old_ready v n past m m event object size c r).0);
   heap_is = λ n past c r reached d. (let m = length (made_objects past) in
-      let ob = r.old_bytes_is in
-      let is = le_true (bytes past v.heap.space + size) v.second (omega (arith, room, ob)) in
+      let ob = r.holds.old_bytes_is in
+      let is = le-leb (bytes past v.heap.space + size) v.second (omega (arith, room, ob)) in
       (old_ready v n past m m event object size c r).1
       ∙ sym (on_old reached v.first v.second past event object size v.heap lt
-      ∙ (ap (λ (g : Heap). settle_old v.second past event object size g) (cond_true (fits_capacity past v.heap.space size v.second) v.heap (sweep past v.heap) is)
-      ∙ cond_true (fits_capacity past v.heap.space size v.second) (place (Alloc event object size ∷ past) object v.heap) (exhaust event v.heap) is)));
+      ∙ (ap (λ (g : Heap). settle_old v.second past event object size g) (cond-true (fits_capacity past v.heap.space size v.second) v.heap (sweep past v.heap) is)
+      ∙ cond-true (fits_capacity past v.heap.space size v.second) (place (Alloc event object size ∷ past) object v.heap) (exhaust event v.heap) is)));
 }
 
 swept_on : (reached : Graph → ℕ → Bool) (v : Both) (n : ℕ) (past : List Item) (event object size : ℕ) → v.first < size → v.second < v.old_bytes + size → IsStable v n past → generations_on reached v.first v.second past (Alloc event object size) v.heap ≡ settle_old v.second past event object size (swept v).heap
 swept_on reached v n past event object size lt full r =
     let m = length (made_objects past) in
-    let ob = r.old_bytes_is in
+    let ob = r.holds.old_bytes_is in
     on_old reached v.first v.second past event object size v.heap lt
     ∙ ap (λ (g : Heap). settle_old v.second past event object size g)
-    (cond_false (fits_capacity past v.heap.space size v.second) v.heap (sweep past v.heap) (le_false (bytes past v.heap.space + size) v.second (omega (arith, full, ob)))
+    (cond-false (fits_capacity past v.heap.space size v.second) v.heap (sweep past v.heap) (lt-leb (bytes past v.heap.space + size) v.second (omega (arith, full, ob)))
     ∙ sym (swept_ready v n past m m r).1)
 
 pub old_after : (v : Both) (event object size : ℕ) → v.first < size → v.second < v.old_bytes + size → (swept v).old_bytes + size ≤ v.second → StepsBoth (Alloc event object size) v (placed_old object size (swept v))
@@ -229,11 +209,11 @@ old_after v event object size lt full room = record {
       ready_more (placed_old object size (swept v)) n (Alloc event object size ∷ past) m (m + 1) q q (no_fewer past event object size) (one_more past event object size) (old_ready (swept v) n past m (m + 1) event object size c (swept_ready v n past m m r).0).0);
   heap_is = λ n past c r reached d. (let m = length (made_objects past) in
       let s = (swept_ready v n past m m r).0 in
-      let ob = s.old_bytes_is in
+      let ob = s.holds.old_bytes_is in
       (old_ready (swept v) n past m (m + 1) event object size c s).1
       ∙ sym (swept_on reached v n past event object size lt full r
-      ∙ cond_true (fits_capacity past (swept v).heap.space size v.second) (place (Alloc event object size ∷ past) object (swept v).heap) (exhaust event (swept v).heap)
-      (le_true (bytes past (swept v).heap.space + size) v.second (omega (arith, room, ob)))));
+      ∙ cond-true (fits_capacity past (swept v).heap.space size v.second) (place (Alloc event object size ∷ past) object (swept v).heap) (exhaust event (swept v).heap)
+      (le-leb (bytes past (swept v).heap.space + size) v.second (omega (arith, room, ob)))));
 }
 
 pub old_not : (v : Both) (event object size : ℕ) → v.first < size → v.second < v.old_bytes + size → v.second < (swept v).old_bytes + size → StepsBoth (Alloc event object size) v (left_out event object size (swept v))
@@ -244,10 +224,10 @@ old_not v event object size lt full none = record {
       ready_more (left_out event object size (swept v)) n (Alloc event object size ∷ past) m (m + 1) q q (no_fewer past event object size) (one_more past event object size) (left_ready (swept v) n past m (m + 1) event object size c (swept_ready v n past m m r).0).0);
   heap_is = λ n past c r reached d. (let m = length (made_objects past) in
       let s = (swept_ready v n past m m r).0 in
-      let ob = s.old_bytes_is in
+      let ob = s.holds.old_bytes_is in
       sym (swept_on reached v n past event object size lt full r
-      ∙ cond_false (fits_capacity past (swept v).heap.space size v.second) (place (Alloc event object size ∷ past) object (swept v).heap) (exhaust event (swept v).heap)
-      (le_false (bytes past (swept v).heap.space + size) v.second (omega (arith, none, ob)))));
+      ∙ cond-false (fits_capacity past (swept v).heap.space size v.second) (place (Alloc event object size ∷ past) object (swept v).heap) (exhaust event (swept v).heap)
+      (lt-leb (bytes past (swept v).heap.space + size) v.second (omega (arith, none, ob)))));
 }
 
 -- SOMETHING IS WRITTEN TO A SLOT

@@ -127,6 +127,20 @@ pub record AreNoted (v : Both) (past : List Item) : Type 0 where
   pub young : (u t : ℕ) → Contains v.heap.space u → NamesInSlot v.slots u t → place_at v.places t ≡ Nursery → Contains (v.remembered ++ v.early) u
   pub early : (u t : ℕ) → NamesInSlot v.slots u t → t ≢ 0 → is_made past t ≡ false → Contains v.early u
 
+-- what both spaces hold is made, and its bytes are counted
+pub record HoldsMade (v : Both) (past : List Item) : Type 0 where
+  pub young_bytes_is : v.young_bytes ≡ bytes past v.heap.nursery
+  pub old_bytes_is : v.old_bytes ≡ bytes past v.heap.space
+  pub young_made : All (λ o. is_made past o ≡ true) v.heap.nursery
+  pub old_made : All (λ o. is_made past o ≡ true) v.heap.space
+  pub sums : v.heap.freed + (bytes past v.heap.nursery + bytes past v.heap.space) ≤ sum (sizes past)
+
+-- there were at most so many collections, and none kept more than 2^54 bytes
+pub record HasCollected (v : Both) (minor major : ℕ) : Type 0 where
+  pub kept_low : v.heap.kept ≤ v.heap.minor * 2 ^ 54
+  pub minor_low : v.heap.minor ≤ minor
+  pub major_low : v.heap.major ≤ major
+
 -- the tables tell what the items so far say, and the numbers are low: at most so many minor and major collections
 pub record IsReadyToCollect (v : Both) (objects : ℕ) (past : List Item) (minor major : ℕ) : Type 0 where
   pub fed : AreFed objects past
@@ -135,14 +149,8 @@ pub record IsReadyToCollect (v : Both) (objects : ℕ) (past : List Item) (minor
   pub slots : KnowsSlots v.slots objects past
   pub places : KnowsPlaces v.places objects v.heap.nursery v.heap.space
   pub noted : AreNoted v past
-  pub young_bytes_is : v.young_bytes ≡ bytes past v.heap.nursery
-  pub old_bytes_is : v.old_bytes ≡ bytes past v.heap.space
-  pub young_made : All (λ o. is_made past o ≡ true) v.heap.nursery
-  pub old_made : All (λ o. is_made past o ≡ true) v.heap.space
-  pub sums : v.heap.freed + (bytes past v.heap.nursery + bytes past v.heap.space) ≤ sum (sizes past)
-  pub kept_low : v.heap.kept ≤ v.heap.minor * 2 ^ 54
-  pub minor_low : v.heap.minor ≤ minor
-  pub major_low : v.heap.major ≤ major
+  pub holds : HoldsMade v past
+  pub collected : HasCollected v minor major
 
 -- the slot is given an object, and nothing else changes
 pub record WritesSlot (slots slots' : List (BTreeMap ℕ ℕ)) (object slot new : ℕ) : Type 0 where
