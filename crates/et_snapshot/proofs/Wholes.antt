@@ -9,7 +9,10 @@ use Rattle.et_io.proofs.Taking.{longer}
 use Rattle.et_text.specs.Rules.{AreFine}
 use Rattle.et_text.specs.Spelling.{number_field}
 use Rattle.et_replay.specs.Curve.{live}
+use Rattle.std.specs.declared.vec.Vec.{Vec}
+use Rattle.std.specs.declared.alloc.Global.{Global}
 use Rattle.et_snapshot.specs.declared.heap.Heap.{Heap}
+use Rattle.et_snapshot.specs.declared.objects.Entry.{Entry}
 use Rattle.et_snapshot.specs.declared.totals.Total.{Total}
 use Rattle.et_snapshot.specs.Snapshot.{static_row, slots_at, object_rows, live_lines, class_row, head_row, snapshot_text}
 use Rattle.et_snapshot.specs.Heap.{objects_of, lists_of, row_of, rows_of, total_rows, IsCounted}
@@ -30,7 +33,7 @@ abbrev pub class_text : Heap → List Total → List ℕ
 class_text heap totals = total_rows (lists_of heap.names.items) totals
 
 -- what was counted tells the text
-pub whole_is : (version e : ℕ) (lines : List TraceLine) (heap : Heap) (totals : List Total) (all : Total) → AreFine version (reverse lines) → IsCounted lines e heap totals all
+whole_is : (version e : ℕ) (lines : List TraceLine) (heap : Heap) (totals : List Total) (all : Total) → AreFine version (reverse lines) → IsCounted lines e heap totals all
     → head_of e all ++ statics_of heap ++ object_text heap ++ class_text heap totals ≡ snapshot_text lines e
 whole_is version e lines heap totals all f c =
     let kept = objects_of heap.objects.items in
@@ -49,18 +52,67 @@ whole_is version e lines heap totals all f c =
 
 module _ (old one two three : Log) (h s o c : List ℕ) where
   -- four texts, of which three were gathered after the first
-  pub three_up_to : (a b d : List ℕ) → TakesUpTo old one (h ++ s) a → TakesUpTo one two (a ++ o) b → TakesUpTo two three (b ++ c) d → TakesUpTo old three (h ++ ((s ++ o) ++ c)) d
+  three_up_to : (a b d : List ℕ) → TakesUpTo old one (h ++ s) a → TakesUpTo one two (a ++ o) b → TakesUpTo two three (b ++ c) d → TakesUpTo old three (h ++ ((s ++ o) ++ c)) d
   three_up_to a b d p q r = then_up_to old two three h (s ++ o) c b d (then_up_to old one two h s o a b p q) r
 
-  pub last_stops : (a b : List ℕ) → TakesUpTo old one (h ++ s) a → TakesUpTo one two (a ++ o) b → TakesPrefix two three (b ++ c) → TakesPrefix old three (h ++ ((s ++ o) ++ c))
+  last_stops : (a b : List ℕ) → TakesUpTo old one (h ++ s) a → TakesUpTo one two (a ++ o) b → TakesPrefix two three (b ++ c) → TakesPrefix old three (h ++ ((s ++ o) ++ c))
   last_stops a b p q r = then_prefix old two three h (s ++ o) c b (then_up_to old one two h s o a b p q) r
 
-  pub second_stops : (a : List ℕ) → TakesUpTo old one (h ++ s) a → TakesPrefix one two (a ++ o) → TakesPrefix old two (h ++ ((s ++ o) ++ c))
+  second_stops : (a : List ℕ) → TakesUpTo old one (h ++ s) a → TakesPrefix one two (a ++ o) → TakesPrefix old two (h ++ ((s ++ o) ++ c))
   second_stops a p q = subst (λ (t : List ℕ). TakesPrefix old two t) (append_assoc h (s ++ o) c) (longer old two (h ++ (s ++ o)) c (then_prefix old one two h s o a p q))
 
-  pub first_stops : TakesPrefix old one (h ++ s) → TakesPrefix old one (h ++ ((s ++ o) ++ c))
+  first_stops : TakesPrefix old one (h ++ s) → TakesPrefix old one (h ++ ((s ++ o) ++ c))
   first_stops p = subst (λ (t : List ℕ). TakesPrefix old one t) (sym (ap (λ (t : List ℕ). h ++ t) (append_assoc s o c) ∙ sym (append_assoc h s (o ++ c)))) (longer old one (h ++ s) (o ++ c) p)
 
 -- the four, one after the other
-pub joined : (h s o c : List ℕ) → h ++ ((s ++ o) ++ c) ≡ h ++ s ++ o ++ c
+joined : (h s o c : List ℕ) → h ++ ((s ++ o) ++ c) ≡ h ++ s ++ o ++ c
 joined h s o c = sym (append_assoc h (s ++ o) c) ∙ ap (λ (t : List ℕ). t ++ c) (sym (append_assoc h s o))
+
+-- the text of the objects, and of the classes, by what was put
+pub object_text_is : (heap : Heap) (names : List (Vec ℕ Global)) (entries : List Entry) → names ≡ heap.names.items → entries ≡ heap.objects.items → flat_map (rows_of (lists_of names)) (objects_of entries) ≡ object_text heap
+object_text_is heap names entries n o =
+    ap (λ (es : List Entry). flat_map (rows_of (lists_of names)) (objects_of es)) o
+    ∙ ap (λ (ns : List (Vec ℕ Global)). flat_map (rows_of (lists_of ns)) (objects_of heap.objects.items)) n
+
+pub class_text_is : (heap : Heap) (totals : List Total) (names : List (Vec ℕ Global)) (counted : List Total) → names ≡ heap.names.items → counted ≡ totals → total_rows (lists_of names) counted ≡ class_text heap totals
+class_text_is heap totals names counted n t =
+    ap (λ (ts : List Total). total_rows (lists_of names) ts) t
+    ∙ ap (λ (ns : List (Vec ℕ Global)). total_rows (lists_of ns) totals) n
+
+-- HOW FAR THE SNAPSHOT WAS PUT. The first line was gathered in an empty text, and the rows of the static slots come next.
+module _ (lines : List TraceLine) (e : ℕ) (heap : Heap) (totals : List Total) (all : Total) (counted : IsCounted lines e heap totals all) (nothing start : List ℕ) (empty : nothing ≡ []) (head : start ≡ nothing ++ head_of e all) (old one : Log) where
+  parts_are : head_of e all ++ ((statics_of heap ++ object_text heap) ++ class_text heap totals) ≡ snapshot_text lines e
+  parts_are = joined (head_of e all) (statics_of heap) (object_text heap) (class_text heap totals) ∙ whole_is counted.good.version e lines heap totals all counted.good.good.fine counted
+
+  begun : start ≡ head_of e all
+  begun = head ∙ ap (λ (t : List ℕ). t ++ head_of e all) empty
+
+  pub stops_at_statics : TakesPrefix old one (start ++ statics_of heap) → TakesPrefix old one (snapshot_text lines e)
+  stops_at_statics p =
+      subst (λ (t : List ℕ). TakesPrefix old one t) parts_are
+      (first_stops old one one one (head_of e all) (statics_of heap) (object_text heap) (class_text heap totals) (subst (λ (t : List ℕ). TakesPrefix old one (t ++ statics_of heap)) begun p))
+
+  -- the objects come next
+  module _ (a objects : List ℕ) (objects_are : objects ≡ object_text heap) (put : TakesUpTo old one (start ++ statics_of heap) a) (two : Log) where
+    statics_put : TakesUpTo old one (head_of e all ++ statics_of heap) a
+    statics_put = subst (λ (t : List ℕ). TakesUpTo old one (t ++ statics_of heap) a) begun put
+
+    pub stops_at_objects : TakesPrefix one two (a ++ objects) → TakesPrefix old two (snapshot_text lines e)
+    stops_at_objects p =
+        subst (λ (t : List ℕ). TakesPrefix old two t) parts_are
+        (second_stops old one two two (head_of e all) (statics_of heap) (object_text heap) (class_text heap totals) a statics_put (subst (λ (t : List ℕ). TakesPrefix one two (a ++ t)) objects_are p))
+
+    -- the classes come last
+    module _ (b classes : List ℕ) (classes_are : classes ≡ class_text heap totals) (next : TakesUpTo one two (a ++ objects) b) (three : Log) where
+      objects_put : TakesUpTo one two (a ++ object_text heap) b
+      objects_put = subst (λ (t : List ℕ). TakesUpTo one two (a ++ t) b) objects_are next
+
+      pub stops_at_classes : TakesPrefix two three (b ++ classes) → TakesPrefix old three (snapshot_text lines e)
+      stops_at_classes p =
+          subst (λ (t : List ℕ). TakesPrefix old three t) parts_are
+          (last_stops old one two three (head_of e all) (statics_of heap) (object_text heap) (class_text heap totals) a b statics_put objects_put (subst (λ (t : List ℕ). TakesPrefix two three (b ++ t)) classes_are p))
+
+      pub all_gathered : (d : List ℕ) → TakesUpTo two three (b ++ classes) d → TakesUpTo old three (snapshot_text lines e) d
+      all_gathered d q =
+          subst (λ (t : List ℕ). TakesUpTo old three t d) parts_are
+          (three_up_to old one two three (head_of e all) (statics_of heap) (object_text heap) (class_text heap totals) a b d statics_put objects_put (subst (λ (t : List ℕ). TakesUpTo two three (b ++ t) d) classes_are q))

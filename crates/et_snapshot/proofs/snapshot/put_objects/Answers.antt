@@ -1,12 +1,12 @@
-use Rattle.std.proofs.Common.{◌≡◌, ◌∙◌, ℕ, List, ◌+◌, ◌++◌, length, refl, ap, subst, drop}
+use Rattle.std.proofs.Common.{◌≡◌, ◌∙◌, ℕ, List, ◌+◌, ◌<◌, ◌++◌, get_or, length, refl, ap, subst, drop}
 use Rattle.std.specs.List.{flat_map}
 use Rattle.std.proofs.lemmas.List.{drop_all}
-use Rattle.et_io.specs.Sink.{TakesUpTo, TakesPrefix}
+use Rattle.et_io.specs.Sink.{Log, TakesUpTo, TakesPrefix}
 use Rattle.et_io.proofs.Taking.{goes_on, part_put}
 use Rattle.et_snapshot.specs.declared.objects.Entry.{Entry}
 use Rattle.et_snapshot.specs.Heap.{lists_of, objects_of, rows_of, rows_in, HasClass}
 use Rattle.et_snapshot.proofs.Entries.{rest_is, rows_are, one_fits}
-use Rattle.et_snapshot.proofs.Pieces.{puts_begin, puts_next, puts_break, puts_all, on_err}
+use Rattle.et_snapshot.proofs.Pieces.{Puts, puts_begin, puts_next, puts_break, puts_all, on_err}
 use Rattle.et_snapshot.proofs.snapshot.put_objects.Goals as goal
 
 pub loop-entry-init : goal.loop-entry-init
@@ -36,35 +36,29 @@ loop-entry-preserved g c =
 whole : (names : List (List ℕ)) (es : List Entry) (start : List ℕ) → start ++ flat_map (rows_in names) es ≡ start ++ flat_map (rows_of names) (objects_of es)
 whole names es start = ap (λ (t : List ℕ). start ++ t) (rows_are names es)
 
+-- where the rows of the next entry stop, so do those of all
+stops_at : (names : List (List ℕ)) (es : List Entry) (i : ℕ) (x : Entry) (old mid new : Log) (start text : List ℕ) → i < length es → x ≡ get_or es i x → Puts (rows_in names) es (drop i es) old mid start text → TakesPrefix mid new (text ++ rows_in names x)
+    → TakesPrefix old new (start ++ flat_map (rows_of names) (objects_of es))
+stops_at names es i x old mid new start text lt is p stops =
+    subst (λ (t : List ℕ). TakesPrefix old new t) (whole names es start)
+    (puts_break (rows_in names) es (drop i es) (drop (i + 1) es) x old mid new start text (text ++ rows_in names x) (rest_is es i x lt is) p refl stops)
+
 pub returns-in_err-put_entry-clause-err : goal.returns-in_err-put_entry-clause-err
 returns-in_err-put_entry-clause-err g c =
     let s = c.loop-entry in
-    let row = rows_in (lists_of c.args.names.now) in
-    let es = c.args.entries.now in
-    let i = s.entry-index in
-    let x = c.entry-item.result in
-    let old = g.O.Sink.taken c.args.sink.now in
-    let new = g.O.Sink.taken c.put_entry.new.sink in
     on_err c.from_residual.result
-    (subst (λ (t : List ℕ). TakesPrefix old new t) (whole (lists_of c.args.names.now) es c.args.text.now.items)
-    (puts_break row es (drop i es) (drop (i + 1) es) x old (g.O.Sink.taken s.sink) new c.args.text.now.items s.text.items (s.text.items ++ row x) (rest_is es i x c.loop-entry-test.true c.entry-item.is) s.invariant.puts refl c.in_err-put_entry.ensures.err))
+    (stops_at (lists_of c.args.names.now) c.args.entries.now s.entry-index c.entry-item.result (g.O.Sink.taken c.args.sink.now) (g.O.Sink.taken s.sink) (g.O.Sink.taken c.put_entry.new.sink) c.args.text.now.items s.text.items c.loop-entry-test.true c.entry-item.is s.invariant.puts c.in_err-put_entry.ensures.err)
 
 pub returns-in_err-put_piece-clause-err : goal.returns-in_err-put_piece-clause-err
 returns-in_err-put_piece-clause-err g c =
     let s = c.loop-entry in
-    let row = rows_in (lists_of c.args.names.now) in
-    let es = c.args.entries.now in
-    let i = s.entry-index in
+    let names = lists_of c.args.names.now in
     let x = c.entry-item.result in
-    let old = g.O.Sink.taken c.args.sink.now in
     let mid = g.O.Sink.taken s.sink in
-    let put = g.O.Sink.taken c.put_entry.new.sink in
     let new = g.O.Sink.taken c.put_piece.new.sink in
-    let piece = c.in_err-put_piece.ensures.err in
     on_err c.from_residual-in_err-put_piece.result
-    (subst (λ (t : List ℕ). TakesPrefix old new t) (whole (lists_of c.args.names.now) es c.args.text.now.items)
-    (puts_break row es (drop i es) (drop (i + 1) es) x old mid new c.args.text.now.items s.text.items (s.text.items ++ row x) (rest_is es i x c.loop-entry-test.true c.entry-item.is) s.invariant.puts refl
-    (part_put mid put new (s.text.items ++ row x) c.put_entry.new.text.items c.in_ok-put_entry.ensures.ok piece)))
+    (stops_at names c.args.entries.now s.entry-index x (g.O.Sink.taken c.args.sink.now) mid new c.args.text.now.items s.text.items c.loop-entry-test.true c.entry-item.is s.invariant.puts
+    (part_put mid (g.O.Sink.taken c.put_entry.new.sink) new (s.text.items ++ rows_in names x) c.put_entry.new.text.items c.in_ok-put_entry.ensures.ok c.in_err-put_piece.ensures.err))
 
 pub returns-clause-ok : goal.returns-clause-ok
 returns-clause-ok g c =
