@@ -6,7 +6,7 @@ use Rattle.std.specs.List.Sorted.{IsStrictlySortedBy}
 use Rattle.std.specs.Map.{keys_of}
 use Rattle.std.specs.Ordering.{nat_cmp}
 use Rattle.std.proofs.Math.ListN.{set}
-use Rattle.std.proofs.lemmas.Bool.Decides.{nat_tests}
+use Rattle.std.proofs.lemmas.Bool.{cond-false, cond-true, le-leb, lt-leb}
 use Rattle.std.proofs.lemmas.List.{get_or_past, get_or-replicate, length-replicate}
 use Rattle.std.proofs.lemmas.List.Filters.{sum_by-filter_both}
 use Rattle.et_base.proofs.Lists.{Contains-none}
@@ -109,20 +109,6 @@ settles v t object freed i = record {
 
 -- EACH ITEM
 
-cond_true : {A : Type 0} (b : Bool) (x y : A) → b ≡ true → cond b x y ≡ x
-cond_true true x y e = refl
-cond_true false x y e = absurd cc
-
-cond_false : {A : Type 0} (b : Bool) (x y : A) → b ≡ false → cond b x y ≡ y
-cond_false false x y e = refl
-cond_false true x y e = absurd cc
-
-le_true : (a b : ℕ) → a ≤ b → leb a b ≡ true
-le_true a b le = grind (arith, nat_tests)
-
-le_false : (a b : ℕ) → b < a → leb a b ≡ false
-le_false a b lt = grind (arith, nat_tests)
-
 -- an object for which there is no room
 pub takes_none : (v : View) (event object size : ℕ) → v.capacity < v.bytes + size → TakesItem (Alloc event object size) v (left_out event object v)
 takes_none v event object size lt = record {
@@ -130,7 +116,7 @@ takes_none v event object size lt = record {
   taken = λ n past c new h reached decides.
       (let b = h.totals.bytes_is in
       subst (λ (d : Counted). IsCountedHeap (left_out event object v) n (Alloc event object size ∷ past) d)
-      (sym (cond_false (fits_capacity past c.heap.space size v.capacity) (settled reached (Alloc event object size ∷ past) (entered (Alloc event object size ∷ past) object c)) (record c { heap = exhaust event c.heap }) (le_false (bytes past c.heap.space + size) v.capacity (omega (arith, lt, b)))))
+      (sym (cond-false (fits_capacity past c.heap.space size v.capacity) (settled reached (Alloc event object size ∷ past) (entered (Alloc event object size ∷ past) object c)) (record c { heap = exhaust event c.heap }) (lt-leb (bytes past c.heap.space + size) v.capacity (omega (arith, lt, b)))))
       (left_out_stands v n past c event object size new h));
 }
 
@@ -141,7 +127,7 @@ takes_some v v' event object size le s = record {
   taken = λ n past c new h reached decides.
       (let b = h.totals.bytes_is in
       subst (λ (d : Counted). IsCountedHeap v' n (Alloc event object size ∷ past) d)
-      (sym (cond_true (fits_capacity past c.heap.space size v.capacity) (settled reached (Alloc event object size ∷ past) (entered (Alloc event object size ∷ past) object c)) (record c { heap = exhaust event c.heap }) (le_true (bytes past c.heap.space + size) v.capacity (omega (arith, le, b)))))
+      (sym (cond-true (fits_capacity past c.heap.space size v.capacity) (settled reached (Alloc event object size ∷ past) (entered (Alloc event object size ∷ past) object c)) (record c { heap = exhaust event c.heap }) (le-leb (bytes past c.heap.space + size) v.capacity (omega (arith, le, b)))))
       (s.settled n (Alloc event object size ∷ past) (entered (Alloc event object size ∷ past) object c) (placed_ready v n past c event object size new h) reached decides));
 }
 
@@ -173,7 +159,7 @@ stands_next own policy v v' n past item room may s t = record {
       let h = t.stands reached decides in
       let none : is_some c.heap.exhausted ≡ false = ap (λ (e : Option ℕ). is_some e) (sym h.totals.exhausted_is) ∙ room in
       let next = s.taken n past c may h reached decides in
-      let here = subst (λ (d : Counted). IsCountedHeap v' n (item ∷ past) d) (sym (cond_false (is_some c.heap.exhausted) c (counted_on reached v.capacity past item c) none)) next in
+      let here = subst (λ (d : Counted). IsCountedHeap v' n (item ∷ past) d) (sym (cond-false (is_some c.heap.exhausted) c (counted_on reached v.capacity past item c) none)) next in
       subst (λ (k : ℕ). IsCountedHeap v' n (item ∷ past) (counted_after reached k (item ∷ past))) (sym s.capacity_is) here);
 }
 
