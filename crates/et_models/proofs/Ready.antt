@@ -193,19 +193,23 @@ plus_is a b c d e f = omega arith
 -- what both spaces hold once a new object came, which neither holds yet
 record Came (v : Both) (past : List Item) (event object size : ℕ) : Type 0 where
   pub holds : HoldsMade v (Alloc event object size ∷ past)
+  pub within : object < length v.places
   pub made : is_made (Alloc event object size ∷ past) object ≡ true
   pub own : unwrap_or (size_in (Alloc event object size ∷ past) object) 0 ≡ size
   pub room : v.heap.freed + (bytes (Alloc event object size ∷ past) v.heap.nursery + bytes (Alloc event object size ∷ past) v.heap.space) + size ≤ sum (sizes (Alloc event object size ∷ past))
 
-came : (v : Both) (n : ℕ) (past : List Item) (event object size : ℕ) → IsNewObject n past object size → HoldsMade v past → Came v past event object size
-came v n past event object size c k =
+came : (v : Both) (n : ℕ) (past : List Item) (a b event object size : ℕ) → IsNewObject n past object size → IsReadyToCollect v n past a b → Came v past event object size
+came v n past a b event object size c r =
+    let k = r.holds in
     let item = Alloc event object size in
     let young = bytes_stay n past item v.heap.nursery c k.young_made in
     let old = bytes_stay n past item v.heap.space c k.old_made in
     let all = sum_by-cons (λ x. x) size (sizes past) in
     let yb = k.young_bytes_is in let ob = k.old_bytes_is in let sums = k.sums in
+    let last = c.last in let long = r.places.long in
     record {
       holds = record { young_bytes_is = omega (arith, yb, young); old_bytes_is = omega (arith, ob, old); young_made = are_made_on past item v.heap.nursery k.young_made; old_made = are_made_on past item v.heap.space k.old_made; sums = omega (arith, sums, young, old, all) };
+      within = omega (arith, last, long);
       made = ap (λ (s : Option ℕ). is_some s) (size_here past event object size);
       own = ap (λ (s : Option ℕ). unwrap_or s 0) (size_here past event object size);
       room = omega (arith, sums, young, old, all);
@@ -215,12 +219,10 @@ pub young_ready : (v : Both) (n : ℕ) (past : List Item) (a b event object size
 young_ready v n past a b event object size c r =
     let h = v.heap in
     let item = Alloc event object size in
-    let new = came v n past event object size c r.holds in
+    let new = came v n past a b event object size c r in
     let more = sum_by_push (λ o. unwrap_or (size_in (item ∷ past) o) 0) h.nursery object in
     let own = new.own in let room = new.room in let held = new.holds.young_bytes_is in
-    let last = c.last in let long = r.places.long in
-    let within : object < length v.places = omega (arith, last, long) in
-    let here = set_here v.places object Nursery within in
+    let here = set_here v.places object Nursery new.within in
     let there = set_there v.places object Nursery in
     let new_one = of_new past object c.new in
     let total : v.young_bytes + size ≡ bytes (item ∷ past) (h.nursery ++ object ∷ []) = omega (arith, held, own, more) in (
@@ -317,11 +319,9 @@ pub old_ready : (v : Both) (n : ℕ) (past : List Item) (a b event object size :
 old_ready v n past a b event object size c r =
     let h = v.heap in
     let item = Alloc event object size in
-    let new = came v n past event object size c r.holds in
+    let new = came v n past a b event object size c r in
     let more = sum_by_push (λ o. unwrap_or (size_in (item ∷ past) o) 0) h.space object in
     let own = new.own in let room = new.room in let held = new.holds.old_bytes_is in
-    let last = c.last in let long = r.places.long in
-    let within : object < length v.places = omega (arith, last, long) in
     let new_one = of_new past object c.new in
     let total : v.old_bytes + size ≡ bytes (item ∷ past) (h.space ++ object ∷ []) = omega (arith, held, own, more) in (
       record {
@@ -329,8 +329,8 @@ old_ready v n past a b event object size c r =
         few = r.few;
         knows = knows_more n past v.sizes v.dead event object size c r.knows;
         slots = slots_stay v.slots n past event object size r.slots;
-        places = places_with v n past object within (λ o k. new_one o (of_all (λ x. is_made past x ≡ true) h.nursery o r.holds.young_made k)) (λ o k. new_one o (of_all (λ x. is_made past x ≡ true) h.space o r.holds.old_made k)) r.places;
-        noted = noted_with v n past a b event object size within c r;
+        places = places_with v n past object new.within (λ o k. new_one o (of_all (λ x. is_made past x ≡ true) h.nursery o r.holds.young_made k)) (λ o k. new_one o (of_all (λ x. is_made past x ≡ true) h.space o r.holds.old_made k)) r.places;
+        noted = noted_with v n past a b event object size new.within c r;
         holds = record {
           young_bytes_is = new.holds.young_bytes_is;
           old_bytes_is = total;
@@ -347,7 +347,7 @@ pub left_ready : (v : Both) (n : ℕ) (past : List Item) (a b event object size 
 left_ready v n past a b event object size c r =
     let h = v.heap in
     let item = Alloc event object size in
-    let t = (came v n past event object size c r.holds).holds in (
+    let t = (came v n past a b event object size c r).holds in (
       record {
         fed = (r.fed, c);
         few = r.few;
