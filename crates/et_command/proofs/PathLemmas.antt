@@ -42,31 +42,27 @@ either_has false x y h i = i
 
 -- EACH COMMAND
 
-options_have : (paths : List (List ℕ)) (o : Option Options) → 0 < length paths → HasPaths (option_map (λ options. Trace options paths) o)
+-- a command of options and paths
+module _ (make : Options → List (List ℕ) → Asked) (made : (options : Options) (paths : List (List ℕ)) → 0 < length paths → HasPaths (Some (make options paths))) where
+  options_have : (paths : List (List ℕ)) (o : Option Options) → 0 < length paths → HasPaths (option_map (λ options. make options paths) o)
+  options_have paths None some = nothing_has
+  options_have paths (Some options) some = made options paths some
+
+  some_or_none : (b : Bool) (paths : List (List ℕ)) (o : Option Options) → 0 < length paths → HasPaths (option_and_then (λ paths. option_map (λ options. make options paths) o) (if b then None else Some paths))
+  some_or_none true paths o some = nothing_has
+  some_or_none false paths o some = options_have paths o some
+
+  with_options : (paths : List (List ℕ)) (o : Option Options) → HasPaths (option_and_then (λ paths. option_map (λ options. make options paths) o) (some_paths paths))
+  with_options [] o = nothing_has
+  with_options (path ∷ paths) o = some_or_none (length (path ∷ paths) == 0) (path ∷ paths) o (let some : 0 < length (path ∷ paths) = omega arith in some)
+
+trace_has : (options : Options) (paths : List (List ℕ)) → 0 < length paths → HasPaths (Some (Trace options paths))
 unfolding HasPaths
-options_have paths None some = tt
-options_have paths (Some options) some = some
+trace_has options paths some = some
 
-some_or_none : (b : Bool) (paths : List (List ℕ)) (o : Option Options) → 0 < length paths → HasPaths (option_and_then (λ paths. option_map (λ options. Trace options paths) o) (if b then None else Some paths))
-some_or_none true paths o some = nothing_has
-some_or_none false paths o some = options_have paths o some
-
-trace_has : (paths : List (List ℕ)) (o : Option Options) → HasPaths (option_and_then (λ paths. option_map (λ options. Trace options paths) o) (some_paths paths))
-trace_has [] o = nothing_has
-trace_has (path ∷ paths) o = some_or_none (length (path ∷ paths) == 0) (path ∷ paths) o (let some : 0 < length (path ∷ paths) = omega arith in some)
-
-run_options_have : (paths : List (List ℕ)) (o : Option Options) → 0 < length paths → HasPaths (option_map (λ options. Run options paths) o)
+run_has : (options : Options) (paths : List (List ℕ)) → 0 < length paths → HasPaths (Some (Run options paths))
 unfolding HasPaths
-run_options_have paths None some = tt
-run_options_have paths (Some options) some = some
-
-run_or_none : (b : Bool) (paths : List (List ℕ)) (o : Option Options) → 0 < length paths → HasPaths (option_and_then (λ paths. option_map (λ options. Run options paths) o) (if b then None else Some paths))
-run_or_none true paths o some = nothing_has
-run_or_none false paths o some = run_options_have paths o some
-
-run_has : (paths : List (List ℕ)) (o : Option Options) → HasPaths (option_and_then (λ paths. option_map (λ options. Run options paths) o) (some_paths paths))
-run_has [] o = nothing_has
-run_has (path ∷ paths) o = run_or_none (length (path ∷ paths) == 0) (path ∷ paths) o (let some : 0 < length (path ∷ paths) = omega arith in some)
+run_has options paths some = some
 
 assemble_has : (o : Option (List ℕ)) → HasPaths (option_map Assemble o)
 unfolding HasPaths
@@ -131,8 +127,8 @@ bench_has (Some number) = tt
 
 asked_has : (name : List ℕ) (s : Split) → HasPaths (asked name s)
 asked_has name s =
-    either_has _ _ _ (trace_has s.operands (trace_options s.options))
-    (either_has _ _ _ (run_has s.operands (run_options s.options))
+    either_has _ _ _ (with_options Trace trace_has s.operands (trace_options s.options))
+    (either_has _ _ _ (with_options Run run_has s.operands (run_options s.options))
     (either_has _ _ _ (assemble_has (plain_path s))
     (either_has _ _ _ (verify_has s)
     (either_has _ _ _ (replay_has (replay_options s.options) (only_path s.operands))
