@@ -58,65 +58,32 @@ table_agrees = refl
 table_length : length LENGTHS ≡ 256
 table_length = refl
 
+-- of each of these lengths there is one form alone
+forms_apart : (f : Form) → (is_form 1 f ≡ true → f ≡ form.Plain) × (is_form 2 f ≡ true → f ≡ form.U1) × (is_form 3 f ≡ true → f ≡ form.U2)
+forms_apart form.Plain = (λ e. refl, λ e. absurd (false≢true e), λ e. absurd (false≢true e))
+forms_apart form.U1 = (λ e. absurd (false≢true e), λ e. refl, λ e. absurd (false≢true e))
+forms_apart form.S1 = (λ e. absurd (false≢true e), λ e. absurd (false≢true e), λ e. absurd (false≢true e))
+forms_apart form.U2 = (λ e. absurd (false≢true e), λ e. absurd (false≢true e), λ e. refl)
+forms_apart form.S2 = (λ e. absurd (false≢true e), λ e. absurd (false≢true e), λ e. absurd (false≢true e))
+forms_apart form.S4 = (λ e. absurd (false≢true e), λ e. absurd (false≢true e), λ e. absurd (false≢true e))
+forms_apart form.Increment = (λ e. absurd (false≢true e), λ e. absurd (false≢true e), λ e. absurd (false≢true e))
+forms_apart form.LongIncrement = (λ e. absurd (false≢true e), λ e. absurd (false≢true e), λ e. absurd (false≢true e))
+forms_apart form.Interface = (λ e. absurd (false≢true e), λ e. absurd (false≢true e), λ e. absurd (false≢true e))
+forms_apart form.Dimensions = (λ e. absurd (false≢true e), λ e. absurd (false≢true e), λ e. absurd (false≢true e))
+forms_apart form.Wide = (λ e. absurd (false≢true e), λ e. absurd (false≢true e), λ e. absurd (false≢true e))
+forms_apart form.Table = (λ e. absurd (false≢true e), λ e. absurd (false≢true e), λ e. absurd (false≢true e))
+forms_apart form.Lookup = (λ e. absurd (false≢true e), λ e. absurd (false≢true e), λ e. absurd (false≢true e))
+forms_apart form.Refused = (λ e. absurd (false≢true e), λ e. absurd (false≢true e), λ e. absurd (false≢true e))
+forms_apart form.Unknown = (λ e. absurd (false≢true e), λ e. absurd (false≢true e), λ e. absurd (false≢true e))
+
 form_one : (n : ℕ) (f : Form) → is_form n f ≡ true → n ≡ 1 → f ≡ form.Plain
-form_one n f e one = by f (ap (λ (k : ℕ). is_form k f) (sym one) ∙ e)
-  where
-    by : (f : Form) → is_form 1 f ≡ true → f ≡ form.Plain
-    by form.Plain e = refl
-    by form.U1 e = absurd (false≢true e)
-    by form.S1 e = absurd (false≢true e)
-    by form.U2 e = absurd (false≢true e)
-    by form.S2 e = absurd (false≢true e)
-    by form.S4 e = absurd (false≢true e)
-    by form.Increment e = absurd (false≢true e)
-    by form.LongIncrement e = absurd (false≢true e)
-    by form.Interface e = absurd (false≢true e)
-    by form.Dimensions e = absurd (false≢true e)
-    by form.Wide e = absurd (false≢true e)
-    by form.Table e = absurd (false≢true e)
-    by form.Lookup e = absurd (false≢true e)
-    by form.Refused e = absurd (false≢true e)
-    by form.Unknown e = absurd (false≢true e)
+form_one n f e one = (forms_apart f).0 (ap (λ (k : ℕ). is_form k f) (sym one) ∙ e)
 
 form_two : (n : ℕ) (f : Form) → is_form n f ≡ true → n ≡ 2 → f ≡ form.U1
-form_two n f e two = by f (ap (λ (k : ℕ). is_form k f) (sym two) ∙ e)
-  where
-    by : (f : Form) → is_form 2 f ≡ true → f ≡ form.U1
-    by form.Plain e = absurd (false≢true e)
-    by form.U1 e = refl
-    by form.S1 e = absurd (false≢true e)
-    by form.U2 e = absurd (false≢true e)
-    by form.S2 e = absurd (false≢true e)
-    by form.S4 e = absurd (false≢true e)
-    by form.Increment e = absurd (false≢true e)
-    by form.LongIncrement e = absurd (false≢true e)
-    by form.Interface e = absurd (false≢true e)
-    by form.Dimensions e = absurd (false≢true e)
-    by form.Wide e = absurd (false≢true e)
-    by form.Table e = absurd (false≢true e)
-    by form.Lookup e = absurd (false≢true e)
-    by form.Refused e = absurd (false≢true e)
-    by form.Unknown e = absurd (false≢true e)
+form_two n f e two = (forms_apart f).1 (ap (λ (k : ℕ). is_form k f) (sym two) ∙ e)
 
 form_three : (n : ℕ) (f : Form) → is_form n f ≡ true → n ≡ 3 → f ≡ form.U2
-form_three n f e three = by f (ap (λ (k : ℕ). is_form k f) (sym three) ∙ e)
-  where
-    by : (f : Form) → is_form 3 f ≡ true → f ≡ form.U2
-    by form.Plain e = absurd (false≢true e)
-    by form.U1 e = absurd (false≢true e)
-    by form.S1 e = absurd (false≢true e)
-    by form.U2 e = refl
-    by form.S2 e = absurd (false≢true e)
-    by form.S4 e = absurd (false≢true e)
-    by form.Increment e = absurd (false≢true e)
-    by form.LongIncrement e = absurd (false≢true e)
-    by form.Interface e = absurd (false≢true e)
-    by form.Dimensions e = absurd (false≢true e)
-    by form.Wide e = absurd (false≢true e)
-    by form.Table e = absurd (false≢true e)
-    by form.Lookup e = absurd (false≢true e)
-    by form.Refused e = absurd (false≢true e)
-    by form.Unknown e = absurd (false≢true e)
+form_three n f e three = (forms_apart f).2 (ap (λ (k : ℕ). is_form k f) (sym three) ∙ e)
 
 no_turn : (n : ℕ) (b : Bool) → ((n == 0) || not b) ≡ true → 0 < n → b ≡ false
 no_turn zero b e lt = absurd (omega (arith, lt))

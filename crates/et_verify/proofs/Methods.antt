@@ -1,6 +1,7 @@
 -- Where the code of a method leads, by what is found and tested at a place.
-use Rattle.std.proofs.Common.{◌≡◌, ℕ, ℤ, ◌&&◌, Bool, true, false, List, [], ◌∷◌, ◌++◌, Option, Some, None, refl, sym, ◌∙◌, ap}
-use Rattle.std.specs.Prelude.{if◌then◌else◌, filter, map, Ok}
+use Rattle.std.proofs.Common.{◌≡◌, ℕ, ℤ, ◌&&◌, Bool, true, false, List, [], ◌∷◌, ◌++◌, Option, Some, None, refl, sym, ◌∙◌, ap, subst, Contains}
+use Rattle.std.proofs.lemmas.Bool.{false≢true}
+use Rattle.std.specs.Prelude.{if◌then◌else◌, filter, map, Ok, IfSome}
 use Rattle.std.proofs.lemmas.List.{append-nil}
 use Rattle.et_code.specs.declared.body.TableRow.{TableRow}
 use Rattle.std.specs.List.{list_all}
@@ -17,12 +18,15 @@ use Rattle.et_event.specs.declared.rows.Row.{Row}
 use Rattle.et_event.specs.Sound.{returned_of}
 use Rattle.et_event.specs.Places.{site_at}
 use Rattle.et_event.specs.declared.places.Place.{Place}
+use Rattle.et_flow.specs.declared.search.Lead.{Lead}
+use Rattle.et_flow.specs.Flows.{some_place}
 use Rattle.et_flow.specs.Types.{TypesOf}
 use Rattle.et_verify.specs.Steps.{types_after}
 use Rattle.et_flow.specs.Types.{caught}
 use Rattle.et_verify.specs.Leads.{site_in, covers, may_catch, goes_past, next_places, handlers_at}
 use Rattle.et_verify.specs.Typings.{are_starts, has_room, led, leads_by_row, leads_by, leads_in}
-use Rattle.et_verify.specs.Methods.{IsPlaceIn}
+use Rattle.et_verify.specs.declared.decoded.Decoded.{Decoded}
+use Rattle.et_verify.specs.Methods.{IsPlaceIn, MethodOf, StandsAt, types_after_it, IsAnswered, IsStepped}
 
 pub not_start : (p : Linked) (m : ℕ) (body : Body) (pc : ℕ) (ts : TypesOf) → is_start body.code pc ≡ false → leads_in p m body pc ts ≡ None
 not_start p m body pc ts e = ap (λ (b : Bool). if b then leads_by p m body pc ts (instruction_at body.code pc) else None) e
@@ -60,6 +64,43 @@ module _ (p : Linked) (m : ℕ) (body : Body) (pc : ℕ) (ts : TypesOf) (decoded
       led_as
       ∙ (ap (led body (next_places pc (site_in p m body decoded) row) (handlers_at p m body pc) ts) e
       ∙ ap (λ (xs : List ℕ). led body xs (handlers_at p m body pc) ts (Some after)) (sym n))
+
+-- the answer for an instruction, by what it does
+pub answered : (f g : MethodOf) (x : Decoded) (ts after : TypesOf) (row : Row) (b : Bool) → f ≡ g → x.row ≡ row → (b ≡ true → types_after f.body.max_stack (returned_of (method_at f.program f.method)) (site_in f.program f.method f.body (x.instr, x.next)) row ts ≡ Some after) → (b ≡ false → types_after f.body.max_stack (returned_of (method_at f.program f.method)) (site_in f.program f.method f.body (x.instr, x.next)) row ts ≡ None) → IsAnswered (types_after_it g x ts) after b
+answered f g x ts after row b same is done refused =
+    let e : types_after_it g x ts ≡ types_after f.body.max_stack (returned_of (method_at f.program f.method)) (site_in f.program f.method f.body (x.instr, x.next)) row ts = ap (λ (y : MethodOf). types_after_it y x ts) (sym same) ∙ ap (λ (r : Row). types_after f.body.max_stack (returned_of (method_at f.program f.method)) (site_in f.program f.method f.body (x.instr, x.next)) r ts) is in
+    record { done = λ t. e ∙ done t; refused = λ t. e ∙ refused t }
+
+-- where none stands that has a row
+pub none_there : (f : MethodOf) (pc : ℕ) (before after : TypesOf) (old new : Lead) → leads_by f.program f.method f.body pc before (instruction_at f.body.code pc) ≡ None → IsStepped f pc before after old new false
+none_there f pc before after old new none = record {
+  done = λ e. absurd (false≢true e);
+  refused = λ e. none;
+  on = λ e. absurd (false≢true e);
+  turns = λ e. absurd (false≢true e);
+  handlers = λ e. absurd (false≢true e);
+  caught = λ e. absurd (false≢true e);
+}
+
+-- .. as a step over it answers: in code and targets as they are read
+module _ (f : MethodOf) (pc : ℕ) (code : List ℕ) (x : Decoded) (before after : TypesOf) (old new : Lead) (same : code ≡ f.body.code) (stands : StandsAt code pc x) where
+  decoded_there : instruction_at f.body.code pc ≡ Ok (x.instr, x.next)
+  decoded_there = subst (λ (bytes : List ℕ). instruction_at bytes pc ≡ Ok (x.instr, x.next)) same stands.decoded
+
+  pub refused_there : types_after_it f x before ≡ None → IsStepped f pc before after old new false
+  refused_there none = none_there f pc before after old new (not_accepted f.program f.method f.body pc before (x.instr, x.next) x.row decoded_there stands.row none)
+
+  pub stepped_there : (targets : List Bool) → targets ≡ f.targets → types_after_it f x before ≡ Some after
+      → some_place new.on ++ new.nexts.items ≡ next_places pc (site_in f.program f.method f.body (x.instr, x.next)) x.row → IfSome new.on (λ q. flag targets q ≡ false)
+      → ((q : ℕ) → Contains new.nexts.items q → is_start f.body.code q ≡ true → flag targets q ≡ true) → new.handlers.items ≡ old.handlers.items → new.caught ≡ old.caught → IsStepped f pc before after old new true
+  stepped_there targets are there places on turns handlers caught = record {
+    done = λ e. accepted f.program f.method f.body pc before (x.instr, x.next) x.row decoded_there stands.row (some_place new.on ++ new.nexts.items) after places there;
+    refused = λ e. absurd (false≢true (sym e));
+    on = λ e. subst (λ (flags : List Bool). IfSome new.on (λ q. flag flags q ≡ false)) are on;
+    turns = λ e. subst (λ (flags : List Bool). (q : ℕ) → Contains new.nexts.items q → is_start f.body.code q ≡ true → flag flags q ≡ true) are turns;
+    handlers = λ e. handlers;
+    caught = λ e. caught;
+  }
 
 -- one without targets goes on behind it, or nowhere
 pub straight_next : (p : Linked) (m : ℕ) (body : Body) (pc : ℕ) (decoded : Instr × ℕ) (row : Row) → offsets body.code decoded.0 ≡ [] → next_places pc (site_in p m body decoded) row ≡ (if goes_past row then decoded.1 ∷ [] else [])

@@ -1,6 +1,6 @@
 -- WHAT EACH INSTRUCTION TAKES AND GIVES (JVMS 6.5): the kinds of the operands that it takes, the topmost first, and the kind of
 -- the one that it gives. This is check 1 of the table of events, row by row, but for local variables and rearrangements.
-use Rattle.std.specs.Prelude.{ℕ, ◌==◌, Bool, true, false, if◌then◌else◌, List, [], ◌∷◌, map, reverse, replicate, Option, Some, None, option_map, option_and_then, unwrap_or}
+use Rattle.std.specs.Prelude.{◌≡◌, ℕ, ◌==◌, ◌<◌, ◌^◌, Bool, true, false, if◌then◌else◌, List, [], ◌∷◌, length, map, reverse, replicate, Option, Some, None, option_map, option_and_then, unwrap_or}
 use Rattle.et_class.specs.Descriptors.{MethodType, method_type, is_void, is_field_descriptor, width_of}
 use Rattle.et_class.specs.Operands.{operand_kind, may_return}
 use Rattle.et_class.specs.PoolOperands.Operand.{Operand}
@@ -22,7 +22,9 @@ use Rattle.et_event.specs.declared.rows.Row.{Row}
 use Rattle.et_event.specs.declared.rows.Row.TheVariants as rows
 use Rattle.et_event.specs.Calls.{is_static_call}
 use Rattle.et_event.specs.Kinds.{kind_of_elements}
-use Rattle.et_event.specs.Sites.{Site, Member, LoadedConstant, AnInt, ALong, AString, constant_at, pool_index, site_member, class_operand, natural_of}
+use Rattle.et_event.specs.Sites.{Site, Member, LoadedConstant, AnInt, ALong, AString, constant_at, pool_index, site_member, class_operand, natural_of, pool_of_class}
+use Rattle.et_event.specs.Places.{is_frame}
+use Rattle.et_program.specs.Entries.{Linked}
 
 pub record Effect : Type 0 where
   pub taken : List Operand
@@ -88,6 +90,18 @@ constant_effect at = option_map (λ kind. giving [] kind) (option_map kind_of_co
 -- an int, and D as a long
 abbrev pub result_kind : List ℕ → Operand
 result_kind descriptor = unwrap_or (operand_kind descriptor) (if width_of descriptor == 2 then operand.Long else operand.Int)
+
+-- an instruction names an entry, at an index of 16 bits, of the pool of a class of the program
+pub record NamesWithin (p : Linked) (at : Site) : Type 0 where
+  pub index : natural_of at.instr.first < 2 ^ 16
+  pub class : at.class < length p.classes
+  pub pool : at.pool ≡ pool_of_class p at.class
+
+-- .. where it has this row, unless it changes the frame alone
+pub record MayName (p : Linked) (does : Row) (at : Site) : Type 0 where
+  pub index : is_frame does ≡ false → natural_of at.instr.first < 2 ^ 16
+  pub class : at.class < length p.classes
+  pub pool : at.pool ≡ pool_of_class p at.class
 
 -- the type of the field that an instruction names
 abbrev pub described_by : Option Member → Option (List ℕ)

@@ -1,10 +1,10 @@
 //! What the instructions on fields, arrays, classes and constants take of the operands, and give (JVMS 6.5).
 ghost use Rattle.std.specs.Prelude.{◌≡◌, ◌<◌, ◌^◌, List, ◌∷◌, length, true, false, Some, None, IfOk, option_map, replicate};
 ghost use Rattle.et_event.specs.PoolOperands.Operand.TheVariants as kinds;
-ghost use Rattle.et_event.specs.Sites.{natural_of, constant_at, pool_index, pool_of_class};
+ghost use Rattle.et_event.specs.Sites.{natural_of, constant_at, pool_index};
 ghost use Rattle.et_event.specs.declared.rows.HeapRow.TheVariants as heap;
 ghost use Rattle.et_event.specs.Places.{site_at};
-ghost use Rattle.et_verify.specs.Effects.{constant_effect, field_read, field_type as type_of_field, field_written, heap_effect, kind_of_constant, naming_class as where_class};
+ghost use Rattle.et_verify.specs.Effects.{constant_effect, field_read, field_type as type_of_field, field_written, heap_effect, kind_of_constant, naming_class as where_class, NamesWithin};
 ghost use Rattle.et_verify.specs.Named.{descriptor_in as descriptor_of};
 ghost use Rattle.et_verify.specs.Steps.{below_taken, moved_by, moved_where};
 
@@ -45,9 +45,7 @@ fn descriptor_at<'a>(place: &Place<'a>) -> Option<&'a [u8]>
 /// The type of the field that an instruction names; `None` where it names none. Whether its text is one was found out as the
 /// program was linked.
 fn field_type<'a>(program: &Program, place: &Place<'a>) -> Option<&'a [u8]>
-    requires index { natural_of place.now.instr.first < 2 ^ 16 }
-    requires class { place.now.class < length program.now.classes }
-    requires pool { (site_at place.now).pool ≡ pool_of_class program.now place.now.class }
+    requires { NamesWithin program.now (site_at place.now) }
     ensures { option_map (λ s. s.now) result ≡ type_of_field (site_at place.now) }
 {
     if !program.is_field_at_index(place.class, index_of(place)) {
@@ -65,9 +63,7 @@ fn read_field(
     place: &Place<'_>,
     taken: &[Operand],
 ) -> Result<bool, NoMemory>
-    requires index { natural_of place.now.instr.first < 2 ^ 16 }
-    requires class { place.now.class < length program.now.classes }
-    requires pool { (site_at place.now).pool ≡ pool_of_class program.now place.now.class }
+    requires { NamesWithin program.now (site_at place.now) }
     ensures done { IfOk result (λ b. b ≡ true → moved_where
         (field_read (site_at place.now) taken.now) types.old.operands
         ≡ Some types.new.operands) }
@@ -90,9 +86,7 @@ fn write_field(
     place: &Place<'_>,
     is_static: bool,
 ) -> Result<bool, NoMemory>
-    requires index { natural_of place.now.instr.first < 2 ^ 16 }
-    requires class { place.now.class < length program.now.classes }
-    requires pool { (site_at place.now).pool ≡ pool_of_class program.now place.now.class }
+    requires { NamesWithin program.now (site_at place.now) }
     ensures done { IfOk result (λ b. b ≡ true → moved_where
         (field_written (site_at place.now) is_static) types.old.operands
         ≡ Some types.new.operands) }
@@ -183,9 +177,7 @@ pub(crate) fn step_heap(
     place: &Place<'_>,
     row: HeapRow,
 ) -> Result<bool, NoMemory>
-    requires index { natural_of place.now.instr.first < 2 ^ 16 }
-    requires class { place.now.class < length program.now.classes }
-    requires pool { (site_at place.now).pool ≡ pool_of_class program.now place.now.class }
+    requires { NamesWithin program.now (site_at place.now) }
     ensures done { IfOk result (λ b. b ≡ true → moved_where
         (heap_effect (site_at place.now) row) types.old.operands ≡ Some types.new.operands) }
     ensures refused { IfOk result (λ b. b ≡ false → moved_where

@@ -107,9 +107,9 @@ impl<'a> Flow for MethodFlow<'a> {
     ghost use Rattle.et_flow.specs.Flows.{IsLed};
     ghost use Rattle.et_verify.specs.Typings.{leads_in};
 
-    ghost leads = { λ place f types. leads_in f.program f.method f.body place types };
+    ghost leads = { λ f. leads_in f.program f.method f.body };
 
-    ghost straight = { λ place f. not (flag f.targets place) };
+    ghost straight = { λ f place. not (flag f.targets place) };
 
     fn lead(&self, place: u32, types: &mut Types, lead: &mut Lead) -> Result<bool, NoMemory> {
         if !is_flagged(self.starts, place) {
@@ -130,24 +130,17 @@ impl<'a> Flow for MethodFlow<'a> {
 }
 
 impl<'a> MethodFlow<'a> {
-    ghost use Rattle.std.specs.Prelude.{◌≡◌, ℕ, ◌++◌, true, false, Some, None, IfOk, IfSome, Contains};
-    ghost use Rattle.et_code.specs.Decoding.{instruction_at as stands_at};
-    ghost use Rattle.et_code.specs.Rules.{flag};
+    ghost use Rattle.std.specs.Prelude.{◌≡◌, true, IfOk};
     ghost use Rattle.et_code.specs.Starts.{is_start};
-    ghost use Rattle.et_flow.specs.Flows.{some_place};
-    ghost use Rattle.et_verify.specs.Leads.{handlers_at};
-    ghost use Rattle.et_verify.specs.Methods.{StandsAt, types_after_it};
-    ghost use Rattle.et_verify.specs.Typings.{leads_by, led};
+    ghost use Rattle.et_verify.specs.Methods.{StandsAt, types_after_it, IsAnswered, IsStepped};
 
     /// Makes types those after an instruction that may name an entry of the pool. `false` where it doesn't accept them; some
     /// entries may be gone then.
     #[inline(always)]
     fn step_named(&self, pc: u32, at: &Decoded, types: &mut Types) -> Result<bool, NoMemory>
         requires { StandsAt self.now.body.code pc at.now }
-        ensures done { IfOk result (λ b. b ≡ true →
-            types_after_it self.now at.now types.old ≡ Some types.new) }
-        ensures refused { IfOk result (λ b. b ≡ false →
-            types_after_it self.now at.now types.old ≡ None) }
+        ensures { IfOk result
+            (IsAnswered (types_after_it self.now at.now types.old) types.new) }
     {
         let code = self.code.code.as_slice();
         let class = self.info.class;
@@ -162,10 +155,8 @@ impl<'a> MethodFlow<'a> {
     #[inline(always)]
     fn step_decoded(&self, pc: u32, at: &Decoded, types: &mut Types) -> Result<bool, NoMemory>
         requires { StandsAt self.now.body.code pc at.now }
-        ensures done { IfOk result (λ b. b ≡ true →
-            types_after_it self.now at.now types.old ≡ Some types.new) }
-        ensures refused { IfOk result (λ b. b ≡ false →
-            types_after_it self.now at.now types.old ≡ None) }
+        ensures { IfOk result
+            (IsAnswered (types_after_it self.now at.now types.old) types.new) }
     {
         let room = self.code.max_stack as usize;
         let done = match at.row {
@@ -179,10 +170,8 @@ impl<'a> MethodFlow<'a> {
     #[inline(always)]
     fn step_other(&self, pc: u32, at: &Decoded, types: &mut Types) -> Result<bool, NoMemory>
         requires { StandsAt self.now.body.code pc at.now }
-        ensures done { IfOk result (λ b. b ≡ true →
-            types_after_it self.now at.now types.old ≡ Some types.new) }
-        ensures refused { IfOk result (λ b. b ≡ false →
-            types_after_it self.now at.now types.old ≡ None) }
+        ensures { IfOk result
+            (IsAnswered (types_after_it self.now at.now types.old) types.new) }
     {
         let room = self.code.max_stack as usize;
         let done = match at.row {
@@ -197,20 +186,8 @@ impl<'a> MethodFlow<'a> {
     #[inline(never)]
     fn step_any(&self, pc: u32, types: &mut Types, lead: &mut Lead) -> Result<bool, NoMemory>
         requires { is_start self.now.body.code pc ≡ true }
-        ensures done { IfOk result (λ b. b ≡ true → leads_by self.now.program self.now.method
-            self.now.body pc types.old (stands_at self.now.body.code pc)
-            ≡ led self.now.body (some_place lead.new.on ++ lead.new.nexts.items)
-            (handlers_at self.now.program self.now.method self.now.body pc) types.old
-            (Some types.new)) }
-        ensures refused { IfOk result (λ b. b ≡ false → leads_by self.now.program self.now.method
-            self.now.body pc types.old (stands_at self.now.body.code pc) ≡ None) }
-        ensures on { IfOk result (λ b. b ≡ true →
-            IfSome lead.new.on (λ q. flag self.now.targets q ≡ false)) }
-        ensures turns { IfOk result (λ b. b ≡ true → (q : ℕ) → Contains lead.new.nexts.items q →
-            is_start self.now.body.code q ≡ true → flag self.now.targets q ≡ true) }
-        ensures handlers { IfOk result (λ b. b ≡ true →
-            lead.new.handlers.items ≡ lead.old.handlers.items) }
-        ensures caught { IfOk result (λ b. b ≡ true → lead.new.caught ≡ lead.old.caught) }
+        ensures { IfOk result
+            (IsStepped self.now pc types.old types.new lead.old lead.new) }
     {
         let code = self.code.code.as_slice();
         let Some(at) = decoded_at(code, pc) else {
@@ -227,20 +204,8 @@ impl<'a> MethodFlow<'a> {
     #[inline(never)]
     fn step_simple(&self, pc: u32, types: &mut Types, lead: &mut Lead) -> Result<bool, NoMemory>
         requires { is_start self.now.body.code pc ≡ true }
-        ensures done { IfOk result (λ b. b ≡ true → leads_by self.now.program self.now.method
-            self.now.body pc types.old (stands_at self.now.body.code pc)
-            ≡ led self.now.body (some_place lead.new.on ++ lead.new.nexts.items)
-            (handlers_at self.now.program self.now.method self.now.body pc) types.old
-            (Some types.new)) }
-        ensures refused { IfOk result (λ b. b ≡ false → leads_by self.now.program self.now.method
-            self.now.body pc types.old (stands_at self.now.body.code pc) ≡ None) }
-        ensures on { IfOk result (λ b. b ≡ true →
-            IfSome lead.new.on (λ q. flag self.now.targets q ≡ false)) }
-        ensures turns { IfOk result (λ b. b ≡ true → (q : ℕ) → Contains lead.new.nexts.items q →
-            is_start self.now.body.code q ≡ true → flag self.now.targets q ≡ true) }
-        ensures handlers { IfOk result (λ b. b ≡ true →
-            lead.new.handlers.items ≡ lead.old.handlers.items) }
-        ensures caught { IfOk result (λ b. b ≡ true → lead.new.caught ≡ lead.old.caught) }
+        ensures { IfOk result
+            (IsStepped self.now pc types.old types.new lead.old lead.new) }
     {
         let code = self.code.code.as_slice();
         let Some(at) = simple_decoded_at(code, pc) else {
@@ -257,20 +222,8 @@ impl<'a> MethodFlow<'a> {
     #[inline(always)]
     fn step_at(&self, pc: u32, types: &mut Types, lead: &mut Lead) -> Result<bool, NoMemory>
         requires { is_start self.now.body.code pc ≡ true }
-        ensures done { IfOk result (λ b. b ≡ true → leads_by self.now.program self.now.method
-            self.now.body pc types.old (stands_at self.now.body.code pc)
-            ≡ led self.now.body (some_place lead.new.on ++ lead.new.nexts.items)
-            (handlers_at self.now.program self.now.method self.now.body pc) types.old
-            (Some types.new)) }
-        ensures refused { IfOk result (λ b. b ≡ false → leads_by self.now.program self.now.method
-            self.now.body pc types.old (stands_at self.now.body.code pc) ≡ None) }
-        ensures on { IfOk result (λ b. b ≡ true →
-            IfSome lead.new.on (λ q. flag self.now.targets q ≡ false)) }
-        ensures turns { IfOk result (λ b. b ≡ true → (q : ℕ) → Contains lead.new.nexts.items q →
-            is_start self.now.body.code q ≡ true → flag self.now.targets q ≡ true) }
-        ensures handlers { IfOk result (λ b. b ≡ true →
-            lead.new.handlers.items ≡ lead.old.handlers.items) }
-        ensures caught { IfOk result (λ b. b ≡ true → lead.new.caught ≡ lead.old.caught) }
+        ensures { IfOk result
+            (IsStepped self.now pc types.old types.new lead.old lead.new) }
     {
         let Some((instr, next)) = simple_at(self.code.code.as_slice(), pc as usize) else {
             return self.step_any(pc, types, lead);

@@ -1,11 +1,12 @@
 //! The types after an instruction, from those before it, by the row of the table of events that it has (JVMS 6.5).
 ghost use Rattle.std.specs.Prelude.{◌≡◌, ℕ, List, length, ◌<◌, ◌^◌, ◌⊎◌, true, false, Some, None, IfOk};
-ghost use Rattle.et_event.specs.Sites.{Site, natural_of, pool_of_class};
+ghost use Rattle.et_event.specs.Sites.{Site};
 ghost use Rattle.et_event.specs.declared.rows.CallRow.TheVariants as calls;
 ghost use Rattle.et_event.specs.declared.rows.Row.TheVariants as rows;
-ghost use Rattle.et_event.specs.Places.{is_frame, site_at};
+ghost use Rattle.et_event.specs.Places.{site_at};
 ghost use Rattle.et_pool.specs.Operands.{return_of};
 ghost use Rattle.et_verify.specs.Calling.{returned_taken};
+ghost use Rattle.et_verify.specs.Effects.{MayName};
 ghost use Rattle.et_verify.specs.Steps.{locals_by, locals_after, operands_after, types_after};
 
 use crate::calls::step_call;
@@ -106,9 +107,7 @@ fn step_row(
     place: &Place<'_>,
     returned: Returned,
 ) -> Result<bool, NoMemory>
-    requires index { is_frame place.now.row ≡ false → natural_of place.now.instr.first < 2 ^ 16 }
-    requires class { place.now.class < length program.now.classes }
-    requires pool { (site_at place.now).pool ≡ pool_of_class program.now place.now.class }
+    requires { MayName program.now place.now.row (site_at place.now) }
     ensures done { IfOk result (λ b. (bytes : List ℕ) → return_of bytes ≡ returned → b ≡ true →
         (operands_after bytes (site_at place.now) place.now.row types.old.operands
         ≡ Some types.new.operands)
@@ -142,9 +141,7 @@ pub(crate) fn step(
     returned: Returned,
     room: usize,
 ) -> Result<bool, NoMemory>
-    requires index { is_frame place.now.row ≡ false → natural_of place.now.instr.first < 2 ^ 16 }
-    requires class { place.now.class < length program.now.classes }
-    requires pool { (site_at place.now).pool ≡ pool_of_class program.now place.now.class }
+    requires { MayName program.now place.now.row (site_at place.now) }
     ensures done { IfOk result (λ b. (bytes : List ℕ) → return_of bytes ≡ returned → b ≡ true →
         types_after room bytes (site_at place.now) place.now.row types.old ≡ Some types.new) }
     ensures refused { IfOk result (λ b. (bytes : List ℕ) → return_of bytes ≡ returned →

@@ -26,6 +26,7 @@ use Rattle.et_verify.proofs.Straight.{is_straight}
 use Rattle.et_verify.proofs.Within.{leads_within}
 use Rattle.et_verify.proofs.Leading.{leads_monotone}
 use Rattle.et_verify.proofs.Decided.{HasType, has_type, first_are, typing_found, no_typing, no_locals}
+use Rattle.et_verify.proofs.method.code_has_typing.Goals.{In_ok-mark_method}
 use Rattle.et_verify.proofs.method.code_has_typing.Goals as goal
 
 pub returns-then-not-branch-clause-no : goal.returns-then-not-branch-clause-no
@@ -41,26 +42,26 @@ returns-then-not-branch-clause-no c = λ e has.
     (subst (λ (ks : List (Option Operand)). body.max_locals < length (argument_entries (is_static p m || is_initializing p m) ks)) kinds
     (subst (λ (b : Bool). body.max_locals < length (argument_entries b c.kinds.result.now)) static more)) has
 
-pub find_typing-requires-clause-within : goal.find_typing-requires-clause-within
-find_typing-requires-clause-within c =
-    let body : Body = body_of c.args.code.now in
-    let long : length body.code ≡ c.len.result = omega (arith, c.len.ensures, c.args.code.now.code.ok.0) in
-    subst (λ (n : ℕ). (pc : ℕ) (ts : TypesOf) → IsLeadWithin n (length ts.locals) (leads_in c.args.program.now c.args.method body pc ts)) long (leads_within c.args.program.now c.args.method body)
+-- the targets of the code were marked
+marked : (c : In_ok-mark_method) → HasTargets c.mark_method.new.starts.items (body_of c.args.code.now).code (body_of c.args.code.now).table c.mark_method.new.targets.items
+marked c =
+    subst (λ (bytes : List ℕ). HasTargets c.mark_method.new.starts.items bytes (body_of c.args.code.now).table c.mark_method.new.targets.items) c.deref.ensures.value
+    (subst (λ (rows : List TableRow). HasTargets c.mark_method.new.starts.items c.deref.result.now rows c.mark_method.new.targets.items) c.deref-2.ensures.value c.in_ok-mark_method.ensures.targets)
 
-pub find_typing-requires-clause-monotone : goal.find_typing-requires-clause-monotone
-find_typing-requires-clause-monotone c = leads_monotone c.args.program.now c.args.method (body_of c.args.code.now)
-
-pub find_typing-requires-clause-straight : goal.find_typing-requires-clause-straight
-find_typing-requires-clause-straight c =
+pub find_typing-requires-clause-code : goal.find_typing-requires-clause-code
+find_typing-requires-clause-code c =
     let body : Body = body_of c.args.code.now in
     let starts : List Bool = c.mark_method.new.starts.items in
     let targets : List Bool = c.mark_method.new.targets.items in
+    let long : length body.code ≡ c.len.result = omega (arith, c.len.ensures, c.args.code.now.code.ok.0) in
     let flags : (k : ℕ) → flag starts k ≡ is_start body.code k = (λ (k : ℕ). c.in_ok-mark_method.ensures.starts k ∙ ap (λ (bytes : List ℕ). is_start bytes k) c.deref.ensures.value) in
-    let marked : HasTargets starts body.code body.table targets =
-    subst (λ (bytes : List ℕ). HasTargets starts bytes body.table targets) c.deref.ensures.value
-    (subst (λ (rows : List TableRow). HasTargets starts c.deref.result.now rows targets) c.deref-2.ensures.value c.in_ok-mark_method.ensures.targets) in
-    let all : IsStraight (leads_in c.args.program.now c.args.method body) (λ q. not (flag targets q)) = is_straight c.args.program.now c.args.method body starts targets flags marked c.requires.some in
-    subst (λ (fs : List Bool). IsStraight (leads_in c.args.program.now c.args.method body) (λ q. not (flag fs q))) (sym c.deref-6.ensures.value) all
+    record {
+      within = subst (λ (n : ℕ). (pc : ℕ) (ts : TypesOf) → IsLeadWithin n (length ts.locals) (leads_in c.args.program.now c.args.method body pc ts)) long (leads_within c.args.program.now c.args.method body);
+      monotone = leads_monotone c.args.program.now c.args.method body;
+      straight =
+          subst (λ (fs : List Bool). IsStraight (leads_in c.args.program.now c.args.method body) (λ q. not (flag fs q))) (sym c.deref-6.ensures.value)
+          (is_straight c.args.program.now c.args.method body starts targets flags (marked (goal.at.find_typing-requires-clause-code c).In_ok-mark_method) c.requires.some);
+    }
 
 pub invariant_of-flow : goal.invariant_of-flow
 invariant_of-flow c =
@@ -73,9 +74,6 @@ invariant_of-flow c =
     let info : c.method-info.result.now ≡ method_at p m = c.method-info.ensures.value in
     let class : c.method-info.result.now.class ≡ (method_at p m).class = ap (λ (i : MethodInfo). i.class) info in
     let pool : pool_slots (option_copied c.pool.result) ≡ pool_of_class p (method_at p m).class = pool_found p c.method-info.result.now.class (method_at p m).class (option_copied c.pool.result) c.pool.ensures class in
-    let marked : HasTargets starts body.code body.table targets =
-    subst (λ (bytes : List ℕ). HasTargets starts bytes body.table targets) c.deref.ensures.value
-    (subst (λ (rows : List TableRow). HasTargets starts c.deref.result.now rows targets) c.deref-2.ensures.value c.in_ok-mark_method.ensures.targets) in
     record {
       info_is = info;
       class = search rules;
@@ -84,7 +82,7 @@ invariant_of-flow c =
       rows = c.deref-4.ensures.value ∙ (c.in_ok-handling.ensures ∙ (ap (filter (may_catch p (pool_slots (option_copied c.pool.result)))) c.deref-3.ensures.value ∙ ap (λ (items : List (Option Item)). filter (may_catch p items) body.table) pool));
       flags = λ k. ap (λ (fs : List Bool). flag fs k) c.deref-5.ensures.value ∙ (c.in_ok-mark_method.ensures.starts k ∙ ap (λ (bytes : List ℕ). is_start bytes k) c.deref.ensures.value);
       few = c.requires.few;
-      marked = subst (λ (fs : List Bool). HasTargets c.deref-5.result.now body.code body.table fs) (sym c.deref-6.ensures.value) (subst (λ (ss : List Bool). HasTargets ss body.code body.table targets) (sym c.deref-5.ensures.value) marked);
+      marked = subst (λ (fs : List Bool). HasTargets c.deref-5.result.now body.code body.table fs) (sym c.deref-6.ensures.value) (subst (λ (ss : List Bool). HasTargets ss body.code body.table targets) (sym c.deref-5.ensures.value) (marked (goal.at.invariant_of-flow c).In_ok-mark_method));
     }
 
 -- the types with which the search begins

@@ -1,8 +1,11 @@
-use Rattle.std.proofs.Common.{◌≡◌, Some, refl, sym, subst}
+use Rattle.std.proofs.Common.{◌≡◌, Some, refl, sym, ap, subst}
 use Rattle.et_event.specs.declared.rows.Row.{Row}
-use Rattle.et_event.specs.Places.{site_at}
+use Rattle.et_event.specs.Places.{site_at, is_frame}
 use Rattle.et_verify.specs.Steps.{operands_after, locals_after}
 use Rattle.et_verify.proofs.rows.step_row.Goals as goal
+
+pub step_heap-requires : goal.step_heap-requires
+step_heap-requires c = record { index = c.requires.index (ap is_frame c.in-Heap.is); class = c.requires.class; pool = c.requires.pool }
 
 pub returns-in_ok-done-in-Frame-clause-done : goal.returns-in_ok-done-in-Frame-clause-done
 returns-in_ok-done-in-Frame-clause-done c = λ bytes r e.
