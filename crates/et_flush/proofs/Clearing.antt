@@ -1,5 +1,5 @@
 -- The references whose referents become null, as they are swept one after the other.
-use Rattle.std.proofs.Common.{◌≡◌, ℕ, zero, suc, ◌+◌, ◌-◌, ◌<◌, ◌≤◌, Bool, true, false, List, [], ◌∷◌, ◌++◌, length, get_or, Option, Some, None, Contains, sym, refl, ◌∙◌, ap, subst, inl, inr, arith, drop, drop-cons, append-nil, append_assoc}
+use Rattle.std.proofs.Common.{◌≡◌, ℕ, suc, ◌+◌, ◌<◌, ◌≤◌, Bool, true, false, List, [], ◌∷◌, ◌++◌, length, get_or, Option, Some, None, Contains, sym, refl, ◌∙◌, ap, subst, inl, inr, arith, drop, append-nil, append_assoc}
 use Rattle.std.specs.Prelude.{if◌then◌else◌}
 use Rattle.std.proofs.lemmas.List.{drop_all}
 use Rattle.std.proofs.lemmas.Bool.{cases_lt}
@@ -7,7 +7,7 @@ use Rattle.std.proofs.lemmas.List.Elements.{Contains-append_cases}
 use Rattle.et_base.proofs.Lists.{Contains-none, Contains-cons}
 use Rattle.et_heap.specs.Objects.{ObjectState, Objects, IsHeld, is_there, at}
 use Rattle.et_heap.specs.Cleared.{loses_referent, cleared_references}
-use Rattle.et_flush.proofs.Sweeping.{swept, place_before}
+use Rattle.et_flush.proofs.Sweeping.{swept, place_before, none_between, first_dropped}
 
 -- the object at number k, where its referent becomes null
 abbrev pub cleared_place : (ℕ → Bool) → Bool → ℕ → Option ObjectState → List ℕ
@@ -21,29 +21,18 @@ pub cleared_end : (here : ℕ → Bool) (n : ℕ) (xs : Objects) → length xs �
 cleared_end here n xs all = ap (λ (ys : Objects). cleared_references here n ys) (drop_all n xs all)
 
 cleared_left : (here : ℕ → Bool) (n : ℕ) (xs : Objects) → n < length xs → cleared_references here n (drop n xs) ≡ cleared_place here (here n) n (get_or xs n None) ++ cleared_references here (n + 1) (drop (n + 1) xs)
-cleared_left here n xs lt =
-    let first : drop n xs ≡ get_or xs n None ∷ drop (suc n) xs = drop-cons xs n None lt in
-    let place : drop (suc n) xs ≡ drop (n + 1) xs = ap (λ (j : ℕ). drop j xs) (let e : suc n ≡ n + 1 = omega arith in e) in
-    ap (λ (ys : Objects). cleared_references here n ys) (first ∙ ap (λ (ys : Objects). get_or xs n None ∷ ys) place)
+cleared_left here n xs lt = ap (λ (ys : Objects). cleared_references here n ys) (first_dropped n xs lt)
 
-cleared_same : (here : ℕ → Bool) (n : ℕ) (xs : Objects) → (IsHeld xs n → ⊥) → cleared_references here (n + 1) (drop (n + 1) xs) ≡ cleared_references here n (drop n xs)
-cleared_same here n xs out =
+cleared_same : (here : ℕ → Bool) (xs : Objects) (n : ℕ) → (IsHeld xs n → ⊥) → cleared_references here (n + 1) (drop (n + 1) xs) ≡ cleared_references here n (drop n xs)
+cleared_same here xs n out =
     elim (cases_lt n (length xs)) [
       | inl lt ↦ sym (cleared_left here n xs lt ∙ ap (λ (rs : List ℕ). rs ++ cleared_references here (n + 1) (drop (n + 1) xs)) (none_cleared here (here n) n (get_or xs n None) out))
       | inr past ↦ cleared_end here (n + 1) xs (omega arith) ∙ sym (cleared_end here n xs past)
     ]
 
-cleared_skip : (here : ℕ → Bool) (n m : ℕ) (xs : Objects) → ((u : ℕ) → n ≤ u → u < n + m → IsHeld xs u → ⊥) → cleared_references here (n + m) (drop (n + m) xs) ≡ cleared_references here n (drop n xs)
-cleared_skip here n zero xs out = ap (λ (k : ℕ). cleared_references here k (drop k xs)) (let e : n + 0 ≡ n = omega arith in e)
-cleared_skip here n (suc m) xs out =
-    ap (λ (k : ℕ). cleared_references here k (drop k xs)) (let e : n + suc m ≡ n + m + 1 = omega arith in e)
-    ∙ (cleared_same here (n + m) xs (out (n + m) (omega arith) (omega arith)) ∙ cleared_skip here n m xs (λ u le lt. out u le (omega arith)))
-
 -- where nothing is held, nothing is cleared
 pub cleared_to : (here : ℕ → Bool) (n m : ℕ) (xs : Objects) → n ≤ m → ((u : ℕ) → n ≤ u → u < m → IsHeld xs u → ⊥) → cleared_references here n (drop n xs) ≡ cleared_references here m (drop m xs)
-cleared_to here n m xs le out =
-    let e : n + (m - n) ≡ m = omega arith in
-    sym (cleared_skip here n (m - n) xs (λ u from lt. out u from (omega arith))) ∙ ap (λ (k : ℕ). cleared_references here k (drop k xs)) e
+cleared_to here n m xs le out = none_between (λ (k : ℕ). cleared_references here k (drop k xs)) xs (cleared_same here xs) n m le out
 
 -- the list once a place was swept
 pub cleared_step : (here : ℕ → Bool) (xs ys : Objects) (n o : ℕ) (all cs cs' : List ℕ) → ys ≡ swept here n 0 xs → o ≡ n → n < length xs → cs ++ cleared_references here n (drop n xs) ≡ all

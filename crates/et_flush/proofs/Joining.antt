@@ -84,14 +84,17 @@ module _ (left_out : List Bool) (pairs : List (ℕ × ℕ)) (ranks times start :
       (subst (λ (ts : List ℕ). All (λ t. t ≤ NOW) ts) (sym is) (All-set_each NOW ranks NOW times (omega arith) below)) marked)
       (marked_followed (pairs_left left_out pairs) ranks start seen waiting (λ u x c. (ends u x (pair_left left_out pairs u x c).0).0) marked)
 
-  pub followed_carries : Carries pairs (set_each ranks NOW times) times'
+  followed_carries : Carries pairs (set_each ranks NOW times) times'
   followed_carries = subst (λ (ts : List ℕ). Carries pairs ts times') is (carries_among (pairs_left left_out pairs) pairs start times' (λ u x c. (pair_left left_out pairs u x c).0) followed.0.carries)
 
-  pub followed_reached : AreReached pairs times' seen'
+  followed_reached : AreReached pairs times' seen'
   followed_reached = record {
     closed = λ u x c s. elim (followed.1 u x (left_pair left_out pairs u x c (none x)) s) [ inl never ↦ absurd never | inr r ↦ r.0 ];
     now = λ u x c s. followed.0.above u x (left_pair left_out pairs u x c (none x)) s;
   }
+
+  pub followed_both : Carries pairs (set_each ranks NOW times) times' × AreReached pairs times' seen'
+  followed_both = (followed_carries, followed_reached)
 
 -- BOTH
 

@@ -45,9 +45,10 @@ left_none : (here : ℕ → Bool) (b : Bool) (p : Option ObjectState) → (is_th
 left_none here b None out = refl
 left_none here b (Some x) out = absurd (out tt)
 
-swept_same : (here : ℕ → Bool) (n : ℕ) (xs : Objects) → (IsHeld xs n → ⊥) → swept here (suc n) 0 xs ≡ swept here n 0 xs
-swept_same here n xs out =
-    elim (cases_lt n (length xs)) [
+swept_same : (here : ℕ → Bool) (xs : Objects) (n : ℕ) → (IsHeld xs n → ⊥) → swept here (n + 1) 0 xs ≡ swept here n 0 xs
+swept_same here xs n out =
+    ap (λ (k : ℕ). swept here k 0 xs) (let e : n + 1 ≡ suc n = omega arith in e)
+    ∙ elim (cases_lt n (length xs)) [
       | inl lt ↦
           swept_next here n 0 xs lt
           ∙ (ap (λ (p : Option ObjectState). set (swept here n 0 xs) n p) (left_none here (here (0 + n)) (get_or xs n None) out ∙ sym (swept_at here n 0 xs))
@@ -55,17 +56,21 @@ swept_same here n xs out =
       | inr past ↦ swept_all here (suc n) 0 xs (omega arith) ∙ sym (swept_all here n 0 xs past)
     ]
 
-swept_skip : (here : ℕ → Bool) (n m : ℕ) (xs : Objects) → ((u : ℕ) → n ≤ u → u < n + m → IsHeld xs u → ⊥) → swept here (n + m) 0 xs ≡ swept here n 0 xs
-swept_skip here n zero xs out = ap (λ (k : ℕ). swept here k 0 xs) (let e : n + 0 ≡ n = omega arith in e)
-swept_skip here n (suc m) xs out =
-    ap (λ (k : ℕ). swept here k 0 xs) (let e : n + suc m ≡ suc (n + m) = omega arith in e)
-    ∙ (swept_same here (n + m) xs (out (n + m) (omega arith) (omega arith)) ∙ swept_skip here n m xs (λ u le lt. out u le (omega arith)))
+-- what stays at each place where nothing is held stays over all of them
+skipped : {X : Type 0} (F : ℕ → X) (xs : Objects) → ((n : ℕ) → (IsHeld xs n → ⊥) → F (n + 1) ≡ F n) → (n m : ℕ) → ((u : ℕ) → n ≤ u → u < n + m → IsHeld xs u → ⊥) → F (n + m) ≡ F n
+skipped F xs same n zero out = ap F (let e : n + 0 ≡ n = omega arith in e)
+skipped F xs same n (suc m) out =
+    ap F (let e : n + suc m ≡ n + m + 1 = omega arith in e)
+    ∙ (same (n + m) (out (n + m) (omega arith) (omega arith)) ∙ skipped F xs same n m (λ u le lt. out u le (omega arith)))
+
+pub none_between : {X : Type 0} (F : ℕ → X) (xs : Objects) → ((n : ℕ) → (IsHeld xs n → ⊥) → F (n + 1) ≡ F n) → (n m : ℕ) → n ≤ m → ((u : ℕ) → n ≤ u → u < m → IsHeld xs u → ⊥) → F n ≡ F m
+none_between F xs same n m le out =
+    let e : n + (m - n) ≡ m = omega arith in
+    sym (skipped F xs same n (m - n) (λ u from lt. out u from (omega arith))) ∙ ap F e
 
 -- places where nothing is held are swept
 pub swept_to : (here : ℕ → Bool) (n m : ℕ) (xs : Objects) → n ≤ m → ((u : ℕ) → n ≤ u → u < m → IsHeld xs u → ⊥) → swept here n 0 xs ≡ swept here m 0 xs
-swept_to here n m xs le out =
-    let e : n + (m - n) ≡ m = omega arith in
-    sym (swept_skip here n (m - n) xs (λ u from lt. out u from (omega arith))) ∙ ap (λ (k : ℕ). swept here k 0 xs) e
+swept_to here n m xs le out = none_between (λ (k : ℕ). swept here k 0 xs) xs (swept_same here xs) n m le out
 
 -- ONE PLACE
 
@@ -143,32 +148,25 @@ within_before here ranks xs ys n o m before same within = subst (λ (p : Option 
 
 -- THE VISITS OF ALL
 
+-- the place that comes next is the first that is left
+pub first_dropped : (n : ℕ) (xs : Objects) → n < length xs → drop n xs ≡ get_or xs n None ∷ drop (n + 1) xs
+first_dropped n xs lt = drop-cons xs n None lt ∙ ap (λ (j : ℕ). get_or xs n None ∷ drop j xs) (let e : suc n ≡ n + 1 = omega arith in e)
+
 pub visits_end : (here : ℕ → Bool) (n : ℕ) (xs : Objects) → length xs ≤ n → visits_from here n (drop n xs) ≡ 0
 visits_end here n xs all = ap (λ (ys : Objects). visits_from here n ys) (drop_all n xs all)
 
 visits_left : (here : ℕ → Bool) (n : ℕ) (xs : Objects) → n < length xs → visits_from here n (drop n xs) ≡ visits_of here (here n) (get_or xs n None) + visits_from here (n + 1) (drop (n + 1) xs)
-visits_left here n xs lt =
-    let first : drop n xs ≡ get_or xs n None ∷ drop (suc n) xs = drop-cons xs n None lt in
-    let place : drop (suc n) xs ≡ drop (n + 1) xs = ap (λ (j : ℕ). drop j xs) (let e : suc n ≡ n + 1 = omega arith in e) in
-    ap (λ (ys : Objects). visits_from here n ys) (first ∙ ap (λ (ys : Objects). get_or xs n None ∷ ys) place)
+visits_left here n xs lt = ap (λ (ys : Objects). visits_from here n ys) (first_dropped n xs lt)
 
-visits_same : (here : ℕ → Bool) (n : ℕ) (xs : Objects) → (IsHeld xs n → ⊥) → visits_from here (n + 1) (drop (n + 1) xs) ≡ visits_from here n (drop n xs)
-visits_same here n xs out =
+visits_same : (here : ℕ → Bool) (xs : Objects) (n : ℕ) → (IsHeld xs n → ⊥) → visits_from here (n + 1) (drop (n + 1) xs) ≡ visits_from here n (drop n xs)
+visits_same here xs n out =
     elim (cases_lt n (length xs)) [
       | inl lt ↦ let none = no_visit here (here n) (get_or xs n None) out in omega (arith, visits_left here n xs lt)
       | inr past ↦ visits_end here (n + 1) xs (omega arith) ∙ sym (visits_end here n xs past)
     ]
 
-visits_skip : (here : ℕ → Bool) (n m : ℕ) (xs : Objects) → ((u : ℕ) → n ≤ u → u < n + m → IsHeld xs u → ⊥) → visits_from here (n + m) (drop (n + m) xs) ≡ visits_from here n (drop n xs)
-visits_skip here n zero xs out = ap (λ (k : ℕ). visits_from here k (drop k xs)) (let e : n + 0 ≡ n = omega arith in e)
-visits_skip here n (suc m) xs out =
-    ap (λ (k : ℕ). visits_from here k (drop k xs)) (let e : n + suc m ≡ n + m + 1 = omega arith in e)
-    ∙ (visits_same here (n + m) xs (out (n + m) (omega arith) (omega arith)) ∙ visits_skip here n m xs (λ u le lt. out u le (omega arith)))
-
 pub visits_to : (here : ℕ → Bool) (n m : ℕ) (xs : Objects) → n ≤ m → ((u : ℕ) → n ≤ u → u < m → IsHeld xs u → ⊥) → visits_from here n (drop n xs) ≡ visits_from here m (drop m xs)
-visits_to here n m xs le out =
-    let e : n + (m - n) ≡ m = omega arith in
-    sym (visits_skip here n (m - n) xs (λ u from lt. out u from (omega arith))) ∙ ap (λ (k : ℕ). visits_from here k (drop k xs)) e
+visits_to here n m xs le out = none_between (λ (k : ℕ). visits_from here k (drop k xs)) xs (visits_same here xs) n m le out
 
 pub visits_step : (here : ℕ → Bool) (xs ys : Objects) (n o all old v v' : ℕ) → ys ≡ swept here n 0 xs → o ≡ n → n < length xs → v + visits_from here n (drop n xs) ≤ old + all → v' ≤ v + visits_of here (here o) (at ys o) → v' + visits_from here (n + 1) (drop (n + 1) xs) ≤ old + all
 visits_step here xs ys n o all old v v' before same lt sum is =

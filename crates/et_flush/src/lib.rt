@@ -16,5 +16,5 @@ mod times;
 mod work;
 
 pub use machine::flush_machine;
-pub use room::{FlushRoom, flush};
+pub use room::FlushRoom;
 pub use times::NOW;

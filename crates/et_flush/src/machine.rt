@@ -10,7 +10,7 @@ ghost use Rattle.et_state.specs.Sound.{IsSound};
 ghost use Rattle.et_graph.specs.Listed.{AreListed};
 ghost use Rattle.et_graph.specs.Cleared.{IsClearedAndTied};
 
-use crate::room::{FlushRoom, flush};
+use crate::room::FlushRoom;
 use et_base::{NoMemory, Steps};
 use et_graph::Stamps;
 use et_heap::RootList;
@@ -49,6 +49,6 @@ pub fn flush_machine<L: Ledger>(
 {
     machine.roots(roots)?;
     room.make_places(machine.heap.count(), machine.heap.held())?;
-    flush(&mut machine.heap, roots, stamps, room, visits);
+    room.flush(&mut machine.heap, roots, stamps, visits);
     Ok(())
 }

@@ -107,14 +107,19 @@ impl FlushRoom {
         &self.work.deaths
     }
 
-    /// Finds the deaths, sweeps the heap, and puts what was cleared in its queues.
-    fn run<L: Ledger>(
+    /// Flushes a heap (JVMS 2.5.3 leaves it free when an object is reclaimed): lists each object that no search from the
+    /// roots reaches, in rising order, with the greatest stamp among the objects that are held and lead to it; takes these
+    /// objects out; makes null what the others refer to weakly, where that is one of them; and puts the references whose
+    /// referents it made null, in rising order, at the end of the waiting lists of their queues, where they have one and
+    /// wait nowhere. It answers how many died, and the room has the list. It takes no memory. Each object that is held is
+    /// visited twice at most, and twice more where its weak reference is cleared.
+    pub fn flush<L: Ledger>(
         &mut self,
         heap: &mut Heap,
         roots: &RootList,
         stamps: &Stamps,
         visits: &mut Steps<L>,
-    )
+    ) -> usize
         requires none { ¬ IsHeld heap.old 0 }
         requires roots { (o : ℕ) → Contains roots.now o → IsHeld heap.old o }
         requires slots { ArePairsHeld heap.old }
@@ -127,6 +132,7 @@ impl FlushRoom {
             (heap_graph heap.old roots.now) (slice_index stamps.now) self.new.deaths }
         ensures dead { AreDead
             (heap_graph heap.old roots.now) (map (λ d. d.0) self.new.deaths) }
+        ensures count { result ≡ length self.new.deaths }
         ensures heap { (here : ℕ → Bool) → ((o : ℕ) → IsHeld heap.old o → (here o ≡ true)
             ↔ IsReached (heap_graph heap.old roots.now) o) → heap.new ≡ flushed_heap here heap.old }
         ensures visits { (here : ℕ → Bool) → ((o : ℕ) →
@@ -152,43 +158,8 @@ impl FlushRoom {
             &mut self.work.waiting,
             visits,
         );
+        let count = self.work.deaths.len();
         enqueue_all(heap, &self.work.waiting, visits);
+        count
     }
-}
-
-/// The flush (JVMS 2.5.3 leaves it free when an object is reclaimed): lists each object that no search from the roots reaches,
-/// in rising order, with the greatest stamp among the objects that are held and lead to it; takes these objects out; makes null
-/// what the others refer to weakly, where that is one of them; and puts the references whose referents it made null, in rising
-/// order, at the end of the waiting lists of their queues, where they have one and wait nowhere. It answers how many died, and
-/// the room has the list. It takes no memory. Each object that is held is visited twice at most, and twice more where its weak
-/// reference is cleared.
-pub fn flush<L: Ledger>(
-    heap: &mut Heap,
-    roots: &RootList,
-    stamps: &Stamps,
-    room: &mut FlushRoom,
-    visits: &mut Steps<L>,
-) -> usize
-    requires none { ¬ IsHeld heap.old 0 }
-    requires roots { (o : ℕ) → Contains roots.now o → IsHeld heap.old o }
-    requires slots { ArePairsHeld heap.old }
-    requires referents { (u o : ℕ) → (object_at heap.old u).referent ≡ Some o → IsHeld heap.old o }
-    requires stamps { (o : ℕ) → IsHeld heap.old o → o < length stamps.now }
-    requires numbers { made_count heap.old ≤ room.old.numbers }
-    requires places { held_count heap.old ≤ room.old.places }
-    ensures deaths { AreListed
-        (heap_graph heap.old roots.now) (slice_index stamps.now) room.new.deaths }
-    ensures dead { AreDead (heap_graph heap.old roots.now) (map (λ d. d.0) room.new.deaths) }
-    ensures count { result ≡ length room.new.deaths }
-    ensures heap { (here : ℕ → Bool) → ((o : ℕ) → IsHeld heap.old o → (here o ≡ true)
-        ↔ IsReached (heap_graph heap.old roots.now) o) → heap.new ≡ flushed_heap here heap.old }
-    ensures visits { (here : ℕ → Bool) → ((o : ℕ) →
-        IsHeld heap.old o → (here o ≡ true) ↔ IsReached (heap_graph heap.old roots.now) o) →
-        visits.new ≤ visits.old + 2 * held_count heap.old
-        + 2 * length (cleared_references here 0 heap.old) }
-    ensures numbers { room.new.numbers ≡ room.old.numbers }
-    ensures places { room.new.places ≡ room.old.places }
-{
-    room.run(heap, roots, stamps, visits);
-    room.deaths().len()
 }

@@ -80,36 +80,7 @@ fn sweep_one<L: Ledger>(
 
 /// Takes each object out whose time is below `NOW`, clears what the others refer to weakly, where that is below `NOW`, and
 /// lists those whose referents it cleared, in rising order.
-fn sweep_all<L: Ledger>(
-    heap: &mut Heap,
-    held: &[ObjectId],
-    ranks: &Ranks,
-    times: &[u64],
-    cleared: &mut Vec<ObjectId>,
-    visits: &mut Steps<L>,
-)
-    requires held { AreAllHeld heap.old held.now }
-    requires ranked { AreRanked held.now ranks.now }
-    requires long { length times.now ≡ length held.now }
-    requires within { (o : ℕ) →
-        ReferentsWithin ranks.now (length times.now) (object_at heap.old o) }
-    requires room { length held.now ≤ vec_capacity cleared.old }
-    ensures heap { heap.new ≡ remaining (is_now (time_of ranks.now times.now)) 0 heap.old }
-    ensures cleared { cleared.new.items
-        ≡ cleared_references (is_now (time_of ranks.now times.now)) 0 heap.old }
-    ensures room { vec_capacity cleared.old ≤ vec_capacity cleared.new }
-    ensures visits { visits.new
-        ≤ visits.old + visits_from (is_now (time_of ranks.now times.now)) 0 heap.old }
-{
-    cleared.clear();
-    for (i, object) in held.iter().enumerate() {
-        if sweep_one(heap, ranks, times, *object, times[i], visits) {
-            within::push(cleared, *object);
-        }
-    }
-}
-
-/// Sweeps all objects where one died. Where none did, none is taken out, and none is cleared.
+/// Where none died, none is taken out, and none is cleared.
 pub(crate) fn sweep<L: Ledger>(
     heap: &mut Heap,
     held: &[ObjectId],
@@ -133,9 +104,13 @@ pub(crate) fn sweep<L: Ledger>(
     ensures visits { visits.new
         ≤ visits.old + visits_from (is_now (time_of ranks.now times.now)) 0 heap.old }
 {
+    cleared.clear();
     if deaths.is_empty() {
-        cleared.clear();
-    } else {
-        sweep_all(heap, held, ranks, times, cleared, visits);
+        return;
+    }
+    for (i, object) in held.iter().enumerate() {
+        if sweep_one(heap, ranks, times, *object, times[i], visits) {
+            within::push(cleared, *object);
+        }
     }
 }

@@ -174,35 +174,8 @@ fn date_others<L: Ledger>(heap: &Heap, work: &mut Work, visits: &mut Steps<L>)
     );
 }
 
-/// Finds the time of each object that is held: `NOW` where it is reached, else the greatest stamp that leads to it. Each is
-/// visited once at most.
-pub(crate) fn settle<L: Ledger>(
-    heap: &Heap,
-    roots: &[ObjectId],
-    stamps: &[u64],
-    work: &mut Work,
-    visits: &mut Steps<L>,
-)
-    requires none { ¬ IsHeld heap.now 0 }
-    requires roots { (o : ℕ) → Contains roots.now o → IsHeld heap.now o }
-    requires pairs { ArePairsHeld heap.now }
-    requires stamped { (o : ℕ) → IsHeld heap.now o → o < length stamps.now }
-    requires below { All (λ t. t < NOW) stamps.now }
-    requires places { HasWorkPlaces (made_count heap.now) (held_count heap.now) work.old }
-    ensures settled { IsSettled
-        heap.now roots.now stamps.now (time_of work.new.ranks work.new.times.items) }
-    ensures held { AreAllHeld heap.now work.new.held.items }
-    ensures ranked { AreRanked work.new.held.items work.new.ranks }
-    ensures long { length work.new.times.items ≡ length work.new.held.items }
-    ensures places { (m n : ℕ) → HasWorkPlaces m n work.old → HasWorkPlaces m n work.new }
-    ensures visits { visits.new ≤ visits.old + held_count heap.now }
-{
-    prepare(heap, stamps, work);
-    find_reached(heap, roots, work, visits);
-    date_others(heap, work, visits);
-}
-
-/// Finds the times, and lists the deaths by them.
+/// Finds the time of each object that is held: `NOW` where it is reached, else the greatest stamp that leads to it; and lists
+/// the deaths by these times. Each is visited once at most.
 pub(crate) fn find_deaths<L: Ledger>(
     heap: &Heap,
     roots: &[ObjectId],
@@ -226,6 +199,8 @@ pub(crate) fn find_deaths<L: Ledger>(
     ensures places { (m n : ℕ) → HasWorkPlaces m n work.old → HasWorkPlaces m n work.new }
     ensures visits { visits.new ≤ visits.old + held_count heap.now }
 {
-    settle(heap, roots, stamps, work, visits);
+    prepare(heap, stamps, work);
+    find_reached(heap, roots, work, visits);
+    date_others(heap, work, visits);
     list_deaths(&work.held, &work.times, &mut work.deaths);
 }

@@ -1,5 +1,4 @@
-use Rattle.std.proofs.Common.{ℕ, ◌+◌, ◌≤◌, [], ◌∷◌, length, ap, subst, sym, refl, arith}
-use Rattle.std.proofs.lemmas.List.{length-append}
+use Rattle.std.proofs.Common.{ℕ, ◌+◌, ◌≤◌, subst, sym, refl, arith}
 use Rattle.et_heap.specs.Objects.{IsHeld, IsNextHeld}
 use Rattle.et_heap.proofs.HeapLists.{held_within}
 use Rattle.et_flush.proofs.Holding.{AreHeldBelow, below_none, below_next, next_counted, all_below, held_few}

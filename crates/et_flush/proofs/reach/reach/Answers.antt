@@ -1,8 +1,13 @@
 use Rattle.std.proofs.Common.{ℕ, length, map, refl, sym, subst}
 use Rattle.et_heap.specs.Refs.{pairs_of}
+use Rattle.et_graph.specs.Times.{set_each, Carries}
+use Rattle.et_flush.specs.Reaches.{AreReached}
+use Rattle.et_flush.specs.declared.times.TheConstants.{NOW}
 use Rattle.et_flush.specs.Ranks.{rank_of, ranked_pairs, HasRank}
 use Rattle.et_flush.proofs.Searching.{held_rank, ranks_within, pairs_one, pairs_searched}
-use Rattle.et_flush.proofs.Joining.{followed_carries, followed_reached}
+use Rattle.et_flush.proofs.Joining.{followed_both}
+use Rattle.et_flush.proofs.reach.reach.Given.{Over}
+use Rattle.et_flush.proofs.reach.reach.Goals.{After-follow}
 use Rattle.et_flush.proofs.reach.reach.Goals as goal
 
 pub mark_roots-requires-clause-ranked : goal.mark_roots-requires-clause-ranked
@@ -25,18 +30,17 @@ follow-requires-clause-waits g c = λ o d. record {
   };
 }
 
-pub returns-clause-carries : goal.returns-clause-carries
-returns-clause-carries g c =
+-- what was followed is what the roots lead to
+followed : (g : Over) (c : After-follow g) → Carries (ranked_pairs c.args.references.now.ranks.now (pairs_of c.args.references.now.heap.now)) (set_each (map (rank_of c.args.references.now.ranks.now) c.args.roots.now) NOW c.args.times.now) c.follow.new.times × AreReached (ranked_pairs c.args.references.now.ranks.now (pairs_of c.args.references.now.heap.now)) c.follow.new.times c.follow.new.seen
+followed g c =
     let ends = pairs_one c.args.references.now.heap.now c.args.references.now.held.now c.args.references.now.ranks.now c.requires.searched in
-    followed_carries c.args.references.now.left_out.now (ranked_pairs c.args.references.now.ranks.now (pairs_of c.args.references.now.heap.now)) (map (rank_of c.args.references.now.ranks.now) c.args.roots.now) c.args.times.now c.mark_roots.new.times c.mark_roots.new.seen c.mark_roots.new.waiting.items c.follow.new.times c.follow.new.seen
+    followed_both c.args.references.now.left_out.now (ranked_pairs c.args.references.now.ranks.now (pairs_of c.args.references.now.heap.now)) (map (rank_of c.args.references.now.ranks.now) c.args.roots.now) c.args.times.now c.mark_roots.new.times c.mark_roots.new.seen c.mark_roots.new.waiting.items c.follow.new.times c.follow.new.seen
     c.requires.all (λ u x d. ((ends u x d).0.0, (ends u x d).1.0))
     (ranks_within c.args.references.now.heap.now c.args.references.now.held.now c.args.references.now.ranks.now c.requires.searched (length c.args.times.now) c.args.roots.now c.requires.long c.requires.roots)
     c.requires.below c.mark_roots.ensures.times c.mark_roots.ensures.marked c.follow.ensures.follows
 
+pub returns-clause-carries : goal.returns-clause-carries
+returns-clause-carries g c = (followed g (goal.at.returns-clause-carries g c).After-follow).0
+
 pub returns-clause-reached : goal.returns-clause-reached
-returns-clause-reached g c =
-    let ends = pairs_one c.args.references.now.heap.now c.args.references.now.held.now c.args.references.now.ranks.now c.requires.searched in
-    followed_reached c.args.references.now.left_out.now (ranked_pairs c.args.references.now.ranks.now (pairs_of c.args.references.now.heap.now)) (map (rank_of c.args.references.now.ranks.now) c.args.roots.now) c.args.times.now c.mark_roots.new.times c.mark_roots.new.seen c.mark_roots.new.waiting.items c.follow.new.times c.follow.new.seen
-    c.requires.all (λ u x d. ((ends u x d).0.0, (ends u x d).1.0))
-    (ranks_within c.args.references.now.heap.now c.args.references.now.held.now c.args.references.now.ranks.now c.requires.searched (length c.args.times.now) c.args.roots.now c.requires.long c.requires.roots)
-    c.requires.below c.mark_roots.ensures.times c.mark_roots.ensures.marked c.follow.ensures.follows
+returns-clause-reached g c = (followed g (goal.at.returns-clause-reached g c).After-follow).1

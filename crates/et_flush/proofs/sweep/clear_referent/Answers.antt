@@ -1,8 +1,7 @@
-use Rattle.std.proofs.Common.{sym, ◌∙◌}
 use Rattle.et_heap.specs.Objects.{object_at}
 use Rattle.et_flush.specs.Ranks.{time_of}
 use Rattle.et_flush.specs.Sweeps.{is_now}
-use Rattle.et_flush.proofs.Sweeping.{referent_kept, no_referent, none_kept, none_lost, kept_same, now_is, referent_is}
+use Rattle.et_flush.proofs.Sweeping.{referent_kept, kept_same, now_is, referent_is}
 use Rattle.et_flush.proofs.sweep.clear_referent.Goals as goal
 
 pub time_at-requires : goal.time_at-requires

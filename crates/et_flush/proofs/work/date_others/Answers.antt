@@ -7,7 +7,7 @@ use Rattle.et_graph.specs.Order.{IsOrder}
 use Rattle.et_graph.specs.Times.{ArePairsAmong, Carries, AreSettled, IsSet}
 use Rattle.et_flush.specs.Ranks.{ranked_pairs}
 use Rattle.et_flush.specs.Searches.{IsLeftRank, IsSearched, IsSearchedRank, pairs_left}
-use Rattle.et_flush.proofs.Working.{unset_within}
+use Rattle.et_flush.proofs.Working.{unset_within, ready_search}
 use Rattle.et_flush.proofs.Searching.{pairs_one, pairs_searched, order_searched}
 use Rattle.et_flush.proofs.Joining.{pair_left, carries_among, joined_settled, apart_count}
 use Rattle.et_flush.proofs.work.date_others.Goals as goal
@@ -37,13 +37,7 @@ spread_all-requires-clause-order g c =
 pub spread_all-requires-clause-ready : goal.spread_all-requires-clause-ready
 spread_all-requires-clause-ready g c =
     let w = c.requires.ready in
-    let times : length c.deref_mut.result.now ≡ length c.args.work.now.held.items = ap length c.deref_mut.ensures.value ∙ w.times in
-    let seen : length c.deref_mut-2.result.now ≡ length c.deref_mut.result.now = ap length c.deref_mut-2.ensures.value ∙ (w.seen ∙ sym times) in
-    record {
-      long = seen;
-      fits = omega (arith, ap length w.idle, unset_within c.deref_mut-2.result.now, seen);
-      room = omega (arith, c.requires.room, times);
-    }
+    ready_search (length c.args.work.now.held.items) c.deref_mut.result.now c.deref_mut-2.result.now c.args.work.now.waiting (ap length c.deref_mut.ensures.value ∙ w.times) (ap length c.deref_mut-2.ensures.value ∙ w.seen) w.idle c.requires.room
 
 pub returns-clause-carries : goal.returns-clause-carries
 returns-clause-carries g c =

@@ -1,20 +1,14 @@
-use Rattle.std.proofs.Common.{◌≡◌, length, sym, ◌∙◌, ap, arith}
+use Rattle.std.proofs.Common.{◌≡◌, length, ◌∙◌, ap, arith}
 use Rattle.std.specs.Vec.{with_items}
 use Rattle.std.proofs.lemmas.List.{with_items_is}
 use Rattle.et_graph.specs.Times.{unset_count}
-use Rattle.et_flush.proofs.Working.{unset_within}
+use Rattle.et_flush.proofs.Working.{unset_within, ready_search}
 use Rattle.et_flush.proofs.work.find_reached.Goals as goal
 
 pub reach-requires-clause-ready : goal.reach-requires-clause-ready
 reach-requires-clause-ready g c =
     let w = c.requires.ready in
-    let times : length c.deref_mut.result.now ≡ length c.args.work.now.held.items = ap length c.deref_mut.ensures.value ∙ w.times in
-    let seen : length c.deref_mut-2.result.now ≡ length c.deref_mut.result.now = ap length c.deref_mut-2.ensures.value ∙ (w.reached ∙ sym times) in
-    record {
-      long = seen;
-      fits = omega (arith, ap length w.idle, unset_within c.deref_mut-2.result.now, seen);
-      room = omega (arith, c.requires.room, times);
-    }
+    ready_search (length c.args.work.now.held.items) c.deref_mut.result.now c.deref_mut-2.result.now c.args.work.now.waiting (ap length c.deref_mut.ensures.value ∙ w.times) (ap length c.deref_mut-2.ensures.value ∙ w.reached) w.idle c.requires.room
 
 pub returns-clause-visits : goal.returns-clause-visits
 returns-clause-visits g c =

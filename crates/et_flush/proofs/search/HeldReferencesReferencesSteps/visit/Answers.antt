@@ -10,6 +10,8 @@ use Rattle.et_flush.specs.Searches.{pairs_left}
 use Rattle.et_flush.proofs.Joining.{left_pair, pair_left}
 use Rattle.et_flush.proofs.Targets.{left_there, done_more, all_done, first_left}
 use Rattle.et_flush.proofs.Searching.{whole_at, here_at, targets_held, targets_left, targets_done, target_held, first_ranked}
+use Rattle.et_flush.proofs.search.HeldReferencesReferencesSteps.visit.Given.{Over}
+use Rattle.et_flush.proofs.search.HeldReferencesReferencesSteps.visit.Goals.{After-rank_at-rank}
 use Rattle.et_flush.proofs.search.HeldReferencesReferencesSteps.visit.Goals as goal
 use Rattle.et_flush.proofs.search.HeldReferencesReferencesSteps.visit.Goals.{else-not-self-place-via-then-not-self-place+else-not-seen-place, else-not-self-place-via-else-not-self-place}
 
@@ -47,23 +49,27 @@ bounds-self-place g c =
     let last = target.last in
     omega (arith, rank, first, last, c.place_of-place.ensures.place, c.requires.object.flags)
 
+-- the rank of the next object comes first of those that are left
+next_first : (g : Over) (c : After-rank_at-rank g) → map (rank_of c.args.self.now.ranks.now) c.targets.targets ≡ c.rank_at-rank.result ∷ map (rank_of c.args.self.now.ranks.now) c.next.new.self
+next_first g c = first_ranked c.args.self.now.ranks.now c.targets.targets c.next.new.self c.in-Some.target c.rank_at-rank.result c.in-Some.ensures.steps c.rank_at-rank.ensures
+
 -- what isn't left out is one of the first ranks
 pub bounds-seen-place : goal.bounds-seen-place
 bounds-seen-place g c =
     let x : ℕ = c.rank_at-rank.result in
     let pairs : List (ℕ × ℕ) = ranked_pairs c.args.self.now.ranks.now (pairs_of c.args.self.now.heap.now) in
-    let first = first_ranked c.args.self.now.ranks.now c.targets.targets c.next.new.self c.in-Some.target x c.in-Some.ensures.steps c.rank_at-rank.ensures in
+    let next = next_first g (goal.at.bounds-seen-place g c).After-rank_at-rank in
     let out : ¬ IsSet c.args.self.now.left_out.now x = λ s. both_ways (get_or c.args.self.now.left_out.now c.place_of-place.result false) c.if-not-self-place.true (ap (λ (i : ℕ). get_or c.args.self.now.left_out.now i false) (omega (arith, c.place_of-place.ensures.place)) ∙ s) in
-    let there = left_pair c.args.self.now.left_out.now pairs c.args.object x (first_left pairs c.args.object x (map (rank_of c.args.self.now.ranks.now) c.targets.targets) (map (rank_of c.args.self.now.ranks.now) c.next.new.self) first c.targets.invariant.left) out in
+    let there = left_pair c.args.self.now.left_out.now pairs c.args.object x (first_left pairs c.args.object x (map (rank_of c.args.self.now.ranks.now) c.targets.targets) (map (rank_of c.args.self.now.ranks.now) c.next.new.self) next c.targets.invariant.left) out in
     omega (arith, c.requires.within c.args.object x there, c.place_of-place.ensures.place, c.targets.invariant.ready.long, c.targets.auto.times)
 
 pub mark-requires-clause-last : goal.mark-requires-clause-last
 mark-requires-clause-last g c =
     let x : ℕ = c.rank_at-rank.result in
     let pairs : List (ℕ × ℕ) = ranked_pairs c.args.self.now.ranks.now (pairs_of c.args.self.now.heap.now) in
-    let first = first_ranked c.args.self.now.ranks.now c.targets.targets c.next.new.self c.in-Some.target x c.in-Some.ensures.steps c.rank_at-rank.ensures in
+    let next = next_first g (goal.at.mark-requires-clause-last g c).After-rank_at-rank in
     let out : ¬ IsSet c.args.self.now.left_out.now x = λ s. both_ways (get_or c.args.self.now.left_out.now c.place_of-place.result false) c.if-not-self-place.true (ap (λ (i : ℕ). get_or c.args.self.now.left_out.now i false) (omega (arith, c.place_of-place.ensures.place)) ∙ s) in
-    let there = left_pair c.args.self.now.left_out.now pairs c.args.object x (first_left pairs c.args.object x (map (rank_of c.args.self.now.ranks.now) c.targets.targets) (map (rank_of c.args.self.now.ranks.now) c.next.new.self) first c.targets.invariant.left) out in
+    let there = left_pair c.args.self.now.left_out.now pairs c.args.object x (first_left pairs c.args.object x (map (rank_of c.args.self.now.ranks.now) c.targets.targets) (map (rank_of c.args.self.now.ranks.now) c.next.new.self) next c.targets.invariant.left) out in
     omega (arith, c.requires.within c.args.object x there, c.targets.auto.times)
 
 pub mark-requires-clause-unseen : goal.mark-requires-clause-unseen
@@ -78,10 +84,10 @@ targets-preserved-then-not-seen-place g c =
     let some : List (ℕ × ℕ) = pairs_left c.args.self.now.left_out.now pairs in
     let ts : List ℕ = map (rank_of c.args.self.now.ranks.now) c.targets.targets in
     let rest : List ℕ = map (rank_of c.args.self.now.ranks.now) c.next.new.self in
-    let first : ts ≡ x ∷ rest = first_ranked c.args.self.now.ranks.now c.targets.targets c.next.new.self c.in-Some.target x c.in-Some.ensures.steps c.rank_at-rank.ensures in
+    let next = next_first g (goal.at.targets-preserved-then-not-seen-place g c).After-rank_at-rank in
     let place : x - 1 ≡ c.place_of-place.result = omega (arith, c.place_of-place.ensures.place) in
     let out : ¬ IsSet c.args.self.now.left_out.now x = λ s. both_ways (get_or c.args.self.now.left_out.now c.place_of-place.result false) c.if-not-self-place.true (ap (λ (i : ℕ). get_or c.args.self.now.left_out.now i false) (sym place) ∙ s) in
-    let there : Contains some (c.args.object, x) = left_pair c.args.self.now.left_out.now pairs c.args.object x (first_left pairs c.args.object x ts rest first c.targets.invariant.left) out in
+    let there : Contains some (c.args.object, x) = left_pair c.args.self.now.left_out.now pairs c.args.object x (first_left pairs c.args.object x ts rest next c.targets.invariant.left) out in
     let within : x - 1 < length times = omega (arith, c.requires.within c.args.object x there, c.targets.auto.times) in
     let long : length seen ≡ length times = c.targets.invariant.ready.long in
     let inside : x - 1 < length seen = omega (arith, long, within) in
@@ -93,10 +99,10 @@ targets-preserved-then-not-seen-place g c =
           (visiting_mark some c.args.object c.args.time (length c.args.times.now) c.args.times.now c.args.seen.now c.args.work.now.items times seen c.targets.work.items x
           c.requires.within there long within unseen c.targets.invariant.visiting);
       held = left_there (λ y. IsHeld c.args.self.now.heap.now y) c.in-Some.target c.targets.targets c.next.new.self c.in-Some.ensures.steps c.targets.invariant.held;
-      left = left_there (λ y. Contains pairs (c.args.object, y)) x ts rest first c.targets.invariant.left;
+      left = left_there (λ y. Contains pairs (c.args.object, y)) x ts rest next c.targets.invariant.left;
       done =
           rw c.mark.ensures.seen
-          (done_more (λ y. Contains some (c.args.object, y)) x ts rest seen (set seen (x - 1) true) first (set_keeps seen x inside) (λ _. set_here seen x inside) c.targets.invariant.done);
+          (done_more (λ y. Contains some (c.args.object, y)) x ts rest seen (set seen (x - 1) true) next (set_keeps seen x inside) (λ _. set_here seen x inside) c.targets.invariant.done);
       room = omega (arith, c.mark.ensures.grows, c.targets.invariant.room);
     }
 
@@ -107,7 +113,7 @@ targets-preserved g c =
     let some : List (ℕ × ℕ) = pairs_left c.args.self.now.left_out.now pairs in
     let ts : List ℕ = map (rank_of c.args.self.now.ranks.now) c.targets.targets in
     let rest : List ℕ = map (rank_of c.args.self.now.ranks.now) c.next.new.self in
-    let first : ts ≡ x ∷ rest = first_ranked c.args.self.now.ranks.now c.targets.targets c.next.new.self c.in-Some.target x c.in-Some.ensures.steps c.rank_at-rank.ensures in
+    let next = next_first g (goal.at.targets-preserved g c).After-rank_at-rank in
     let place : x - 1 ≡ c.place_of-place.result = omega (arith, c.place_of-place.ensures.place) in
     let here : Contains some (c.args.object, x) → IsSet c.targets.seen x =
     λ d. elim c.else-not-self-place.branch [
@@ -118,8 +124,8 @@ targets-preserved g c =
       ready = c.targets.invariant.ready;
       visiting = c.targets.invariant.visiting;
       held = left_there (λ y. IsHeld c.args.self.now.heap.now y) c.in-Some.target c.targets.targets c.next.new.self c.in-Some.ensures.steps c.targets.invariant.held;
-      left = left_there (λ y. Contains pairs (c.args.object, y)) x ts rest first c.targets.invariant.left;
-      done = done_more (λ y. Contains some (c.args.object, y)) x ts rest c.targets.seen c.targets.seen first (λ y s. s) here c.targets.invariant.done;
+      left = left_there (λ y. Contains pairs (c.args.object, y)) x ts rest next c.targets.invariant.left;
+      done = done_more (λ y. Contains some (c.args.object, y)) x ts rest c.targets.seen c.targets.seen next (λ y s. s) here c.targets.invariant.done;
       room = c.targets.invariant.room;
     }
 

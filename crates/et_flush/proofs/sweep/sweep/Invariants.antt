@@ -4,7 +4,7 @@ use Rattle.et_heap.specs.Cleared.{cleared_references}
 use Rattle.et_flush.specs.Ranks.{time_of}
 use Rattle.et_flush.specs.Sweeps.{is_now, visits_from}
 use Rattle.et_flush.proofs.Sweeping.{swept}
-use Rattle.et_flush.proofs.sweep.sweep_all.Given as goal
+use Rattle.et_flush.proofs.sweep.sweep.Given as goal
 
 abbrev pub invariant-loop-i : goal.invariant-loop-i
 invariant-loop-i g l = let next = get_or l.held l.i (length l.fn.heap) in record {

@@ -18,8 +18,8 @@ use Rattle.et_flush.proofs.Reaching.{below_listed, below_dead, now_reached, test
 use Rattle.et_flush.proofs.Arriving.{enqueued_is_flushed}
 use Rattle.et_flush.proofs.Tying.{remaining_pairs, cleared_remain}
 use Rattle.et_state.proofs.UnderWay.{queue_pair}
-use Rattle.et_flush.proofs.room.FlushRoom.run.Given as given
-use Rattle.et_flush.proofs.room.FlushRoom.run.Goals as goal
+use Rattle.et_flush.proofs.room.FlushRoom.flush.Given as given
+use Rattle.et_flush.proofs.room.FlushRoom.flush.Goals as goal
 
 pub find_deaths-requires-clause-roots : goal.find_deaths-requires-clause-roots
 find_deaths-requires-clause-roots g c = λ o d. c.requires.roots o (subst (λ (rs : List ℕ). Contains rs o) c.as_slice.ensures d)
