@@ -7,10 +7,10 @@ use Rattle.et_base.specs.declared.line.TraceLine.{TraceLine}
 use Rattle.et_base.specs.declared.line.TraceLine.TheVariants.{Header, Class, Method, Alloc, Update, Enter, Exit, Unwind, Flush, Death, Finish}
 use Rattle.et_text.specs.Ranges.{IsInRange}
 use Rattle.std.proofs.lemmas.List.{append-nil}
-use Rattle.et_text.specs.Spelling.{escapes, fields, field_text, letter, line_body, SpelledField}
+use Rattle.et_text.specs.Spelling.{escapes, fields, field_text, letter, line_body, SpelledField, Number}
 use Rattle.et_text.specs.Text.{IsLineSpelled}
 use Rattle.et_text.specs.Reading.{◌>>=◌, is_break, number_field_in, text_field_at, done, turn_at, header_line_at, class_line_at, method_line_at, alloc_at, update_at, enter_at, exit_at, unwind_at, flush_at, death_line_at, finish_at, front_at, line_at}
-use Rattle.et_text.proofs.Numbers.{bind_some, chosen, some_is, eqb-yes, in_takes, in_again}
+use Rattle.et_text.proofs.Numbers.{IsWithin, bind_some, chosen, some_is, eqb-yes, in_takes, in_again}
 use Rattle.et_text.proofs.Escapes.{AreBytes, text_takes, text_again}
 
 pub to_all : (P : ℕ → Type 0) (xs : List ℕ) → AllByRecursion P xs → All P xs
@@ -79,16 +79,77 @@ turn_again : (event thread : ℕ) (rest : List ℕ) → event ≤ 2 ^ 40 → thr
 unfolding turn_at
 turn_again event thread rest a b e = rw (in_again 0 (2 ^ 40) event (32 ∷ decimal thread ++ rest) (omega arith) a (omega arith) refl, in_again 0 63 thread rest (omega arith) b (omega arith) e) refl
 
+-- the letter and the fields of a line in range
+record AreFields (first : ℕ) (line : TraceLine) (fs : List SpelledField) : Type 0 where
+  pub range : IsInRange 1 line
+  pub first_is : first ≡ letter line
+  pub fields_are : fields line ≡ fs
+
+spelled_as : (first : ℕ) (line : TraceLine) (fs : List SpelledField) (bytes rest : List ℕ) → AreFields first line fs → bytes ≡ before fs rest → IsTail first line bytes rest
+spelled_as first line fs bytes rest a parts = record { range = a.range; first_is = a.first_is; spelled = parts ∙ ap (λ (l : List SpelledField). before l rest) (sym a.fields_are) }
+
+-- two numbers
+abbrev read_two : (low high low' high' : ℕ) → (ℕ → ℕ → TraceLine) → List ℕ → Option (TraceLine × List ℕ)
+read_two low high low' high' make bytes = number_field_in low high bytes >>= λ x0. number_field_in low' high' x0.1 >>= λ x1. Some (make x0.0 x1.0, x1.1)
+
+two_take : (first low high low' high' : ℕ) (make : ℕ → ℕ → TraceLine) → ((a b : ℕ) → IsWithin low high a → IsWithin low' high' b → AreFields first (make a b) (Number a ∷ Number b ∷ []))
+    → (bytes : List ℕ) (line : TraceLine) (rest : List ℕ) → read_two low high low' high' make bytes ≡ Some (line, rest) → IsTail first line bytes rest
+two_take first low high low' high' make are bytes line rest e =
+    let s0 = bind_some (number_field_in low high bytes) (λ x0. number_field_in low' high' x0.1 >>= λ x1. Some (make x0.0 x1.0, x1.1)) (line, rest) e in
+    let s1 = bind_some (number_field_in low' high' s0.0.1) (λ x1. Some (make s0.0.0 x1.0, x1.1)) (line, rest) s0.2 in
+    let d = left_is (make s0.0.0 s1.0.0) s1.0.1 line rest s1.2 in
+    let t0 = in_takes low high bytes s0.0.0 s0.0.1 s0.1 in
+    let t1 = in_takes low' high' s0.0.1 s1.0.0 s1.0.1 s1.1 in
+    let parts : bytes ≡ before (Number s0.0.0 ∷ Number s1.0.0 ∷ []) rest = t0.0 ∙ ap (λ (t : List ℕ). 32 ∷ decimal s0.0.0 ++ t) (t1.0 ∙ ap (λ (t : List ℕ). 32 ∷ decimal s1.0.0 ++ t) d.rest_is) in
+    subst (λ (l : TraceLine). IsTail first l bytes rest) d.same (spelled_as first (make s0.0.0 s1.0.0) (Number s0.0.0 ∷ Number s1.0.0 ∷ []) bytes rest (are s0.0.0 s1.0.0 t0.1 t1.1) parts)
+
+-- an event, a thread, a method and an object
+abbrev read_passage : (low high : ℕ) → (ℕ → ℕ → ℕ → ℕ → TraceLine) → List ℕ → Option (TraceLine × List ℕ)
+read_passage low high make bytes = turn_at bytes >>= λ x0. number_field_in 1 (2 ^ 32 - 1) x0.1 >>= λ x1. number_field_in low high x1.1 >>= λ x2. Some (make x0.0.0 x0.0.1 x1.0 x2.0, x2.1)
+
+passage_takes : (first low high : ℕ) (make : ℕ → ℕ → ℕ → ℕ → TraceLine)
+    → ((event thread method object : ℕ) → event ≤ 2 ^ 40 → thread ≤ 63 → IsWithin 1 (2 ^ 32 - 1) method → IsWithin low high object → AreFields first (make event thread method object) (Number event ∷ Number thread ∷ Number method ∷ Number object ∷ []))
+    → (bytes : List ℕ) (line : TraceLine) (rest : List ℕ) → read_passage low high make bytes ≡ Some (line, rest) → IsTail first line bytes rest
+passage_takes first low high make are bytes line rest e =
+    let s0 = bind_some (turn_at bytes) (λ x0. number_field_in 1 (2 ^ 32 - 1) x0.1 >>= λ x1. number_field_in low high x1.1 >>= λ x2. Some (make x0.0.0 x0.0.1 x1.0 x2.0, x2.1)) (line, rest) e in
+    let s1 = bind_some (number_field_in 1 (2 ^ 32 - 1) s0.0.1) (λ x1. number_field_in low high x1.1 >>= λ x2. Some (make s0.0.0.0 s0.0.0.1 x1.0 x2.0, x2.1)) (line, rest) s0.2 in
+    let s2 = bind_some (number_field_in low high s1.0.1) (λ x2. Some (make s0.0.0.0 s0.0.0.1 s1.0.0 x2.0, x2.1)) (line, rest) s1.2 in
+    let d = left_is (make s0.0.0.0 s0.0.0.1 s1.0.0 s2.0.0) s2.0.1 line rest s2.2 in
+    let t0 = turn_takes bytes s0.0.0.0 s0.0.0.1 s0.0.1 s0.1 in
+    let t1 = in_takes 1 (2 ^ 32 - 1) s0.0.1 s1.0.0 s1.0.1 s1.1 in
+    let t2 = in_takes low high s1.0.1 s2.0.0 s2.0.1 s2.1 in
+    let fs = Number s0.0.0.0 ∷ Number s0.0.0.1 ∷ Number s1.0.0 ∷ Number s2.0.0 ∷ [] in
+    let parts : bytes ≡ before fs rest = t0.parts ∙ ap (λ (t : List ℕ). 32 ∷ decimal s0.0.0.0 ++ (32 ∷ decimal s0.0.0.1 ++ t)) (t1.0 ∙ ap (λ (t : List ℕ). 32 ∷ decimal s1.0.0 ++ t) (t2.0 ∙ ap (λ (t : List ℕ). 32 ∷ decimal s2.0.0 ++ t) d.rest_is)) in
+    subst (λ (l : TraceLine). IsTail first l bytes rest) d.same (spelled_as first (make s0.0.0.0 s0.0.0.1 s1.0.0 s2.0.0) fs bytes rest (are s0.0.0.0 s0.0.0.1 s1.0.0 s2.0.0 t0.event_is t0.thread_is t1.1 t2.1) parts)
+
+-- an event, a thread and four numbers
+module _ (first la ha lb hb lc hc ld hd : ℕ) (make : ℕ → ℕ → ℕ → ℕ → ℕ → ℕ → TraceLine) where
+  abbrev read_four : (event thread : ℕ) → List ℕ → Option (TraceLine × List ℕ)
+  read_four event thread bytes = number_field_in la ha bytes >>= λ x1. number_field_in lb hb x1.1 >>= λ x2. number_field_in lc hc x2.1 >>= λ x3. number_field_in ld hd x3.1 >>= λ x4. Some (make event thread x1.0 x2.0 x3.0 x4.0, x4.1)
+
+  six_take : ((event thread a b c d : ℕ) → event ≤ 2 ^ 40 → thread ≤ 63 → IsWithin la ha a → IsWithin lb hb b → IsWithin lc hc c → IsWithin ld hd d → AreFields first (make event thread a b c d) (Number event ∷ Number thread ∷ Number a ∷ Number b ∷ Number c ∷ Number d ∷ []))
+      → (bytes : List ℕ) (line : TraceLine) (rest : List ℕ) → (turn_at bytes >>= λ x0. read_four x0.0.0 x0.0.1 x0.1) ≡ Some (line, rest) → IsTail first line bytes rest
+  six_take are bytes line rest e =
+      let s0 = bind_some (turn_at bytes) (λ x0. read_four x0.0.0 x0.0.1 x0.1) (line, rest) e in
+      let s1 = bind_some (number_field_in la ha s0.0.1) (λ x1. number_field_in lb hb x1.1 >>= λ x2. number_field_in lc hc x2.1 >>= λ x3. number_field_in ld hd x3.1 >>= λ x4. Some (make s0.0.0.0 s0.0.0.1 x1.0 x2.0 x3.0 x4.0, x4.1)) (line, rest) s0.2 in
+      let s2 = bind_some (number_field_in lb hb s1.0.1) (λ x2. number_field_in lc hc x2.1 >>= λ x3. number_field_in ld hd x3.1 >>= λ x4. Some (make s0.0.0.0 s0.0.0.1 s1.0.0 x2.0 x3.0 x4.0, x4.1)) (line, rest) s1.2 in
+      let s3 = bind_some (number_field_in lc hc s2.0.1) (λ x3. number_field_in ld hd x3.1 >>= λ x4. Some (make s0.0.0.0 s0.0.0.1 s1.0.0 s2.0.0 x3.0 x4.0, x4.1)) (line, rest) s2.2 in
+      let s4 = bind_some (number_field_in ld hd s3.0.1) (λ x4. Some (make s0.0.0.0 s0.0.0.1 s1.0.0 s2.0.0 s3.0.0 x4.0, x4.1)) (line, rest) s3.2 in
+      let d = left_is (make s0.0.0.0 s0.0.0.1 s1.0.0 s2.0.0 s3.0.0 s4.0.0) s4.0.1 line rest s4.2 in
+      let t0 = turn_takes bytes s0.0.0.0 s0.0.0.1 s0.0.1 s0.1 in
+      let t1 = in_takes la ha s0.0.1 s1.0.0 s1.0.1 s1.1 in
+      let t2 = in_takes lb hb s1.0.1 s2.0.0 s2.0.1 s2.1 in
+      let t3 = in_takes lc hc s2.0.1 s3.0.0 s3.0.1 s3.1 in
+      let t4 = in_takes ld hd s3.0.1 s4.0.0 s4.0.1 s4.1 in
+      let fs = Number s0.0.0.0 ∷ Number s0.0.0.1 ∷ Number s1.0.0 ∷ Number s2.0.0 ∷ Number s3.0.0 ∷ Number s4.0.0 ∷ [] in
+      let parts : bytes ≡ before fs rest = t0.parts ∙ ap (λ (t : List ℕ). 32 ∷ decimal s0.0.0.0 ++ (32 ∷ decimal s0.0.0.1 ++ t)) (t1.0 ∙ ap (λ (t : List ℕ). 32 ∷ decimal s1.0.0 ++ t) (t2.0 ∙ ap (λ (t : List ℕ). 32 ∷ decimal s2.0.0 ++ t) (t3.0 ∙ ap (λ (t : List ℕ). 32 ∷ decimal s3.0.0 ++ t) (t4.0 ∙ ap (λ (t : List ℕ). 32 ∷ decimal s4.0.0 ++ t) d.rest_is)))) in
+      subst (λ (l : TraceLine). IsTail first l bytes rest) d.same (spelled_as first (make s0.0.0.0 s0.0.0.1 s1.0.0 s2.0.0 s3.0.0 s4.0.0) fs bytes rest (are s0.0.0.0 s0.0.0.1 s1.0.0 s2.0.0 s3.0.0 s4.0.0 t0.event_is t0.thread_is t1.1 t2.1 t3.1 t4.1) parts)
+
+-- THE LINES
+
 header_takes : (bytes : List ℕ) (line : TraceLine) (rest : List ℕ) → header_line_at bytes ≡ Some (line, rest) → IsTail 72 line bytes rest
 unfolding header_line_at
-header_takes bytes line rest e =
-    let s0 = bind_some (number_field_in 1 (1) bytes) (λ x0. number_field_in 0 (2 ^ 40) x0.1 >>= λ x1. Some (Header x0.0 x1.0, x1.1)) (line, rest) e in
-    let s1 = bind_some (number_field_in 0 (2 ^ 40) s0.0.1) (λ x1. Some (Header s0.0.0 x1.0, x1.1)) (line, rest) s0.2 in
-    let d = left_is (Header s0.0.0 s1.0.0) s1.0.1 line rest s1.2 in
-    let t0 = in_takes 1 (1) bytes s0.0.0 s0.0.1 s0.1 in
-    let t1 = in_takes 0 (2 ^ 40) s0.0.1 s1.0.0 s1.0.1 s1.1 in
-    let one : IsTail 72 (Header s0.0.0 s1.0.0) bytes rest = record { range = omega arith; first_is = refl; spelled = (t0.0 ∙ ap (λ (t : List ℕ). 32 ∷ decimal s0.0.0 ++ t) (t1.0 ∙ ap (λ (t : List ℕ). 32 ∷ decimal s1.0.0 ++ t) d.rest_is)) } in
-    subst (λ (l : TraceLine). IsTail 72 l bytes rest) d.same one
+header_takes bytes line rest e = two_take 72 1 1 0 (2 ^ 40) Header (λ a b p q. record { range = omega arith; first_is = refl; fields_are = refl }) bytes line rest e
 
 class_takes : (bytes : List ℕ) (line : TraceLine) (rest : List ℕ) → class_line_at bytes ≡ Some (line, rest) → IsTail 67 line bytes rest
 unfolding class_line_at
@@ -118,50 +179,15 @@ method_takes bytes line rest e =
 
 alloc_takes : (bytes : List ℕ) (line : TraceLine) (rest : List ℕ) → alloc_at bytes ≡ Some (line, rest) → IsTail 65 line bytes rest
 unfolding alloc_at
-alloc_takes bytes line rest e =
-    let s0 = bind_some (turn_at bytes) (λ x0. number_field_in 1 (2 ^ 24 - 1) x0.1 >>= λ x1. number_field_in 1 (2 ^ 32 - 1) x1.1 >>= λ x2. number_field_in 16 (2 ^ 30) x2.1 >>= λ x3. number_field_in 0 (2 ^ 26) x3.1 >>= λ x4. Some (Alloc x0.0.0 x0.0.1 x1.0 x2.0 x3.0 x4.0, x4.1)) (line, rest) e in
-    let s1 = bind_some (number_field_in 1 (2 ^ 24 - 1) s0.0.1) (λ x1. number_field_in 1 (2 ^ 32 - 1) x1.1 >>= λ x2. number_field_in 16 (2 ^ 30) x2.1 >>= λ x3. number_field_in 0 (2 ^ 26) x3.1 >>= λ x4. Some (Alloc s0.0.0.0 s0.0.0.1 x1.0 x2.0 x3.0 x4.0, x4.1)) (line, rest) s0.2 in
-    let s2 = bind_some (number_field_in 1 (2 ^ 32 - 1) s1.0.1) (λ x2. number_field_in 16 (2 ^ 30) x2.1 >>= λ x3. number_field_in 0 (2 ^ 26) x3.1 >>= λ x4. Some (Alloc s0.0.0.0 s0.0.0.1 s1.0.0 x2.0 x3.0 x4.0, x4.1)) (line, rest) s1.2 in
-    let s3 = bind_some (number_field_in 16 (2 ^ 30) s2.0.1) (λ x3. number_field_in 0 (2 ^ 26) x3.1 >>= λ x4. Some (Alloc s0.0.0.0 s0.0.0.1 s1.0.0 s2.0.0 x3.0 x4.0, x4.1)) (line, rest) s2.2 in
-    let s4 = bind_some (number_field_in 0 (2 ^ 26) s3.0.1) (λ x4. Some (Alloc s0.0.0.0 s0.0.0.1 s1.0.0 s2.0.0 s3.0.0 x4.0, x4.1)) (line, rest) s3.2 in
-    let d = left_is (Alloc s0.0.0.0 s0.0.0.1 s1.0.0 s2.0.0 s3.0.0 s4.0.0) s4.0.1 line rest s4.2 in
-    let t0 = turn_takes bytes s0.0.0.0 s0.0.0.1 s0.0.1 s0.1 in
-    let t1 = in_takes 1 (2 ^ 24 - 1) s0.0.1 s1.0.0 s1.0.1 s1.1 in
-    let t2 = in_takes 1 (2 ^ 32 - 1) s1.0.1 s2.0.0 s2.0.1 s2.1 in
-    let t3 = in_takes 16 (2 ^ 30) s2.0.1 s3.0.0 s3.0.1 s3.1 in
-    let t4 = in_takes 0 (2 ^ 26) s3.0.1 s4.0.0 s4.0.1 s4.1 in
-    let one : IsTail 65 (Alloc s0.0.0.0 s0.0.0.1 s1.0.0 s2.0.0 s3.0.0 s4.0.0) bytes rest = record { range = omega arith; first_is = refl; spelled = (t0.parts ∙ ap (λ (t : List ℕ). 32 ∷ decimal s0.0.0.0 ++ (32 ∷ decimal s0.0.0.1 ++ t)) (t1.0 ∙ ap (λ (t : List ℕ). 32 ∷ decimal s1.0.0 ++ t) (t2.0 ∙ ap (λ (t : List ℕ). 32 ∷ decimal s2.0.0 ++ t) (t3.0 ∙ ap (λ (t : List ℕ). 32 ∷ decimal s3.0.0 ++ t) (t4.0 ∙ ap (λ (t : List ℕ). 32 ∷ decimal s4.0.0 ++ t) d.rest_is))))) } in
-    subst (λ (l : TraceLine). IsTail 65 l bytes rest) d.same one
+alloc_takes bytes line rest e = six_take 65 1 (2 ^ 24 - 1) 1 (2 ^ 32 - 1) 16 (2 ^ 30) 0 (2 ^ 26) Alloc (λ event thread a b c d u v p q r s. record { range = omega arith; first_is = refl; fields_are = refl }) bytes line rest e
 
 update_takes : (bytes : List ℕ) (line : TraceLine) (rest : List ℕ) → update_at bytes ≡ Some (line, rest) → IsTail 85 line bytes rest
 unfolding update_at
-update_takes bytes line rest e =
-    let s0 = bind_some (turn_at bytes) (λ x0. number_field_in 0 (2 ^ 24 - 1) x0.1 >>= λ x1. number_field_in 0 (2 ^ 28 - 1) x1.1 >>= λ x2. number_field_in 0 (2 ^ 24 - 1) x2.1 >>= λ x3. number_field_in 0 (2 ^ 24 - 1) x3.1 >>= λ x4. Some (Update x0.0.0 x0.0.1 x1.0 x2.0 x3.0 x4.0, x4.1)) (line, rest) e in
-    let s1 = bind_some (number_field_in 0 (2 ^ 24 - 1) s0.0.1) (λ x1. number_field_in 0 (2 ^ 28 - 1) x1.1 >>= λ x2. number_field_in 0 (2 ^ 24 - 1) x2.1 >>= λ x3. number_field_in 0 (2 ^ 24 - 1) x3.1 >>= λ x4. Some (Update s0.0.0.0 s0.0.0.1 x1.0 x2.0 x3.0 x4.0, x4.1)) (line, rest) s0.2 in
-    let s2 = bind_some (number_field_in 0 (2 ^ 28 - 1) s1.0.1) (λ x2. number_field_in 0 (2 ^ 24 - 1) x2.1 >>= λ x3. number_field_in 0 (2 ^ 24 - 1) x3.1 >>= λ x4. Some (Update s0.0.0.0 s0.0.0.1 s1.0.0 x2.0 x3.0 x4.0, x4.1)) (line, rest) s1.2 in
-    let s3 = bind_some (number_field_in 0 (2 ^ 24 - 1) s2.0.1) (λ x3. number_field_in 0 (2 ^ 24 - 1) x3.1 >>= λ x4. Some (Update s0.0.0.0 s0.0.0.1 s1.0.0 s2.0.0 x3.0 x4.0, x4.1)) (line, rest) s2.2 in
-    let s4 = bind_some (number_field_in 0 (2 ^ 24 - 1) s3.0.1) (λ x4. Some (Update s0.0.0.0 s0.0.0.1 s1.0.0 s2.0.0 s3.0.0 x4.0, x4.1)) (line, rest) s3.2 in
-    let d = left_is (Update s0.0.0.0 s0.0.0.1 s1.0.0 s2.0.0 s3.0.0 s4.0.0) s4.0.1 line rest s4.2 in
-    let t0 = turn_takes bytes s0.0.0.0 s0.0.0.1 s0.0.1 s0.1 in
-    let t1 = in_takes 0 (2 ^ 24 - 1) s0.0.1 s1.0.0 s1.0.1 s1.1 in
-    let t2 = in_takes 0 (2 ^ 28 - 1) s1.0.1 s2.0.0 s2.0.1 s2.1 in
-    let t3 = in_takes 0 (2 ^ 24 - 1) s2.0.1 s3.0.0 s3.0.1 s3.1 in
-    let t4 = in_takes 0 (2 ^ 24 - 1) s3.0.1 s4.0.0 s4.0.1 s4.1 in
-    let one : IsTail 85 (Update s0.0.0.0 s0.0.0.1 s1.0.0 s2.0.0 s3.0.0 s4.0.0) bytes rest = record { range = omega arith; first_is = refl; spelled = (t0.parts ∙ ap (λ (t : List ℕ). 32 ∷ decimal s0.0.0.0 ++ (32 ∷ decimal s0.0.0.1 ++ t)) (t1.0 ∙ ap (λ (t : List ℕ). 32 ∷ decimal s1.0.0 ++ t) (t2.0 ∙ ap (λ (t : List ℕ). 32 ∷ decimal s2.0.0 ++ t) (t3.0 ∙ ap (λ (t : List ℕ). 32 ∷ decimal s3.0.0 ++ t) (t4.0 ∙ ap (λ (t : List ℕ). 32 ∷ decimal s4.0.0 ++ t) d.rest_is))))) } in
-    subst (λ (l : TraceLine). IsTail 85 l bytes rest) d.same one
+update_takes bytes line rest e = six_take 85 0 (2 ^ 24 - 1) 0 (2 ^ 28 - 1) 0 (2 ^ 24 - 1) 0 (2 ^ 24 - 1) Update (λ event thread a b c d u v p q r s. record { range = omega arith; first_is = refl; fields_are = refl }) bytes line rest e
 
 enter_takes : (bytes : List ℕ) (line : TraceLine) (rest : List ℕ) → enter_at bytes ≡ Some (line, rest) → IsTail 77 line bytes rest
 unfolding enter_at
-enter_takes bytes line rest e =
-    let s0 = bind_some (turn_at bytes) (λ x0. number_field_in 1 (2 ^ 32 - 1) x0.1 >>= λ x1. number_field_in 0 (2 ^ 24 - 1) x1.1 >>= λ x2. Some (Enter x0.0.0 x0.0.1 x1.0 x2.0, x2.1)) (line, rest) e in
-    let s1 = bind_some (number_field_in 1 (2 ^ 32 - 1) s0.0.1) (λ x1. number_field_in 0 (2 ^ 24 - 1) x1.1 >>= λ x2. Some (Enter s0.0.0.0 s0.0.0.1 x1.0 x2.0, x2.1)) (line, rest) s0.2 in
-    let s2 = bind_some (number_field_in 0 (2 ^ 24 - 1) s1.0.1) (λ x2. Some (Enter s0.0.0.0 s0.0.0.1 s1.0.0 x2.0, x2.1)) (line, rest) s1.2 in
-    let d = left_is (Enter s0.0.0.0 s0.0.0.1 s1.0.0 s2.0.0) s2.0.1 line rest s2.2 in
-    let t0 = turn_takes bytes s0.0.0.0 s0.0.0.1 s0.0.1 s0.1 in
-    let t1 = in_takes 1 (2 ^ 32 - 1) s0.0.1 s1.0.0 s1.0.1 s1.1 in
-    let t2 = in_takes 0 (2 ^ 24 - 1) s1.0.1 s2.0.0 s2.0.1 s2.1 in
-    let one : IsTail 77 (Enter s0.0.0.0 s0.0.0.1 s1.0.0 s2.0.0) bytes rest = record { range = omega arith; first_is = refl; spelled = (t0.parts ∙ ap (λ (t : List ℕ). 32 ∷ decimal s0.0.0.0 ++ (32 ∷ decimal s0.0.0.1 ++ t)) (t1.0 ∙ ap (λ (t : List ℕ). 32 ∷ decimal s1.0.0 ++ t) (t2.0 ∙ ap (λ (t : List ℕ). 32 ∷ decimal s2.0.0 ++ t) d.rest_is))) } in
-    subst (λ (l : TraceLine). IsTail 77 l bytes rest) d.same one
+enter_takes bytes line rest e = passage_takes 77 0 (2 ^ 24 - 1) Enter (λ event thread method object u v p q. record { range = omega arith; first_is = refl; fields_are = refl }) bytes line rest e
 
 exit_takes : (bytes : List ℕ) (line : TraceLine) (rest : List ℕ) → exit_at bytes ≡ Some (line, rest) → IsTail 69 line bytes rest
 unfolding exit_at
@@ -176,49 +202,19 @@ exit_takes bytes line rest e =
 
 unwind_takes : (bytes : List ℕ) (line : TraceLine) (rest : List ℕ) → unwind_at bytes ≡ Some (line, rest) → IsTail 88 line bytes rest
 unfolding unwind_at
-unwind_takes bytes line rest e =
-    let s0 = bind_some (turn_at bytes) (λ x0. number_field_in 1 (2 ^ 32 - 1) x0.1 >>= λ x1. number_field_in 1 (2 ^ 24 - 1) x1.1 >>= λ x2. Some (Unwind x0.0.0 x0.0.1 x1.0 x2.0, x2.1)) (line, rest) e in
-    let s1 = bind_some (number_field_in 1 (2 ^ 32 - 1) s0.0.1) (λ x1. number_field_in 1 (2 ^ 24 - 1) x1.1 >>= λ x2. Some (Unwind s0.0.0.0 s0.0.0.1 x1.0 x2.0, x2.1)) (line, rest) s0.2 in
-    let s2 = bind_some (number_field_in 1 (2 ^ 24 - 1) s1.0.1) (λ x2. Some (Unwind s0.0.0.0 s0.0.0.1 s1.0.0 x2.0, x2.1)) (line, rest) s1.2 in
-    let d = left_is (Unwind s0.0.0.0 s0.0.0.1 s1.0.0 s2.0.0) s2.0.1 line rest s2.2 in
-    let t0 = turn_takes bytes s0.0.0.0 s0.0.0.1 s0.0.1 s0.1 in
-    let t1 = in_takes 1 (2 ^ 32 - 1) s0.0.1 s1.0.0 s1.0.1 s1.1 in
-    let t2 = in_takes 1 (2 ^ 24 - 1) s1.0.1 s2.0.0 s2.0.1 s2.1 in
-    let one : IsTail 88 (Unwind s0.0.0.0 s0.0.0.1 s1.0.0 s2.0.0) bytes rest = record { range = omega arith; first_is = refl; spelled = (t0.parts ∙ ap (λ (t : List ℕ). 32 ∷ decimal s0.0.0.0 ++ (32 ∷ decimal s0.0.0.1 ++ t)) (t1.0 ∙ ap (λ (t : List ℕ). 32 ∷ decimal s1.0.0 ++ t) (t2.0 ∙ ap (λ (t : List ℕ). 32 ∷ decimal s2.0.0 ++ t) d.rest_is))) } in
-    subst (λ (l : TraceLine). IsTail 88 l bytes rest) d.same one
+unwind_takes bytes line rest e = passage_takes 88 1 (2 ^ 24 - 1) Unwind (λ event thread method object u v p q. record { range = omega arith; first_is = refl; fields_are = refl }) bytes line rest e
 
 flush_takes : (bytes : List ℕ) (line : TraceLine) (rest : List ℕ) → flush_at bytes ≡ Some (line, rest) → IsTail 70 line bytes rest
 unfolding flush_at
-flush_takes bytes line rest e =
-    let s0 = bind_some (number_field_in 0 (2 ^ 40) bytes) (λ x0. number_field_in 0 (2 ^ 24 - 1) x0.1 >>= λ x1. Some (Flush x0.0 x1.0, x1.1)) (line, rest) e in
-    let s1 = bind_some (number_field_in 0 (2 ^ 24 - 1) s0.0.1) (λ x1. Some (Flush s0.0.0 x1.0, x1.1)) (line, rest) s0.2 in
-    let d = left_is (Flush s0.0.0 s1.0.0) s1.0.1 line rest s1.2 in
-    let t0 = in_takes 0 (2 ^ 40) bytes s0.0.0 s0.0.1 s0.1 in
-    let t1 = in_takes 0 (2 ^ 24 - 1) s0.0.1 s1.0.0 s1.0.1 s1.1 in
-    let one : IsTail 70 (Flush s0.0.0 s1.0.0) bytes rest = record { range = omega arith; first_is = refl; spelled = (t0.0 ∙ ap (λ (t : List ℕ). 32 ∷ decimal s0.0.0 ++ t) (t1.0 ∙ ap (λ (t : List ℕ). 32 ∷ decimal s1.0.0 ++ t) d.rest_is)) } in
-    subst (λ (l : TraceLine). IsTail 70 l bytes rest) d.same one
+flush_takes bytes line rest e = two_take 70 0 (2 ^ 40) 0 (2 ^ 24 - 1) Flush (λ a b p q. record { range = omega arith; first_is = refl; fields_are = refl }) bytes line rest e
 
 death_takes : (bytes : List ℕ) (line : TraceLine) (rest : List ℕ) → death_line_at bytes ≡ Some (line, rest) → IsTail 68 line bytes rest
 unfolding death_line_at
-death_takes bytes line rest e =
-    let s0 = bind_some (number_field_in 1 (2 ^ 24 - 1) bytes) (λ x0. number_field_in 0 (2 ^ 40) x0.1 >>= λ x1. Some (Death x0.0 x1.0, x1.1)) (line, rest) e in
-    let s1 = bind_some (number_field_in 0 (2 ^ 40) s0.0.1) (λ x1. Some (Death s0.0.0 x1.0, x1.1)) (line, rest) s0.2 in
-    let d = left_is (Death s0.0.0 s1.0.0) s1.0.1 line rest s1.2 in
-    let t0 = in_takes 1 (2 ^ 24 - 1) bytes s0.0.0 s0.0.1 s0.1 in
-    let t1 = in_takes 0 (2 ^ 40) s0.0.1 s1.0.0 s1.0.1 s1.1 in
-    let one : IsTail 68 (Death s0.0.0 s1.0.0) bytes rest = record { range = omega arith; first_is = refl; spelled = (t0.0 ∙ ap (λ (t : List ℕ). 32 ∷ decimal s0.0.0 ++ t) (t1.0 ∙ ap (λ (t : List ℕ). 32 ∷ decimal s1.0.0 ++ t) d.rest_is)) } in
-    subst (λ (l : TraceLine). IsTail 68 l bytes rest) d.same one
+death_takes bytes line rest e = two_take 68 1 (2 ^ 24 - 1) 0 (2 ^ 40) Death (λ a b p q. record { range = omega arith; first_is = refl; fields_are = refl }) bytes line rest e
 
 finish_takes : (bytes : List ℕ) (line : TraceLine) (rest : List ℕ) → finish_at bytes ≡ Some (line, rest) → IsTail 90 line bytes rest
 unfolding finish_at
-finish_takes bytes line rest e =
-    let s0 = bind_some (number_field_in 0 (2 ^ 40) bytes) (λ x0. number_field_in 0 (3) x0.1 >>= λ x1. Some (Finish x0.0 x1.0, x1.1)) (line, rest) e in
-    let s1 = bind_some (number_field_in 0 (3) s0.0.1) (λ x1. Some (Finish s0.0.0 x1.0, x1.1)) (line, rest) s0.2 in
-    let d = left_is (Finish s0.0.0 s1.0.0) s1.0.1 line rest s1.2 in
-    let t0 = in_takes 0 (2 ^ 40) bytes s0.0.0 s0.0.1 s0.1 in
-    let t1 = in_takes 0 (3) s0.0.1 s1.0.0 s1.0.1 s1.1 in
-    let one : IsTail 90 (Finish s0.0.0 s1.0.0) bytes rest = record { range = omega arith; first_is = refl; spelled = (t0.0 ∙ ap (λ (t : List ℕ). 32 ∷ decimal s0.0.0 ++ t) (t1.0 ∙ ap (λ (t : List ℕ). 32 ∷ decimal s1.0.0 ++ t) d.rest_is)) } in
-    subst (λ (l : TraceLine). IsTail 90 l bytes rest) d.same one
+finish_takes bytes line rest e = two_take 90 0 (2 ^ 40) 0 3 Finish (λ a b p q. record { range = omega arith; first_is = refl; fields_are = refl }) bytes line rest e
 
 -- each line in range is read again
 pub line_again : (line : TraceLine) → IsInRange 1 line → line_at (line_body line) ≡ Some line
