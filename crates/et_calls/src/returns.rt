@@ -152,15 +152,6 @@ fn begin_return<L: Ledger>(
     finish_class(machine, stage);
 }
 
-/// A frame has fewer operands than 65,536.
-fn operands_are_few(machine: &Machine, thread: ThreadId)
-    requires { HasFrame machine.now.guest thread }
-    ensures { length (top machine.now.guest thread).operands < 2 ^ 16 }
-{
-    let _room = machine.room(thread);
-    let _depth = machine.depth(thread);
-}
-
 /// The event in which a frame returns that owns the monitor of this lock, if it holds one (JVMS 2.6.4, 2.11.10). After
 /// `NoMemory` the machine is as before.
 fn leave_frame<L: Ledger>(
@@ -190,7 +181,7 @@ fn leave_frame<L: Ledger>(
     ensures err { OnErr result (machine.new ≡ machine.old) }
     ensures visits { visits.new ≤ visits.old + 2 }
 {
-    operands_are_few(machine, thread);
+    let _depth = machine.depth(thread);
     let stage = machine.stage(thread);
     out.push(Record::Exit {
         event: machine.clock() + 1,
