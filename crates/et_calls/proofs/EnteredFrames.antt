@@ -33,7 +33,7 @@ use Rattle.et_event.specs.declared.errors.GuestError.TheVariants.{StackOverflowE
 use Rattle.et_event.specs.Answered.{EventAnswers}
 use Rattle.et_event.specs.Checks.{frame_fits, throws_unless, waits_unless}
 use Rattle.et_event.specs.Frames.{frame_entered, lock_slot, method_frame, receiver_of}
-use Rattle.et_event.specs.Moments.{Moment, moment, Doing, begins, told, with_thread_state, fits_heap, throws, waits, ends_event as ending}
+use Rattle.et_event.specs.Moments.{Moment, moment, Doing, begins, told, with_thread_state, fits_heap, throws, ends_event as ending}
 use Rattle.et_event.specs.Monitors.{Lock, OfObject, OfClass, entered_some, is_open_to, lock_for, may_enter_some, monitor_of}
 use Rattle.et_event.specs.Sound.{IsSoundFor}
 use Rattle.et_event.specs.Locks.{HasMonitor, HasSome, IsSomeFewTimes, entering_some, may_enter_some_at, monitor_at}
@@ -307,10 +307,8 @@ code_is p t x m lock b held has may =
     ap (λ (l : Option Lock). waits_unless e (may_enter_some e d l) (fitting_event e x)) (sym held)
     ∙ ap (λ (c : Bool). waits_unless e c (fitting_event e x)) (may_after p t x.classes.now m lock has ∙ may)
 
-pub waits_is : (p : Linked) (t : ℕ) (x : Entered) (m : MachineState) (lock : Option Lock) → lock ≡ lock_for (method_at p x.method) (receiver_of p x.method (arguments_passed (top m.guest t) x.passed)) → HasSome m lock
-    → may_enter_some_at t lock m ≡ false → entering_event (moment p m t) x ≡ waits (moment p m t)
-waits_is p t x m lock held has may = code_is p t x m lock false held has may
-
-pub open_is : (p : Linked) (t : ℕ) (x : Entered) (m : MachineState) (lock : Option Lock) → lock ≡ lock_for (method_at p x.method) (receiver_of p x.method (arguments_passed (top m.guest t) x.passed)) → HasSome m lock
-    → may_enter_some_at t lock m ≡ true → entering_event (moment p m t) x ≡ fitting_event (moment p m t) x
-open_is p t x m lock held has may = code_is p t x m lock true held has may
+pub entering_is : (p : Linked) (t : ℕ) (x : Entered) (m : MachineState) (r : Option ℕ) (lock : Option Lock) (b : Bool) → IsSoundFor p (kept_of m) → IsEntered p m t x → r ≡ receiver_of p x.method (arguments_passed (top m.guest t) x.passed)
+    → IfSome r (λ o. IsHeld m.heap o) → lock ≡ lock_for x.info.now r → may_enter_some_at t lock m ≡ b → entering_event (moment p m t) x ≡ waits_unless (moment p m t) b (fitting_event (moment p m t) x)
+entering_is p t x m r lock b sound is received there e may =
+    let locked = entered_lock p t x m r lock sound is received there e in
+    code_is p t x m lock b locked.0 locked.1 may

@@ -1,6 +1,6 @@
 -- What a turn of calls answers, by what is answered at its place.
 use Rattle.std.proofs.Common.{◌≡◌, ℕ, ◌<◌, Bool, true, false, List, length, Option, Some, None, sym, ap, subst, arith}
-use Rattle.std.specs.Prelude.{if◌then◌else◌}
+use Rattle.std.specs.Prelude.{◌↔◌, if◌then◌else◌, Result, Ok, Err, IfOk}
 use Rattle.et_program.specs.BuiltIns.{is_deferred}
 use Rattle.et_program.specs.Members.{kept}
 use Rattle.et_program.specs.Entries.{Linked}
@@ -18,7 +18,7 @@ use Rattle.et_event.specs.Places.{IsPlace, site_at}
 use Rattle.et_event.specs.declared.places.Place.{Place}
 use Rattle.et_event.specs.Selected.{deferred_at, deferred_call}
 use Rattle.et_event.specs.Answered.{DefersOrAnswers, EventAnswers}
-use Rattle.et_event.proofs.Deferrals.{native_exactly}
+use Rattle.et_event.proofs.Deferrals.{answered, native_exactly}
 use Rattle.et_builtins.specs.Plans.{IsCallPlan, method_entered}
 use Rattle.et_builtins.specs.declared.plans.CallPlan.{CallPlan}
 use Rattle.et_builtins.specs.declared.plans.CallPlan.TheVariants.{IllTyped, Throws, Waits, Initializes, Enters}
@@ -37,6 +37,19 @@ turn_answers p m t place end m' out out' turn is same a =
 
 pub never_native : (o : Outcome Kept) (end : EventEnd) (m m' : MachineState) (out out' : List Record) → EventAnswers o end m m' out out' → (method : ℕ) → end ≡ ends.Native method → ⊥
 never_native o end m m' out out' a method is = let named : None ≡ Some method = (native_exactly None o end m m' out out' a method).0 is in cc
+
+-- .. and where an event is left to no other, its answer says so
+pub left_to_none : {E : Type 0} (q : Option ℕ) (o : Outcome Kept) (m m' : MachineState) (out out' : List Record) (r : Result EventEnd E) → q ≡ None → IfOk r (λ end. EventAnswers o end m m' out out') → IfOk r (λ end. DefersOrAnswers q o end m m' out out')
+left_to_none q o m m' out out' (Ok end) none a = answered q o end m m' out out' none a
+left_to_none q o m m' out out' (Err fault) none a = tt
+
+pub names_none : {E : Type 0} (q : Option ℕ) (o : Outcome Kept) (m m' : MachineState) (out out' : List Record) (r : Result EventEnd E) → q ≡ None → IfOk r (λ end. EventAnswers o end m m' out out') → IfOk r (λ end. (method : ℕ) → (end ≡ ends.Native method) ↔ (q ≡ Some method))
+names_none q o m m' out out' (Ok end) none a = native_exactly q o end m m' out out' (answered q o end m m' out out' none a)
+names_none q o m m' out out' (Err fault) none a = tt
+
+pub none_within : {E : Type 0} (n : ℕ) (o : Outcome Kept) (m m' : MachineState) (out out' : List Record) (r : Result EventEnd E) → IfOk r (λ end. EventAnswers o end m m' out out') → IfOk r (λ end. (method : ℕ) → end ≡ ends.Native method → method < n)
+none_within n o m m' out out' (Ok end) a = λ method is. absurd (never_native o end m m' out out' a method is)
+none_within n o m m' out out' (Err fault) a = tt
 
 number_in : EventEnd → ℕ → ℕ
 number_in (ends.Native m) n = m

@@ -1,13 +1,13 @@
 //! Methods with code are entered (JVMS 2.6, 2.11.8, 2.11.10), after quiet classes became done in the same event (JVMS 5.5).
-ghost use Rattle.std.specs.Prelude.{◌≡◌, ◌+◌, ◌<◌, ◌≤◌, true, [], IfOk, OnOk, length};
+ghost use Rattle.std.specs.Prelude.{◌≡◌, ◌+◌, ◌<◌, ◌≤◌, true, IfOk, OnOk, length};
 ghost use Rattle.et_state.specs.NewFrames.{frame_with};
 ghost use Rattle.et_state.specs.Threads.{most_frames};
 ghost use Rattle.et_state.specs.Words.{thread_at, top};
 ghost use Rattle.et_event.specs.Answered.{EventAnswers};
 ghost use Rattle.et_event.specs.Moments.{fits_heap, moment};
-ghost use Rattle.et_event.specs.Locks.{HasSome, IsSomeFewTimes, entering_some, locks_of};
-ghost use Rattle.et_calls.specs.Asked.{MayEnter};
-ghost use Rattle.et_calls.specs.Entering.{ArePassedTo, arguments_passed, entering_event, fitting_event, prepared_for, pushed_by, pushed_event};
+ghost use Rattle.et_event.specs.Locks.{entering_some, locks_of};
+ghost use Rattle.et_calls.specs.Asked.{MayEnter, MayPush};
+ghost use Rattle.et_calls.specs.Entering.{arguments_passed, entering_event, fitting_event, prepared_for, pushed_by, pushed_event};
 
 use crate::new_frames::{
     Entered, Passed, new_head, number_of, passed_count, put_frame, receiver_of,
@@ -30,13 +30,7 @@ fn push_frame<L: Ledger>(
     lock: &Option<Lock>,
     visits: &mut Steps<L>,
 ) -> Result<(), NoMemory>
-    requires passed { ArePassedTo machine.old.guest thread passed.now }
-    requires lost { machine.old.lost ≡ [] }
-    requires few { length (thread_at machine.old.guest thread).frames < most_frames }
-    requires arguments { length (arguments_passed (top machine.old.guest thread) passed.now)
-        ≤ head.now.max_locals }
-    requires lock { HasSome machine.old (locks_of lock.now) }
-    requires times { IsSomeFewTimes machine.old (locks_of lock.now) }
+    requires pushes { MayPush machine.old thread head.now passed.now (locks_of lock.now) }
     ensures ok { OnOk result (machine.new ≡ entering_some thread
         (locks_of lock.now) (pushed_by machine.old thread passed.now
         (frame_with head.now (arguments_passed (top machine.old.guest thread) passed.now)))) }

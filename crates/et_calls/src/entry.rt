@@ -2,6 +2,7 @@
 //! first, and each other thread the method `run` of its Thread object.
 
 mod events;
+mod first;
 mod mains;
 mod runs;
 mod throws;

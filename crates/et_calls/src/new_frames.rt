@@ -12,6 +12,7 @@ ghost use Rattle.et_state.specs.Words.{thread_at, top};
 ghost use Rattle.et_program.specs.Entries.{Linked, method_at};
 ghost use Rattle.et_event.specs.Calls.{entry_arguments as arguments_first};
 ghost use Rattle.et_event.specs.Frames.{first_reference, method_frame, receiver_of as receiver_in};
+ghost use Rattle.et_calls.specs.Asked.{MayPut};
 ghost use Rattle.et_calls.specs.Entering.{ArePassedTo, arguments_passed, pushed_by};
 ghost use Rattle.et_calls.specs.declared.new_frames.Passed.TheVariants as places;
 
@@ -195,11 +196,7 @@ pub(crate) fn put_frame(
     head: &NewHead,
     passed: &Passed,
 ) -> Result<(), NoMemory>
-    requires passed { ArePassedTo machine.old.guest thread passed.now }
-    requires lost { machine.old.lost ≡ [] }
-    requires few { length (thread_at machine.old.guest thread).frames < most_frames }
-    requires arguments { length (arguments_passed (top machine.old.guest thread) passed.now)
-        ≤ head.now.max_locals }
+    requires puts { MayPut machine.old thread head.now passed.now }
     ensures { OnOk result (machine.new ≡ pushed_by machine.old thread passed.now
         (frame_with head.now (arguments_passed (top machine.old.guest thread) passed.now))) }
 {

@@ -8,9 +8,8 @@ ghost use Rattle.et_event.specs.Initialization.{is_ready as ready, prepared};
 ghost use Rattle.et_event.specs.Moments.{moment, begins};
 ghost use Rattle.et_calls.specs.Asked.{MayBegin};
 
-use crate::entering::enter_code;
+use crate::entry::first::{First, enter_first};
 use crate::entry::throws::throw_first;
-use crate::new_frames::{Entered, Passed};
 use et_base::{ClassId, NoMemory, Steps, ThreadId};
 use et_event::{GuestError, wait_event};
 use et_initialize::{Need, begin_class_event, need_of};
@@ -40,21 +39,12 @@ fn enter_main<L: Ledger>(
         end machine.old machine.new out.old out.new) }
     ensures visits { visits.new ≤ visits.old + 3 }
 {
-    let method = program.main();
-    let info = program.method(method);
-    match &info.code {
-        Some(code) => {
-            let entered = Entered {
-                method,
-                info,
-                code,
-                passed: Passed::Object(machine.entry_slot(thread)),
-                classes,
-            };
-            enter_code(alloc, program, machine, thread, &entered, out, visits)
-        }
-        None => unreachable!(),
-    }
+    let first = First {
+        method: program.main(),
+        argument: machine.entry_slot(thread),
+        classes,
+    };
+    enter_first(alloc, program, machine, thread, &first, out, visits)
 }
 
 /// The event in which thread 0 enters `main`: where its class is done, begun by this thread or quiet, it is entered, and else

@@ -4,18 +4,16 @@ ghost use Rattle.et_program.specs.Resolution.{resolve_method};
 ghost use Rattle.et_state.specs.State.{kept_of};
 ghost use Rattle.et_state.specs.Words.{thread_at};
 ghost use Rattle.et_event.specs.Answered.{EventAnswers};
-ghost use Rattle.et_event.specs.Calls.{enters_first, enters_run, entry_arguments};
+ghost use Rattle.et_event.specs.Calls.{enters_run};
 ghost use Rattle.et_event.specs.Errors.{class_called};
 ghost use Rattle.et_event.specs.Sound.{IsSoundFor};
-ghost use Rattle.et_event.specs.Moments.{begins, moment};
+ghost use Rattle.et_event.specs.Moments.{moment};
 ghost use Rattle.et_calls.specs.Asked.{MayBegin};
 ghost use Rattle.et_calls.specs.Fresh.{IsFresh};
 ghost use Rattle.et_calls.specs.Runs.{run_planned, IsRunPlan};
 
-use crate::called::codeless_error;
-use crate::entering::enter_code;
+use crate::entry::first::{First, enter_first};
 use crate::entry::throws::throw_first;
-use crate::new_frames::{Entered, Passed};
 use et_base::{MethodId, NoMemory, Steps, ThreadId};
 use et_event::GuestError;
 use et_program::Program;
@@ -78,41 +76,6 @@ fn run_plan<L: Ledger>(
     }
 }
 
-/// The event in which a thread without a frame enters a method on its Thread object; where the method has no code an error is
-/// thrown.
-fn enter_run<L: Ledger>(
-    alloc: Global,
-    program: &Program,
-    machine: &mut Machine,
-    thread: ThreadId,
-    method: MethodId,
-    out: &mut Lines,
-    visits: &mut Steps<L>,
-) -> Result<EventEnd, NoMemory>
-    requires begins { MayBegin program.now machine.old thread }
-    requires method { method < length program.now.methods }
-    ensures ok { IfOk result (λ end. EventAnswers (enters_first
-        (moment program.now machine.old thread) (begins (moment program.now machine.old thread))
-        (entry_arguments (thread_at machine.old.guest thread).object) method)
-        end machine.old machine.new out.old out.new) }
-    ensures visits { visits.new ≤ visits.old + 3 }
-{
-    let info = program.method(method);
-    match &info.code {
-        Some(code) => {
-            let entered = Entered {
-                method,
-                info,
-                code,
-                passed: Passed::Object(machine.object_of(thread)),
-                classes: &[],
-            };
-            enter_code(alloc, program, machine, thread, &entered, out, visits)
-        }
-        None => throw_first(program, machine, thread, codeless_error(info), out),
-    }
-}
-
 /// The event in which a thread other than the first is entered.
 pub(crate) fn run_event<L: Ledger>(
     alloc: Global,
@@ -135,7 +98,12 @@ pub(crate) fn run_event<L: Ledger>(
         }),
         RunPlan::Throws(error) => throw_first(program, machine, thread, error, out),
         RunPlan::Enters(method) => {
-            enter_run(alloc, program, machine, thread, method, out, visits)
+            let first = First {
+                method,
+                argument: machine.object_of(thread),
+                classes: &[],
+            };
+            enter_first(alloc, program, machine, thread, &first, out, visits)
         }
     }
 }

@@ -3,6 +3,7 @@ use Rattle.std.specs.Prelude.{unwrap_or}
 use Rattle.et_base.specs.declared.value.Value.{Value}
 use Rattle.et_state.specs.NewFrames.{frame_with}
 use Rattle.et_state.specs.Threads.{FrameState}
+use Rattle.et_state.specs.State.{MachineState}
 use Rattle.et_state.specs.Words.{top}
 use Rattle.et_state.specs.declared.records.Record.TheVariants.{Enter}
 use Rattle.et_event.specs.Frames.{method_frame, receiver_of}
@@ -11,36 +12,30 @@ use Rattle.et_calls.specs.Entering.{arguments_passed, pushed_by}
 use Rattle.et_calls.proofs.EnteredFrames.{base_arguments, base_few, base_lock, base_passed, entered_lock, method_entered}
 use Rattle.et_calls.proofs.entering.push_event.Goals as goal
 
-pub push_frame-requires-clause-passed : goal.push_frame-requires-clause-passed
-push_frame-requires-clause-passed g c =
-    base_passed c.args.program.now c.args.thread c.args.entered.now.classes.now c.args.entered.now.passed c.args.machine.now c.begin_prepared.new.machine c.in_ok-begin_prepared.ensures.0 c.requires.enters.entered.passed
-
-pub push_frame-requires-clause-few : goal.push_frame-requires-clause-few
-push_frame-requires-clause-few g c =
-    base_few c.args.program.now c.args.thread c.args.entered.now.classes.now c.args.machine.now c.begin_prepared.new.machine c.in_ok-begin_prepared.ensures.0 c.requires.few
-
-pub push_frame-requires-clause-arguments : goal.push_frame-requires-clause-arguments
-push_frame-requires-clause-arguments g c =
-    let same = base_arguments c.args.program.now c.args.thread c.args.entered.now.classes.now c.args.entered.now.passed c.args.machine.now c.begin_prepared.new.machine c.in_ok-begin_prepared.ensures.0 in
-    omega (arith, ap length same, c.passed_count-count.ensures c.args.machine.now.guest c.args.thread c.requires.enters.entered.passed, c.new_head-head.ensures.arguments)
-
-pub push_frame-requires-clause-lock : goal.push_frame-requires-clause-lock
-push_frame-requires-clause-lock g c =
+pub push_frame-requires : goal.push_frame-requires
+push_frame-requires g c =
     let p = c.args.program.now in
+    let t = c.args.thread in
+    let m = c.args.machine.now in
+    let m₂ = c.begin_prepared.new.machine in
     let x = c.args.entered.now in
     let lock = locks_of c.lock_for-lock.result in
     let received = c.receiver_of-receiver.ensures.value p c.requires.enters.entered.info in
-    let locked = entered_lock p c.args.thread x c.args.machine.now c.receiver_of-receiver.result lock c.requires.enters.sound c.requires.enters.entered received c.receiver_of-receiver.ensures.held c.lock_for-lock.ensures in
-    (base_lock p c.args.thread x.classes.now c.args.machine.now c.begin_prepared.new.machine lock c.in_ok-begin_prepared.ensures.0 c.requires.enters.sound locked.1).0
-
-pub push_frame-requires-clause-times : goal.push_frame-requires-clause-times
-push_frame-requires-clause-times g c =
-    let p = c.args.program.now in
-    let x = c.args.entered.now in
-    let lock = locks_of c.lock_for-lock.result in
-    let received = c.receiver_of-receiver.ensures.value p c.requires.enters.entered.info in
-    let locked = entered_lock p c.args.thread x c.args.machine.now c.receiver_of-receiver.result lock c.requires.enters.sound c.requires.enters.entered received c.receiver_of-receiver.ensures.held c.lock_for-lock.ensures in
-    (base_lock p c.args.thread x.classes.now c.args.machine.now c.begin_prepared.new.machine lock c.in_ok-begin_prepared.ensures.0 c.requires.enters.sound locked.1).1
+    let locked = entered_lock p t x m c.receiver_of-receiver.result lock c.requires.enters.sound c.requires.enters.entered received c.receiver_of-receiver.ensures.held c.lock_for-lock.ensures in
+    let there = base_lock p t x.classes.now m m₂ lock c.in_ok-begin_prepared.ensures.0 c.requires.enters.sound locked.1 in
+    let same = base_arguments p t x.classes.now x.passed m m₂ c.in_ok-begin_prepared.ensures.0 in
+    record {
+      pushes = record {
+        puts = record {
+          passed = base_passed p t x.classes.now x.passed m m₂ c.in_ok-begin_prepared.ensures.0 c.requires.enters.entered.passed;
+          lost = ap (λ (z : MachineState). z.lost) c.in_ok-begin_prepared.ensures.0;
+          few = base_few p t x.classes.now m m₂ c.in_ok-begin_prepared.ensures.0 c.requires.few;
+          arguments = omega (arith, ap length same, c.passed_count-count.ensures m.guest t c.requires.enters.entered.passed, c.new_head-head.ensures.arguments);
+        };
+        lock = there.0;
+        times = there.1;
+      };
+    }
 
 pub returns-clause-ok : goal.returns-clause-ok
 returns-clause-ok g c =
