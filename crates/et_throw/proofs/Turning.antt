@@ -15,7 +15,7 @@ use Rattle.et_state.specs.Sound.{IsSound}
 use Rattle.et_state.proofs.Places.{pending_root}
 use Rattle.et_event.specs.Sound.{IsSoundFor, IsStaged, AreSoundFrames}
 use Rattle.et_event.specs.Places.{Runs}
-use Rattle.et_throw.specs.Unwinding.{Unwinds}
+use Rattle.et_throw.specs.Unwinding.{Unwinds, UnwindsThrown}
 
 -- THE FRAME
 
@@ -106,5 +106,9 @@ unwinds_there p m t o sound clock turn pending =
     let has : HasFrame m.guest t = unwinds_frame m.guest t turn in
     record { sound = sound; clock = clock; frame = has; pending = pending; held = pending_held (kept_of m) t o sound.held has.thread pending }
 
-pub class_known : (p : Linked) (m : MachineState) (t o class : ℕ) → Unwinds p m t o → class ≡ (object_at m.heap o).class → class < length p.classes
-class_known p m t o class u e = subst (λ (k : ℕ). k < length p.classes) (sym e) (class_there p (kept_of m) o u.sound u.held)
+pub of_class : (p : Linked) (m : MachineState) (t o class : ℕ) → Unwinds p m t o → class ≡ (object_at m.heap o).class → UnwindsThrown p m t (record { exception = o; class = class })
+of_class p m t o class u e = record {
+  unwinds = u;
+  thrown = e;
+  known = subst (λ (k : ℕ). k < length p.classes) (sym e) (class_there p (kept_of m) o u.sound u.held);
+}

@@ -3,17 +3,19 @@ use Rattle.std.specs.Prelude.{◌≡◌, ℕ, ◌+◌, ◌<◌, ◌^◌, Bool, t
 use Rattle.et_program.specs.Entries.{Linked}
 use Rattle.et_state.specs.Threads.{with_pending, with_top_of, without_top}
 use Rattle.et_state.specs.ThreadRoots.{frame_roots}
-use Rattle.et_heap.specs.Objects.{IsHeld, new_object, has_room}
+use Rattle.et_heap.specs.Objects.{IsHeld, object_at, new_object, has_room}
 use Rattle.et_state.specs.declared.class_state.ClassState.TheVariants.{Failed}
 use Rattle.et_state.specs.State.{Kept, MachineState, kept_of}
+use Rattle.et_state.specs.Outcome.{Outcome}
 use Rattle.et_state.specs.Words.{HasFrame, thread_at, with_thread, top, ticked, begun, steps_guest, with_class_state, with_new_object}
 use Rattle.et_state.specs.declared.records.Record.{Record}
 use Rattle.et_state.specs.declared.records.Record.TheVariants.{Unwind}
 use Rattle.et_event.specs.Moments.{Moment, Doing, current_frame, begins, told}
 use Rattle.et_event.specs.Monitors as table
 use Rattle.et_event.specs.Sound.{IsSoundFor}
-use Rattle.et_event.specs.Throw.{dropped, handled}
+use Rattle.et_event.specs.Throw.{dropped, handled, unwound, unwound_clinit}
 use Rattle.et_event.specs.Locks.{owns_at, leaving_lock}
+use Rattle.et_throw.specs.declared.failing.Thrown.{Thrown}
 
 -- a thread with a frame in which an exception is to be unwound, in a sound state
 pub record Unwinds (p : Linked) (m : MachineState) (t o : ℕ) : Type 0 where
@@ -22,6 +24,17 @@ pub record Unwinds (p : Linked) (m : MachineState) (t o : ℕ) : Type 0 where
   pub frame : HasFrame m.guest t
   pub pending : (thread_at m.guest t).pending ≡ Some o
   pub held : IsHeld m.heap o
+
+-- .. whose class is this
+pub record UnwindsThrown (p : Linked) (m : MachineState) (t : ℕ) (x : Thrown) : Type 0 where
+  pub unwinds : Unwinds p m t x.exception
+  pub thrown : x.class ≡ (object_at m.heap x.exception).class
+  pub known : x.class < length p.classes
+
+-- the event in which the frame of a method is left: that of a <clinit> fails its class
+abbrev pub method_left : Moment → ℕ → Option ℕ → Outcome Kept
+method_left e o None = unwound e o
+method_left e o (Some class) = unwound_clinit e class o
 
 -- the monitor of a lock is left once, where the thread owns it
 abbrev pub leaving_if_owned : ℕ → Option table.Lock → MachineState → MachineState

@@ -12,7 +12,7 @@ ghost use Rattle.et_event.specs.Initialization.{with_state};
 ghost use Rattle.et_event.specs.Moments.{moment, fits_heap, ends_event};
 ghost use Rattle.et_event.specs.Throw.{failed, replaced};
 ghost use Rattle.et_throw.specs.Leaving.{MayLeave};
-ghost use Rattle.et_throw.specs.Unwinding.{Unwinds, IsThrowMade, initializer_left, initializer_dropped};
+ghost use Rattle.et_throw.specs.Unwinding.{UnwindsThrown, IsThrowMade, initializer_left, initializer_dropped};
 
 use crate::records::{tell_error, tell_unwind};
 use et_base::{ClassId, NoMemory, ObjectId, Steps, ThreadId, Value};
@@ -155,12 +155,10 @@ pub(crate) fn fail_event<L: Ledger>(
     out: &mut Lines,
     visits: &mut Steps<L>,
 ) -> Result<EventEnd, NoMemory>
-    requires unwinds { Unwinds program.now machine.old thread thrown.exception }
+    requires thrown { UnwindsThrown program.now machine.old thread thrown }
     requires small { length (top machine.old.guest thread).locals
         + length (top machine.old.guest thread).operands < 2 ^ 17 }
     requires class { initializer.class < length program.now.classes }
-    requires thrown { thrown.class ≡ (object_at machine.old.heap thrown.exception).class }
-    requires known { thrown.class < length program.now.classes }
     ensures ok { IfOk result (λ end. EventAnswers (ends_event (failed
         (moment program.now machine.old thread) initializer.class thrown.exception (initializer_left
         (moment program.now machine.old thread) initializer.entered thrown.exception)))

@@ -1,5 +1,5 @@
 //! The handler of an exception (JVMS 2.10, 4.7.3).
-ghost use Rattle.std.specs.Prelude.{◌≡◌, ◌<◌, Some, length, find, option_map};
+ghost use Rattle.std.specs.Prelude.{◌≡◌, ◌+◌, ◌<◌, ◌^◌, Some, length, find, option_map};
 ghost use Rattle.et_class.specs.Looks.{class_name_at};
 ghost use Rattle.et_code.specs.declared.body.TableRow.{TableRow as Row};
 ghost use Rattle.et_program.specs.Referring.{pool_of_class};
@@ -77,8 +77,9 @@ fn first_handler(
 }
 
 /// Where the handler of an exception of a class begins in the method that a frame runs: that of the first row of its
-/// exception table whose range has the pc, and which catches all, or the class or one above it.
-#[tactic(auto, using(crate::proofs::Handling::handler_found))]
+/// exception table whose range has the pc, and which catches all, or the class or one above it. What stands in the frame has
+/// room on the list of the lost objects.
+#[tactic(auto, using(crate::proofs::Handling::handler_found, crate::proofs::Handling::small_frame))]
 pub(crate) fn handler(
     program: &Program,
     machine: &Machine,
@@ -89,8 +90,10 @@ pub(crate) fn handler(
     requires runs { Runs program.now (top machine.now.guest thread) }
     requires class { class < length program.now.classes }
     requires interfaces { KnowsInterfaces program.now }
-    ensures { result ≡ option_map
+    ensures row { result ≡ option_map
         (λ (row : Row). row.handler) (handler_of program.now (top machine.now.guest thread) class) }
+    ensures small { length (top machine.now.guest thread).locals
+        + length (top machine.now.guest thread).operands < 2 ^ 17 }
 {
     let method = method_of(program, machine, thread);
     let pc = machine.pc(thread);

@@ -1,7 +1,6 @@
 //! The turn in which an exception is unwound.
-ghost use Rattle.std.specs.Prelude.{◌≡◌, ◌+◌, ◌<◌, ◌≤◌, ◌^◌, IfOk, OnErr, length};
+ghost use Rattle.std.specs.Prelude.{◌≡◌, ◌+◌, ◌<◌, ◌≤◌, ◌^◌, IfOk, IfSome, OnErr, length};
 ghost use Rattle.et_heap.specs.Objects.{IsHeld, object_at};
-ghost use Rattle.et_state.specs.declared.stage.Stage.TheVariants as stages;
 ghost use Rattle.et_state.specs.declared.stage.Turn.TheVariants as turns;
 ghost use Rattle.et_state.specs.Threads.{turn_of};
 ghost use Rattle.et_state.specs.State.{kept_of};
@@ -10,18 +9,17 @@ ghost use Rattle.et_event.specs.Answered.{EventAnswers};
 ghost use Rattle.et_event.specs.Event.{event};
 ghost use Rattle.et_event.specs.Sites.{running_method as method_in};
 ghost use Rattle.et_event.specs.Sound.{IsSoundFor};
-ghost use Rattle.et_event.specs.Throw.{unwound, unwinds};
+ghost use Rattle.et_event.specs.Throw.{by_handler, handler_of, unwound, unwinds};
 ghost use Rattle.et_event.specs.Monitors.{lock_in as lock_in_frame};
 ghost use Rattle.et_event.specs.Locks.{locks_of, HasSome};
 ghost use Rattle.et_event.specs.Places.{Runs};
 ghost use Rattle.et_event.specs.Interfaces.{KnowsInterfaces};
 ghost use Rattle.et_event.specs.Moments.{moment};
 ghost use Rattle.et_throw.specs.Leaving.{MayLeave};
-ghost use Rattle.et_throw.specs.Unwinding.{Unwinds, leaving_if_owned};
+ghost use Rattle.et_throw.specs.Unwinding.{Unwinds, UnwindsThrown, leaving_if_owned, method_left};
 
 use crate::catching::catch_event;
 use crate::failing::{Initializer, Thrown, fail_event};
-use crate::frames::frame_is_small;
 use crate::handlers::handler;
 use crate::records::unwind_record;
 use et_base::{ClassId, NoMemory, ObjectId, Steps, ThreadId};
@@ -88,70 +86,41 @@ fn lock_of_frame(program: &Program, machine: &Machine, thread: ThreadId) -> Opti
     lock_in(machine.stage(thread), method, machine.lock(thread))
 }
 
-/// The turn in the frame of a method: a handler is entered, or the frame is dropped.
+/// The turn in the frame of a method: a handler is entered, or the frame is dropped. Where it is the `<clinit>` of a class, the
+/// class fails then.
 #[tactic(auto, using(crate::proofs::Turns::by_some, crate::proofs::Turns::by_none))]
 fn unwind_method<L: Ledger>(
     program: &Program,
     machine: &mut Machine,
     thread: ThreadId,
+    clinit: Option<ClassId>,
     thrown: Thrown,
     out: &mut Lines,
     visits: &mut Steps<L>,
 ) -> Result<EventEnd, NoMemory>
-    requires unwinds { Unwinds program.now machine.old thread thrown.exception }
+    requires thrown { UnwindsThrown program.now machine.old thread thrown }
     requires runs { Runs program.now (top machine.old.guest thread) }
-    requires thrown { thrown.class ≡ (object_at machine.old.heap thrown.exception).class }
-    requires known { thrown.class < length program.now.classes }
+    requires clinit { IfSome clinit (λ class. class < length program.now.classes) }
     requires interfaces { KnowsInterfaces program.now }
-    ensures ok { IfOk result (λ end. EventAnswers (unwinds (moment program.now machine.old thread)
-        thrown.exception stages.Plain) end machine.old machine.new out.old out.new) }
+    ensures ok { IfOk result
+        (λ end. EventAnswers (by_handler (moment program.now machine.old thread) thrown.exception
+        (method_left (moment program.now machine.old thread) thrown.exception clinit)
+        (handler_of program.now (top machine.old.guest thread)
+        (object_at machine.old.heap thrown.exception).class))
+        end machine.old machine.new out.old out.new) }
     ensures err { OnErr result (machine.new.guest ≡ machine.old.guest) }
     ensures visits { visits.new ≤ visits.old + 3 }
 {
-    frame_is_small(program, machine, thread);
-    match handler(program, machine, thread, thrown.class) {
-        Some(pc) => Ok(catch_event(machine, thread, thrown.exception, pc)),
+    let exception = thrown.exception;
+    if let Some(pc) = handler(program, machine, thread, thrown.class) {
+        return Ok(catch_event(machine, thread, exception, pc));
+    }
+    match clinit {
         None => {
             let lock = lock_of_frame(program, machine, thread);
-            unwind_frame(
-                program,
-                machine,
-                thread,
-                thrown.exception,
-                &lock,
-                out,
-                visits,
-            )
+            unwind_frame(program, machine, thread, exception, &lock, out, visits)
         }
-    }
-}
-
-/// The turn in the `<clinit>` of a class: a handler is entered, or the initializer fails.
-#[tactic(auto, using(crate::proofs::Turns::by_some, crate::proofs::Turns::by_none))]
-fn unwind_clinit<L: Ledger>(
-    program: &Program,
-    machine: &mut Machine,
-    thread: ThreadId,
-    class: ClassId,
-    thrown: Thrown,
-    out: &mut Lines,
-    visits: &mut Steps<L>,
-) -> Result<EventEnd, NoMemory>
-    requires unwinds { Unwinds program.now machine.old thread thrown.exception }
-    requires runs { Runs program.now (top machine.old.guest thread) }
-    requires class { class < length program.now.classes }
-    requires thrown { thrown.class ≡ (object_at machine.old.heap thrown.exception).class }
-    requires known { thrown.class < length program.now.classes }
-    requires interfaces { KnowsInterfaces program.now }
-    ensures ok { IfOk result (λ end. EventAnswers (unwinds (moment program.now machine.old thread)
-        thrown.exception (stages.Clinit class)) end machine.old machine.new out.old out.new) }
-    ensures err { OnErr result (machine.new.guest ≡ machine.old.guest) }
-    ensures visits { visits.new ≤ visits.old + 1 }
-{
-    frame_is_small(program, machine, thread);
-    match handler(program, machine, thread, thrown.class) {
-        Some(pc) => Ok(catch_event(machine, thread, thrown.exception, pc)),
-        None => {
+        Some(class) => {
             let initializer = Initializer {
                 class,
                 entered: true,
@@ -190,7 +159,7 @@ fn unwind_event<L: Ledger>(
     let class = class_of(machine, exception, visits);
     let thrown = Thrown { exception, class };
     match machine.stage(thread) {
-        Stage::Plain => unwind_method(program, machine, thread, thrown, out, visits),
+        Stage::Plain => unwind_method(program, machine, thread, None, thrown, out, visits),
         Stage::Before(class) => {
             let initializer = Initializer {
                 class,
@@ -198,7 +167,9 @@ fn unwind_event<L: Ledger>(
             };
             fail_event(program, machine, thread, initializer, thrown, out, visits)
         }
-        Stage::Clinit(class) => unwind_clinit(program, machine, thread, class, thrown, out, visits),
+        Stage::Clinit(class) => {
+            unwind_method(program, machine, thread, Some(class), thrown, out, visits)
+        }
     }
 }
 

@@ -3,16 +3,19 @@ use Rattle.et_state.specs.declared.stage.Stage.{Stage}
 use Rattle.et_state.specs.declared.stage.Stage.TheVariants.{Plain, Before, Clinit}
 use Rattle.et_state.specs.Threads.{is_before_class}
 use Rattle.et_state.specs.State.{kept_of}
-use Rattle.et_throw.proofs.Turning.{class_known, runs_staged, before_there, clinit_there}
+use Rattle.et_throw.proofs.Turning.{of_class, runs_staged, before_there, clinit_there}
 use Rattle.et_throw.proofs.Turns.{stage_answers}
 use Rattle.et_throw.proofs.unwinding.unwind_event.Goals as goal
+
+pub unwind_method-requires-clause-thrown : goal.unwind_method-requires-clause-thrown
+unwind_method-requires-clause-thrown g c = of_class c.args.program.now c.args.machine.now c.args.thread c.args.exception c.class_of-class.result c.requires.unwinds c.class_of-class.ensures.class
 
 pub unwind_method-requires-clause-runs : goal.unwind_method-requires-clause-runs
 unwind_method-requires-clause-runs g c =
     runs_staged c.args.program.now (kept_of c.args.machine.now) c.args.thread c.requires.unwinds.sound c.requires.unwinds.frame (ap (λ (s : Stage). is_before_class s) (sym c.stage.ensures ∙ c.in-Plain.is))
 
-pub unwind_method-requires-clause-known : goal.unwind_method-requires-clause-known
-unwind_method-requires-clause-known g c = class_known c.args.program.now c.args.machine.now c.args.thread c.args.exception c.class_of-class.result c.requires.unwinds c.class_of-class.ensures.class
+pub fail_event-requires-clause-thrown : goal.fail_event-requires-clause-thrown
+fail_event-requires-clause-thrown g c = of_class c.args.program.now c.args.machine.now c.args.thread c.args.exception c.class_of-class.result c.requires.unwinds c.class_of-class.ensures.class
 
 pub fail_event-requires-clause-small : goal.fail_event-requires-clause-small
 fail_event-requires-clause-small g c = (before_there c.args.program.now (kept_of c.args.machine.now) c.args.thread c.in-Before.class c.requires.unwinds.sound c.requires.unwinds.frame (sym c.stage.ensures ∙ c.in-Before.is)).1
@@ -20,18 +23,15 @@ fail_event-requires-clause-small g c = (before_there c.args.program.now (kept_of
 pub fail_event-requires-clause-class : goal.fail_event-requires-clause-class
 fail_event-requires-clause-class g c = (before_there c.args.program.now (kept_of c.args.machine.now) c.args.thread c.in-Before.class c.requires.unwinds.sound c.requires.unwinds.frame (sym c.stage.ensures ∙ c.in-Before.is)).0
 
-pub fail_event-requires-clause-known : goal.fail_event-requires-clause-known
-fail_event-requires-clause-known g c = class_known c.args.program.now c.args.machine.now c.args.thread c.args.exception c.class_of-class.result c.requires.unwinds c.class_of-class.ensures.class
+pub unwind_method-requires-in-Clinit-clause-thrown : goal.unwind_method-requires-in-Clinit-clause-thrown
+unwind_method-requires-in-Clinit-clause-thrown g c = of_class c.args.program.now c.args.machine.now c.args.thread c.args.exception c.class_of-class.result c.requires.unwinds c.class_of-class.ensures.class
 
-pub unwind_clinit-requires-clause-runs : goal.unwind_clinit-requires-clause-runs
-unwind_clinit-requires-clause-runs g c =
+pub unwind_method-requires-in-Clinit-clause-runs : goal.unwind_method-requires-in-Clinit-clause-runs
+unwind_method-requires-in-Clinit-clause-runs g c =
     runs_staged c.args.program.now (kept_of c.args.machine.now) c.args.thread c.requires.unwinds.sound c.requires.unwinds.frame (ap (λ (s : Stage). is_before_class s) (sym c.stage.ensures ∙ c.in-Clinit.is))
 
-pub unwind_clinit-requires-clause-class : goal.unwind_clinit-requires-clause-class
-unwind_clinit-requires-clause-class g c = clinit_there c.args.program.now (kept_of c.args.machine.now) c.args.thread c.in-Clinit.class c.requires.unwinds.sound c.requires.unwinds.frame (sym c.stage.ensures ∙ c.in-Clinit.is)
-
-pub unwind_clinit-requires-clause-known : goal.unwind_clinit-requires-clause-known
-unwind_clinit-requires-clause-known g c = class_known c.args.program.now c.args.machine.now c.args.thread c.args.exception c.class_of-class.result c.requires.unwinds c.class_of-class.ensures.class
+pub unwind_method-requires-in-Clinit-clause-clinit : goal.unwind_method-requires-in-Clinit-clause-clinit
+unwind_method-requires-in-Clinit-clause-clinit g c = clinit_there c.args.program.now (kept_of c.args.machine.now) c.args.thread c.in-Clinit.class c.requires.unwinds.sound c.requires.unwinds.frame (sym c.stage.ensures ∙ c.in-Clinit.is)
 
 pub returns-in-Plain-clause-ok : goal.returns-in-Plain-clause-ok
 returns-in-Plain-clause-ok g c = stage_answers c.args.program.now c.args.thread c.args.exception Plain c.args.machine.now _ c.args.out.now _ c.unwind_method.result (sym c.stage.ensures ∙ c.in-Plain.is) c.unwind_method.ensures.ok
@@ -40,4 +40,4 @@ pub returns-in-Before-clause-ok : goal.returns-in-Before-clause-ok
 returns-in-Before-clause-ok g c = stage_answers c.args.program.now c.args.thread c.args.exception (Before c.in-Before.class) c.args.machine.now _ c.args.out.now _ c.fail_event.result (sym c.stage.ensures ∙ c.in-Before.is) c.fail_event.ensures.ok
 
 pub returns-in-Clinit-clause-ok : goal.returns-in-Clinit-clause-ok
-returns-in-Clinit-clause-ok g c = stage_answers c.args.program.now c.args.thread c.args.exception (Clinit c.in-Clinit.class) c.args.machine.now _ c.args.out.now _ c.unwind_clinit.result (sym c.stage.ensures ∙ c.in-Clinit.is) c.unwind_clinit.ensures.ok
+returns-in-Clinit-clause-ok g c = stage_answers c.args.program.now c.args.thread c.args.exception (Clinit c.in-Clinit.class) c.args.machine.now _ c.args.out.now _ c.unwind_method-in-Clinit.result (sym c.stage.ensures ∙ c.in-Clinit.is) c.unwind_method-in-Clinit.ensures.ok
