@@ -1,5 +1,5 @@
 -- What an event does that needs a class, by its need; and an event in which quiet classes become done.
-use Rattle.std.proofs.Common.{◌≡◌, ℕ, Bool, true, false, List, ◌++◌, refl, sym, ◌∙◌, ap, subst, append-nil}
+use Rattle.std.proofs.Common.{◌≡◌, ℕ, Bool, true, false, List, ◌++◌, refl, sym, ◌∙◌, ap}
 use Rattle.std.specs.Prelude.{◌==◌, if◌then◌else◌}
 use Rattle.et_state.specs.declared.class_state.ClassState.{ClassState}
 use Rattle.et_state.specs.declared.class_state.ClassState.TheVariants.{Untouched, Begun, Done, Failed}
@@ -15,7 +15,7 @@ use Rattle.et_initialize.specs.declared.needs.Need.TheVariants.{Ready, Waits, Qu
 use Rattle.et_initialize.specs.Needs.{need_by, need_of, met}
 use Rattle.et_event.specs.Telling.{so_far, StandsAt}
 use Rattle.et_initialize.specs.Under.{base}
-use Rattle.et_initialize.proofs.Records.{behind, behind_quietly}
+use Rattle.et_initialize.proofs.Records.{behind_quietly, came_behind, fits_behind}
 
 -- what the classes come to, with the records that were there
 abbrev pub quiet : Linked → ℕ → MachineState → ℕ → Doing
@@ -23,22 +23,10 @@ quiet p t m c = quietly_done (moment p m t) c (begins (moment p m t))
 
 pub quiet_came : (p : Linked) (t c : ℕ) (m m₁ m₂ : MachineState) (out out₂ : List Record) → m₁ ≡ begun m → StandsAt (quietly_done (moment p m₁ t) c (so_far m₁ out)) m₁ m₂ out₂
     → (m₂ ≡ base m (quiet p t m c)) × (out₂ ≡ out ++ (quiet p t m c).records)
-quiet_came p t c m m₁ m₂ out out₂ e h =
-    let q = moment p m t in
-    let d = begins q in
-    let n = begun m in
-    let a : StandsAt (quietly_done (moment p n t) c (so_far n out)) n m₂ out₂ = subst (λ (x : MachineState). StandsAt (quietly_done (moment p x t) c (so_far x out)) x m₂ out₂) e h in
-    let b : StandsAt (quietly_done q c (behind out d)) n m₂ out₂ = subst (λ (r : List Record). StandsAt (quietly_done q c (record { state = d.state; records = r })) n m₂ out₂) (sym (append-nil out)) a in
-    subst (λ (x : Doing). StandsAt x n m₂ out₂) (behind_quietly out q c d) b
+quiet_came p t c m m₁ m₂ out out₂ e h = came_behind (λ q x. quietly_done q c x) p t m m₁ m₂ out out₂ (λ x. refl) (behind_quietly out (moment p m t) c (begins (moment p m t))) e h
 
 pub quiet_fit : (p : Linked) (t c : ℕ) (m m₁ : MachineState) (out : List Record) → m₁ ≡ begun m → fits_heap (quiet p t m c).state.heap ≡ true → fits_heap (quietly_done (moment p m₁ t) c (so_far m₁ out)).state.heap ≡ true
-quiet_fit p t c m m₁ out e fit =
-    let q = moment p m t in
-    let d = begins q in
-    let n = begun m in
-    let one : fits_heap (quietly_done q c (behind out d)).state.heap ≡ true = ap (λ (x : Doing). fits_heap x.state.heap) (behind_quietly out q c d) ∙ fit in
-    let two : fits_heap (quietly_done (moment p n t) c (so_far n out)).state.heap ≡ true = subst (λ (r : List Record). fits_heap (quietly_done q c (record { state = d.state; records = r })).state.heap ≡ true) (append-nil out) one in
-    ap (λ (x : MachineState). fits_heap (quietly_done (moment p x t) c (so_far x out)).state.heap) e ∙ two
+quiet_fit p t c m m₁ out e fit = fits_behind (λ q x. quietly_done q c x) p t m m₁ out (λ x. refl) (behind_quietly out (moment p m t) c (begins (moment p m t))) e fit
 
 -- WHAT IS NEEDED
 
@@ -63,7 +51,7 @@ not_begins : (b : Bool) → (if b then Ready else Waits) ≡ Begins → ⊥
 not_begins true e = cc
 not_begins false e = cc
 
-begins_untouched : (e : Moment) (d : Doing) (c : ℕ) (s : ClassState) → need_by e d c s ≡ Begins → s ≡ Untouched
+pub begins_untouched : (e : Moment) (d : Doing) (c : ℕ) (s : ClassState) → need_by e d c s ≡ Begins → s ≡ Untouched
 begins_untouched e d c Untouched h = refl
 begins_untouched e d c (Begun t) h = absurd (not_begins (t == e.thread) h)
 begins_untouched e d c Done h = cc

@@ -1,5 +1,5 @@
 -- The prerequisites of a class.
-use Rattle.std.proofs.Common.{◌≡◌, ℕ, zero, suc, ◌+◌, ◌<◌, ◌⊎◌, Bool, true, false, cond, List, [], ◌∷◌, length, get_or, take, drop, All, Some, None, refl, sym, ◌∙◌, ap, subst, arith, inl, inr, Contains}
+use Rattle.std.proofs.Common.{◌≡◌, ℕ, zero, suc, ◌+◌, ◌<◌, ◌⊎◌, Bool, true, false, cond, List, [], ◌∷◌, length, get_or, take, All, Some, None, refl, sym, ◌∙◌, ap, subst, arith, inl, inr, Contains}
 use Rattle.std.specs.Prelude.{fold, ◌==◌, ◌&&◌, if◌then◌else◌, find, take_while, not}
 use Rattle.std.specs.List.{list_all, prefix_len}
 use Rattle.std.proofs.lemmas.Bool.{cases_eq, and_parts}
@@ -14,7 +14,7 @@ use Rattle.et_state.specs.Words.{class_state_at}
 use Rattle.et_program.specs.Entries.{Linked, class_at}
 use Rattle.et_state.specs.declared.records.Record.{Record}
 use Rattle.et_state.specs.Outcome.{Outcome}
-use Rattle.et_event.specs.Moments.{Moment, moment, Doing, begins, fits_heap}
+use Rattle.et_event.specs.Moments.{Moment, moment, Doing, begins}
 use Rattle.et_event.specs.Initialization.{state_of, with_state, class_done, quietly_done, quietly_if_untouched, prepared, is_quiet, is_quiet_state, is_ready, is_ready_state, needed, initialized}
 use Rattle.et_initialize.specs.declared.needs.Need.{Need}
 use Rattle.et_initialize.specs.declared.needs.Need.TheVariants.{Ready, Waits, Quiet, Begins}
@@ -23,8 +23,8 @@ use Rattle.et_event.specs.InitializationOrder.{IsInOrder}
 use Rattle.et_initialize.specs.Texts.{CountedAll}
 use Rattle.et_event.specs.Telling.{so_far, StandsAt}
 use Rattle.et_initialize.specs.Under.{IsInitializing, HasMadeStrings}
-use Rattle.et_initialize.proofs.Running.{at, came, known}
-use Rattle.et_initialize.proofs.Setting.{Grown, grown_none, grown_then, fits_grown, fold_rest, grown_order, done_step, state_changed, state_set, follows_each}
+use Rattle.et_initialize.proofs.Running.{at, known}
+use Rattle.et_initialize.proofs.Setting.{Grown, grown_none, grown_then, grown_order, done_step, state_changed, state_set, follows_each}
 use Rattle.et_initialize.proofs.Legal.{quietly_made, quietly_ready, quietly_threads, quietly_monitors}
 use Rattle.et_initialize.proofs.Counting.{done_is}
 use Rattle.et_initialize.proofs.Records.{behind, behind_quietly}
@@ -340,34 +340,6 @@ counted_pre m seen seen' e d₀ d c has un t count h = elim (t.each c) [
 
 abbrev pub pre_first : Moment → Doing → List ℕ → ℕ → Doing
 pre_first e d ks k = fold (pre_step e) d (take k ks)
-
-pre_fits : (e : Moment) (d : Doing) (ks : List ℕ) (k : ℕ) → k < length ks → fits_heap (prepared e ks d).state.heap ≡ true → fits_heap (pre_step e (pre_first e d ks k) (get_or ks k 0)).state.heap ≡ true
-pre_fits e d ks k lt fit =
-    let x = pre_first e d ks (k + 1) in
-    let one : x ≡ pre_step e (pre_first e d ks k) (get_or ks k 0) = fold_more (pre_step e) d ks k 0 lt in
-    let whole = ap (λ (y : Doing). fits_heap y.state.heap) (fold_rest (pre_step e) d ks (k + 1)) ∙ fit in
-    ap (λ (y : Doing). fits_heap y.state.heap) (sym one) ∙ fits_grown x.state.heap (prepared e (drop (k + 1) ks) x).state.heap (grown_prepared e (drop (k + 1) ks) x) whole
-
-pub pre_has_room : (p : Linked) (t : ℕ) (m₀ m : MachineState) (out₀ out : List Record) (ks : List ℕ) (k c : ℕ) → k < length ks → c ≡ get_or ks k c
-    → fits_heap (prepared (moment p m₀ t) ks (so_far m₀ out₀)).state.heap ≡ true → StandsAt (pre_first (moment p m₀ t) (so_far m₀ out₀) ks k) m₀ m out
-    → fits_heap (pre_step (moment p m t) (so_far m out) c).state.heap ≡ true
-pre_has_room p t m₀ m out₀ out ks k c within read fit before =
-    let e = moment p m₀ t in
-    let d = so_far m₀ out₀ in
-    let one = pre_fits e d ks k within fit in
-    let same : get_or ks k 0 ≡ c = sym (read ∙ get_or_default ks k c 0 within) in
-    known (λ b x. fits_heap (pre_step (at p t b) x c).state.heap ≡ true) m₀ m out (pre_first e d ks k) before.0 before.1 (subst (λ (g : ℕ). fits_heap (pre_step e (pre_first e d ks k) g).state.heap ≡ true) same one)
-
-pub pre_came : (p : Linked) (t : ℕ) (m₀ m m' : MachineState) (out₀ out out' : List Record) (ks : List ℕ) (k c : ℕ) → k < length ks → c ≡ get_or ks k c
-    → StandsAt (pre_first (moment p m₀ t) (so_far m₀ out₀) ks k) m₀ m out → StandsAt (pre_step (moment p m t) (so_far m out) c) m m' out'
-    → StandsAt (pre_first (moment p m₀ t) (so_far m₀ out₀) ks (k + 1)) m₀ m' out'
-pre_came p t m₀ m m' out₀ out out' ks k c within read before h =
-    let e = moment p m₀ t in
-    let d = so_far m₀ out₀ in
-    let same : get_or ks k 0 ≡ c = sym (read ∙ get_or_default ks k c 0 within) in
-    let now : StandsAt (pre_step e (pre_first e d ks k) c) m₀ m' out' = came (λ b x. pre_step (at p t b) x c) (λ b b' x. refl) m₀ m m' out out' (pre_first e d ks k) before.0 before.1 h in
-    let more : pre_first e d ks (k + 1) ≡ pre_step e (pre_first e d ks k) c = fold_more (pre_step e) d ks k 0 within ∙ ap (λ (g : ℕ). pre_step e (pre_first e d ks k) g) same in
-    subst (λ (x : Doing). StandsAt x m₀ m' out') (sym more) now
 
 pub pre_ready : (p : Linked) (t : ℕ) (m₀ m : MachineState) (out₀ out : List Record) (ks : List ℕ) (k : ℕ) → IsInOrder p → All (λ c. c < length p.classes) ks → IsInitializing p (kept_of m₀)
     → StandsAt (pre_first (moment p m₀ t) (so_far m₀ out₀) ks k) m₀ m out → IsInitializing p (kept_of m)

@@ -1,20 +1,22 @@
 -- Setting constants puts its records behind those that are there, and looks at none.
-use Rattle.std.proofs.Common.{◌≡◌, ℕ, Bool, true, false, List, [], ◌∷◌, ◌++◌, Option, Some, None, refl, ◌∙◌, ap, append_assoc}
+use Rattle.std.proofs.Common.{◌≡◌, ℕ, Bool, true, false, List, [], ◌∷◌, ◌++◌, Option, Some, None, refl, sym, ◌∙◌, ap, subst, append-nil, append_assoc}
 use Rattle.std.specs.Prelude.{fold, if◌then◌else◌, is_some}
 use Rattle.et_base.specs.declared.value.Value.{Value}
 use Rattle.et_base.specs.declared.value.Value.TheVariants.{Unset, Int, Long, LongHigh, Null, Ref}
 use Rattle.et_state.specs.declared.class_state.ClassState.{ClassState}
 use Rattle.et_state.specs.declared.class_state.ClassState.TheVariants.{Untouched, Begun, Done, Failed}
-use Rattle.et_state.specs.State.{Kept}
+use Rattle.et_state.specs.State.{Kept, MachineState}
+use Rattle.et_state.specs.Words.{begun}
 use Rattle.et_state.specs.Interned.{object_of}
-use Rattle.et_program.specs.Entries.{class_at, field_at}
+use Rattle.et_program.specs.Entries.{Linked, class_at, field_at}
 use Rattle.et_program.specs.declared.info.FieldInfo.{FieldInfo}
 use Rattle.et_state.specs.declared.records.Record.{Record}
 use Rattle.et_event.specs.Kinds.{narrowed}
-use Rattle.et_event.specs.Moments.{Moment, Doing, static_written}
+use Rattle.et_event.specs.Moments.{Moment, moment, Doing, begins, fits_heap, static_written}
 use Rattle.et_event.specs.Sites.{LoadedConstant, AnInt, ALong, AString, constant_at, pool_of_class}
 use Rattle.et_event.specs.Strings.{interned, string_object}
 use Rattle.et_event.specs.Initialization.{state_of, with_state, constant_set, field_set, constants_set, class_done, quietly_done}
+use Rattle.et_event.specs.Telling.{so_far, StandsAt}
 use Rattle.et_initialize.proofs.Strings.{making}
 use Rattle.et_initialize.proofs.Setting.{done_step}
 
@@ -68,3 +70,34 @@ behind_order r e (k ∷ ks) d = ap (λ (y : Doing). fold (done_step e) y ks) (be
 
 pub behind_quietly : (r : List Record) (e : Moment) (c : ℕ) (d : Doing) → quietly_done e c (behind r d) ≡ behind r (quietly_done e c d)
 behind_quietly r e c d = behind_order r e (class_at e.program c).init_order d
+
+-- WHAT AN EVENT COMES TO that begins with records there already: the same, behind them
+
+-- the state before the event doesn't matter
+abbrev pub IsTimeless : (Moment → Doing → Doing) → Linked → MachineState → ℕ → Type 0
+IsTimeless act p m t = (x : Doing) → act (moment p (begun m) t) x ≡ act (moment p m t) x
+
+-- nor do the records that were there
+abbrev pub GoesBehind : (Moment → Doing → Doing) → Linked → MachineState → ℕ → List Record → Type 0
+GoesBehind act p m t out = act (moment p m t) (behind out (begins (moment p m t))) ≡ behind out (act (moment p m t) (begins (moment p m t)))
+
+pub came_behind : (act : Moment → Doing → Doing) (p : Linked) (t : ℕ) (m m₁ m₂ : MachineState) (out out₂ : List Record) → IsTimeless act p m t → GoesBehind act p m t out → m₁ ≡ begun m
+    → StandsAt (act (moment p m₁ t) (so_far m₁ out)) m₁ m₂ out₂ → StandsAt (behind out (act (moment p m t) (begins (moment p m t)))) (begun m) m₂ out₂
+came_behind act p t m m₁ m₂ out out₂ timeless goes e h =
+    let q = moment p m t in
+    let d = begins q in
+    let n = begun m in
+    let a : StandsAt (act (moment p n t) (so_far n out)) n m₂ out₂ = subst (λ (x : MachineState). StandsAt (act (moment p x t) (so_far x out)) x m₂ out₂) e h in
+    let b : StandsAt (act q (so_far n out)) n m₂ out₂ = subst (λ (x : Doing). StandsAt x n m₂ out₂) (timeless (so_far n out)) a in
+    let c : StandsAt (act q (behind out d)) n m₂ out₂ = subst (λ (r : List Record). StandsAt (act q (record { state = d.state; records = r })) n m₂ out₂) (sym (append-nil out)) b in
+    subst (λ (x : Doing). StandsAt x n m₂ out₂) goes c
+
+pub fits_behind : (act : Moment → Doing → Doing) (p : Linked) (t : ℕ) (m m₁ : MachineState) (out : List Record) → IsTimeless act p m t → GoesBehind act p m t out → m₁ ≡ begun m
+    → fits_heap (act (moment p m t) (begins (moment p m t))).state.heap ≡ true → fits_heap (act (moment p m₁ t) (so_far m₁ out)).state.heap ≡ true
+fits_behind act p t m m₁ out timeless goes e fit =
+    let q = moment p m t in
+    let d = begins q in
+    let n = begun m in
+    let one : fits_heap (act q (behind out d)).state.heap ≡ true = ap (λ (x : Doing). fits_heap x.state.heap) goes ∙ fit in
+    let two : fits_heap (act q (so_far n out)).state.heap ≡ true = subst (λ (r : List Record). fits_heap (act q (record { state = d.state; records = r })).state.heap ≡ true) (append-nil out) one in
+    ap (λ (x : MachineState). fits_heap (act (moment p x t) (so_far x out)).state.heap) e ∙ (ap (λ (x : Doing). fits_heap x.state.heap) (timeless (so_far n out)) ∙ two)

@@ -16,7 +16,7 @@ use Rattle.et_event.specs.Initialization.{state_of, with_state, field_set, const
 use Rattle.et_event.specs.InitializationOrder.{IsInOrder}
 use Rattle.et_event.specs.Telling.{so_far, with_kept, StandsAt}
 use Rattle.et_initialize.specs.Under.{IsInitializing, class_of_slot}
-use Rattle.et_initialize.proofs.Setting.{CanSet, after, can_set, field_fits, done_step, done_first, class_fits, ready_order, ready_marked, unset_marked}
+use Rattle.et_initialize.proofs.Setting.{CanSet, Grown, after, can_set, one_fits, done_first, ready_order, ready_marked, unset_marked}
 
 abbrev pub at : Linked → ℕ → Kept → Moment
 at p t b = record { program = p; before = b; thread = t }
@@ -46,6 +46,36 @@ pub known : (P : Kept → Doing → Type 0) (m₀ m : MachineState) (out : List 
 known P m₀ m out x e₁ e₂ h =
     subst (λ (n : MachineState). P (kept_of n) (so_far n out)) (sym e₁) (subst (λ (o : List Record). P x.state (so_far (with_kept m₀ x.state) o)) (sym e₂) h)
 
+-- A LOOP each of whose rounds is one step of a fold
+
+-- what k rounds come to
+abbrev pub rounds : (Moment → Doing → ℕ → Doing) → Linked → ℕ → MachineState → List Record → List ℕ → ℕ → Doing
+rounds step p t m out ks k = fold (step (moment p m t)) (so_far m out) (take k ks)
+
+-- the state before the event doesn't matter to the step
+abbrev pub IsApart : (Moment → Doing → ℕ → Doing) → Linked → ℕ → ℕ → Type 0
+IsApart step p t c = (b b' : Kept) (x : Doing) → step (at p t b) x c ≡ step (at p t b') x c
+
+pub round_has_room : (step : Moment → Doing → ℕ → Doing) (p : Linked) (t : ℕ) (m₀ m : MachineState) (out₀ out : List Record) (ks : List ℕ) (k c : ℕ) → ((e : Moment) (js : List ℕ) (x : Doing) → Grown x.state.heap (fold (step e) x js).state.heap)
+    → IsApart step p t c → k < length ks → c ≡ get_or ks k c → fits_heap (fold (step (moment p m₀ t)) (so_far m₀ out₀) ks).state.heap ≡ true → StandsAt (rounds step p t m₀ out₀ ks k) m₀ m out
+    → fits_heap (step (moment p m t) (so_far m out) c).state.heap ≡ true
+round_has_room step p t m₀ m out₀ out ks k c grown apart within read fit before =
+    let e = moment p m₀ t in
+    let x = rounds step p t m₀ out₀ ks k in
+    let same : get_or ks k 0 ≡ c = sym (read ∙ get_or_default ks k c 0 within) in
+    let one : fits_heap (step e x c).state.heap ≡ true = subst (λ (g : ℕ). fits_heap (step e x g).state.heap ≡ true) same (one_fits (step e) (grown e) (so_far m₀ out₀) ks k within fit) in
+    known (λ b y. fits_heap (step (at p t b) y c).state.heap ≡ true) m₀ m out x before.0 before.1 (ap (λ (y : Doing). fits_heap y.state.heap) (apart x.state (kept_of m₀) x) ∙ one)
+
+pub round_came : (step : Moment → Doing → ℕ → Doing) (p : Linked) (t : ℕ) (m₀ m m' : MachineState) (out₀ out out' : List Record) (ks : List ℕ) (k c : ℕ) → IsApart step p t c → k < length ks → c ≡ get_or ks k c
+    → StandsAt (rounds step p t m₀ out₀ ks k) m₀ m out → StandsAt (step (moment p m t) (so_far m out) c) m m' out' → StandsAt (rounds step p t m₀ out₀ ks (k + 1)) m₀ m' out'
+round_came step p t m₀ m m' out₀ out out' ks k c apart within read before h =
+    let e = moment p m₀ t in
+    let x = rounds step p t m₀ out₀ ks k in
+    let same : get_or ks k 0 ≡ c = sym (read ∙ get_or_default ks k c 0 within) in
+    let now : StandsAt (step e x c) m₀ m' out' = came (λ b y. step (at p t b) y c) apart m₀ m m' out out' x before.0 before.1 h in
+    let more : rounds step p t m₀ out₀ ks (k + 1) ≡ step e x c = fold_more (step e) (so_far m₀ out₀) ks k 0 within ∙ ap (λ (g : ℕ). step e x g) same in
+    subst (λ (y : Doing). StandsAt y m₀ m' out') (sym more) now
+
 -- A LOOP OVER THE CONSTANTS OF A CLASS
 
 pub field_can : (p : Linked) (t c : ℕ) (m₀ m : MachineState) (out₀ out : List Record) (fs : List ℕ) (k f : ℕ) → IsInOrder p → c < length p.classes → IsInitializing p (kept_of m₀)
@@ -60,49 +90,7 @@ field_can p t c m₀ m out₀ out fs k f has lt ready unset is within read befor
     let on : CanSet p f (after e d fs k) = subst (λ (g : ℕ). CanSet p g (after e d fs k)) same (subst (λ (l : List ℕ). CanSet p (get_or (class_at p c).info.constants k 0) (after e d l k)) (sym is) can) in
     known (λ b x. CanSet p f x) m₀ m out (after e d fs k) before.0 before.1 on
 
-pub field_has_room : (p : Linked) (t : ℕ) (m₀ m : MachineState) (out₀ out : List Record) (fs : List ℕ) (k f : ℕ) → k < length fs → f ≡ get_or fs k f
-    → fits_heap (fold (field_set (moment p m₀ t)) (so_far m₀ out₀) fs).state.heap ≡ true → StandsAt (after (moment p m₀ t) (so_far m₀ out₀) fs k) m₀ m out
-    → fits_heap (field_set (moment p m t) (so_far m out) f).state.heap ≡ true
-field_has_room p t m₀ m out₀ out fs k f within read fit before =
-    let e = moment p m₀ t in
-    let d = so_far m₀ out₀ in
-    let one = field_fits e d fs k within fit in
-    let same : get_or fs k 0 ≡ f = sym (read ∙ get_or_default fs k f 0 within) in
-    known (λ b x. fits_heap (field_set (at p t b) x f).state.heap ≡ true) m₀ m out (after e d fs k) before.0 before.1 (subst (λ (g : ℕ). fits_heap (field_set e (after e d fs k) g).state.heap ≡ true) same one)
-
-pub field_came : (p : Linked) (t : ℕ) (m₀ m m' : MachineState) (out₀ out out' : List Record) (fs : List ℕ) (k f : ℕ) → k < length fs → f ≡ get_or fs k f
-    → StandsAt (after (moment p m₀ t) (so_far m₀ out₀) fs k) m₀ m out → StandsAt (field_set (moment p m t) (so_far m out) f) m m' out'
-    → StandsAt (after (moment p m₀ t) (so_far m₀ out₀) fs (k + 1)) m₀ m' out'
-field_came p t m₀ m m' out₀ out out' fs k f within read before h =
-    let e = moment p m₀ t in
-    let d = so_far m₀ out₀ in
-    let same : get_or fs k 0 ≡ f = sym (read ∙ get_or_default fs k f 0 within) in
-    let now : StandsAt (field_set e (after e d fs k) f) m₀ m' out' = came (λ b x. field_set (at p t b) x f) (λ b b' x. refl) m₀ m m' out out' (after e d fs k) before.0 before.1 h in
-    let more : after e d fs (k + 1) ≡ field_set e (after e d fs k) f = fold_more (field_set e) d fs k 0 within ∙ ap (λ (g : ℕ). field_set e (after e d fs k) g) same in
-    subst (λ (x : Doing). StandsAt x m₀ m' out') (sym more) now
-
 -- A LOOP OVER CLASSES
-
-pub class_has_room : (p : Linked) (t : ℕ) (m₀ m : MachineState) (out₀ out : List Record) (ks : List ℕ) (k c : ℕ) → k < length ks → c ≡ get_or ks k c
-    → fits_heap (fold (done_step (moment p m₀ t)) (so_far m₀ out₀) ks).state.heap ≡ true → StandsAt (done_first (moment p m₀ t) (so_far m₀ out₀) ks k) m₀ m out
-    → fits_heap (done_step (moment p m t) (so_far m out) c).state.heap ≡ true
-class_has_room p t m₀ m out₀ out ks k c within read fit before =
-    let e = moment p m₀ t in
-    let d = so_far m₀ out₀ in
-    let one = class_fits e d ks k within fit in
-    let same : get_or ks k 0 ≡ c = sym (read ∙ get_or_default ks k c 0 within) in
-    known (λ b x. fits_heap (done_step (at p t b) x c).state.heap ≡ true) m₀ m out (done_first e d ks k) before.0 before.1 (subst (λ (g : ℕ). fits_heap (done_step e (done_first e d ks k) g).state.heap ≡ true) same one)
-
-pub class_came : (p : Linked) (t : ℕ) (m₀ m m' : MachineState) (out₀ out out' : List Record) (ks : List ℕ) (k c : ℕ) → k < length ks → c ≡ get_or ks k c
-    → StandsAt (done_first (moment p m₀ t) (so_far m₀ out₀) ks k) m₀ m out → StandsAt (done_step (moment p m t) (so_far m out) c) m m' out'
-    → StandsAt (done_first (moment p m₀ t) (so_far m₀ out₀) ks (k + 1)) m₀ m' out'
-class_came p t m₀ m m' out₀ out out' ks k c within read before h =
-    let e = moment p m₀ t in
-    let d = so_far m₀ out₀ in
-    let same : get_or ks k 0 ≡ c = sym (read ∙ get_or_default ks k c 0 within) in
-    let now : StandsAt (done_step e (done_first e d ks k) c) m₀ m' out' = came (λ b x. done_step (at p t b) x c) (λ b b' x. refl) m₀ m m' out out' (done_first e d ks k) before.0 before.1 h in
-    let more : done_first e d ks (k + 1) ≡ done_step e (done_first e d ks k) c = fold_more (done_step e) d ks k 0 within ∙ ap (λ (g : ℕ). done_step e (done_first e d ks k) g) same in
-    subst (λ (x : Doing). StandsAt x m₀ m' out') (sym more) now
 
 pub class_ready : (p : Linked) (t : ℕ) (m₀ m : MachineState) (out₀ out : List Record) (ks : List ℕ) (k : ℕ) → IsInOrder p → k < length ks → All (λ c. c < length p.classes) ks → IsInitializing p (kept_of m₀)
     → StandsAt (done_first (moment p m₀ t) (so_far m₀ out₀) ks k) m₀ m out → IsInitializing p (kept_of m)

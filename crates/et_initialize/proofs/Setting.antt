@@ -198,12 +198,13 @@ pub fold_rest : {A B : Type 0} (f : B → A → B) (d : B) (xs : List A) (k : �
 fold_rest f d xs k = sym (fold-append f d (take k xs) (drop k xs)) ∙ ap (λ l. fold f d l) (take-append-drop k xs)
 
 -- where all fit, one more fits
-pub field_fits : (e : Moment) (d : Doing) (fs : List ℕ) (k : ℕ) → k < length fs → fits_heap (fold (field_set e) d fs).state.heap ≡ true → fits_heap (field_set e (after e d fs k) (get_or fs k 0)).state.heap ≡ true
-field_fits e d fs k lt fit =
-    let x = after e d fs (k + 1) in
-    let one : x ≡ field_set e (after e d fs k) (get_or fs k 0) = fold_more (field_set e) d fs k 0 lt in
-    let whole = ap (λ (y : Doing). fits_heap y.state.heap) (fold_rest (field_set e) d fs (k + 1)) ∙ fit in
-    ap (λ (y : Doing). fits_heap y.state.heap) (sym one) ∙ fits_grown x.state.heap (fold (field_set e) x (drop (k + 1) fs)).state.heap (follows_each e (drop (k + 1) fs) x).heap whole
+pub one_fits : (step : Doing → ℕ → Doing) → ((ks : List ℕ) (x : Doing) → Grown x.state.heap (fold step x ks).state.heap) → (d : Doing) (ks : List ℕ) (k : ℕ) → k < length ks
+    → fits_heap (fold step d ks).state.heap ≡ true → fits_heap (step (fold step d (take k ks)) (get_or ks k 0)).state.heap ≡ true
+one_fits step grown d ks k lt fit =
+    let x = fold step d (take (k + 1) ks) in
+    let one : x ≡ step (fold step d (take k ks)) (get_or ks k 0) = fold_more step d ks k 0 lt in
+    let whole = ap (λ (y : Doing). fits_heap y.state.heap) (fold_rest step d ks (k + 1)) ∙ fit in
+    ap (λ (y : Doing). fits_heap y.state.heap) (sym one) ∙ fits_grown x.state.heap (fold step x (drop (k + 1) ks)).state.heap (grown (drop (k + 1) ks) x) whole
 
 -- THE STATE STAYS READY
 
@@ -279,13 +280,6 @@ grown_order e (k ∷ ks) d =
 
 abbrev pub done_first : Moment → Doing → List ℕ → ℕ → Doing
 done_first e d ks k = fold (done_step e) d (take k ks)
-
-pub class_fits : (e : Moment) (d : Doing) (ks : List ℕ) (k : ℕ) → k < length ks → fits_heap (fold (done_step e) d ks).state.heap ≡ true → fits_heap (done_step e (done_first e d ks k) (get_or ks k 0)).state.heap ≡ true
-class_fits e d ks k lt fit =
-    let x = done_first e d ks (k + 1) in
-    let one : x ≡ done_step e (done_first e d ks k) (get_or ks k 0) = fold_more (done_step e) d ks k 0 lt in
-    let whole = ap (λ (y : Doing). fits_heap y.state.heap) (fold_rest (done_step e) d ks (k + 1)) ∙ fit in
-    ap (λ (y : Doing). fits_heap y.state.heap) (sym one) ∙ fits_grown x.state.heap (fold (done_step e) x (drop (k + 1) ks)).state.heap (grown_order e (drop (k + 1) ks) x) whole
 
 pub ready_order : (e : Moment) (ks : List ℕ) (d : Doing) → IsInOrder e.program → All (λ k. k < length e.program.classes) ks → IsInitializing e.program d.state → IsInitializing e.program (fold (done_step e) d ks).state
 ready_order e [] d has all r = r

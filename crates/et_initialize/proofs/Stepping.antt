@@ -1,5 +1,5 @@
 -- The events of an initializer, after its quiet prerequisites are done.
-use Rattle.std.proofs.Common.{◌≡◌, ℕ, ◌+◌, ◌-◌, ◌*◌, ◌<◌, ◌≤◌, leb, Bool, true, false, List, [], ◌∷◌, ◌++◌, length, All, Option, Some, None, refl, sym, ◌∙◌, ap, subst, arith, inl, inr, Contains, append-nil, append_assoc, option_to_list, get_or, lit<}
+use Rattle.std.proofs.Common.{◌≡◌, ℕ, ◌+◌, ◌-◌, ◌*◌, ◌<◌, ◌≤◌, leb, Bool, true, false, List, [], ◌∷◌, ◌++◌, length, All, Option, Some, None, refl, sym, ◌∙◌, ap, subst, arith, inl, inr, Contains, append_assoc, option_to_list, get_or, lit<}
 use Rattle.std.specs.Prelude.{◌&&◌, if◌then◌else◌}
 use Rattle.std.proofs.lemmas.Bool.{cases_eq, and_parts, leb-true, le-leb}
 use Rattle.std.proofs.lemmas.List.{length_push, length-replicate, get_or-set_same, length-set}
@@ -43,7 +43,7 @@ use Rattle.et_initialize.specs.Asked.{after}
 use Rattle.et_initialize.proofs.Setting.{fits_grown, follows_each}
 use Rattle.et_initialize.proofs.Running.{marked}
 use Rattle.et_initialize.proofs.Legal.{made_none, ready_first, made_constants}
-use Rattle.et_initialize.proofs.Records.{behind, behind_constants}
+use Rattle.et_initialize.proofs.Records.{behind, behind_constants, came_behind, fits_behind}
 use Rattle.et_initialize.proofs.Preparing.{ready_prepared, made_prepared, threads_prepared, behind_prepared, monitors_prepared}
 use Rattle.et_initialize.proofs.Beginning.{strings_led, few, begin_overflows}
 
@@ -53,22 +53,10 @@ base p m t ks = with_kept (begun m) (after p m t ks).state
 
 pub prepared_came : (p : Linked) (t : ℕ) (ks : List ℕ) (m m₁ m₂ : MachineState) (out out₂ : List Record) → m₁ ≡ begun m → StandsAt (prepared (moment p m₁ t) ks (so_far m₁ out)) m₁ m₂ out₂
     → StandsAt (behind out (after p m t ks)) (begun m) m₂ out₂
-prepared_came p t ks m m₁ m₂ out out₂ e h =
-    let q = moment p m t in
-    let d = begins q in
-    let n = begun m in
-    let a : StandsAt (prepared (moment p n t) ks (so_far n out)) n m₂ out₂ = subst (λ (x : MachineState). StandsAt (prepared (moment p x t) ks (so_far x out)) x m₂ out₂) e h in
-    let b : StandsAt (prepared q ks (behind out d)) n m₂ out₂ = subst (λ (r : List Record). StandsAt (prepared q ks (record { state = d.state; records = r })) n m₂ out₂) (sym (append-nil out)) a in
-    subst (λ (x : Doing). StandsAt x n m₂ out₂) (behind_prepared out q ks d) b
+prepared_came p t ks m m₁ m₂ out out₂ e h = came_behind (λ q x. prepared q ks x) p t m m₁ m₂ out out₂ (λ x. refl) (behind_prepared out (moment p m t) ks (begins (moment p m t))) e h
 
 pub prepared_fits : (p : Linked) (t : ℕ) (ks : List ℕ) (m m₁ : MachineState) (out : List Record) → m₁ ≡ begun m → fits_heap (after p m t ks).state.heap ≡ true → fits_heap (prepared (moment p m₁ t) ks (so_far m₁ out)).state.heap ≡ true
-prepared_fits p t ks m m₁ out e fit =
-    let q = moment p m t in
-    let d = begins q in
-    let n = begun m in
-    let one : fits_heap (prepared q ks (behind out d)).state.heap ≡ true = ap (λ (x : Doing). fits_heap x.state.heap) (behind_prepared out q ks d) ∙ fit in
-    let two : fits_heap (prepared (moment p n t) ks (so_far n out)).state.heap ≡ true = subst (λ (r : List Record). fits_heap (prepared q ks (record { state = d.state; records = r })).state.heap ≡ true) (append-nil out) one in
-    ap (λ (x : MachineState). fits_heap (prepared (moment p x t) ks (so_far x out)).state.heap) e ∙ two
+prepared_fits p t ks m m₁ out e fit = fits_behind (λ q x. prepared q ks x) p t m m₁ out (λ x. refl) (behind_prepared out (moment p m t) ks (begins (moment p m t))) e fit
 
 pub made_after : (p : Linked) (t : ℕ) (ks : List ℕ) (m : MachineState) → IsInOrder p → All (λ k. k < length p.classes) ks → IsSoundFor p (kept_of m) → HasMadeStrings (kept_of m) (after p m t ks).state []
 made_after p t ks m has all sound = made_prepared (moment p m t) ks (begins (moment p m t)) (kept_of m) [] has all (ready_first p (kept_of m) sound) (made_none (kept_of m) sound.held)

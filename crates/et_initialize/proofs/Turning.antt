@@ -1,5 +1,5 @@
 -- The turn of an initializer: what it waits for is needed, or its class goes on.
-use Rattle.std.proofs.Common.{◌≡◌, ℕ, ◌<◌, ◌≤◌, Bool, true, false, List, length, All, Result, Option, refl, sym, ◌∙◌, ap, subst, get_or, take, arith}
+use Rattle.std.proofs.Common.{◌≡◌, ℕ, ◌<◌, ◌≤◌, Bool, true, false, List, length, All, Result, Option, sym, ◌∙◌, ap, subst, get_or, take, arith}
 use Rattle.std.specs.Prelude.{◌==◌, if◌then◌else◌, IfOk, find, take_while, not}
 use Rattle.std.specs.List.{list_all}
 use Rattle.std.proofs.lemmas.List.{get_or_default, take_all}
@@ -19,6 +19,7 @@ use Rattle.et_initialize.specs.declared.needs.Need.{Need}
 use Rattle.et_initialize.specs.declared.needs.Need.TheVariants.{Ready, Waits, Quiet, Begins}
 use Rattle.et_initialize.specs.Needs.{need_by, need_of, met}
 use Rattle.et_event.specs.InitializationOrder.{IsInOrder}
+use Rattle.et_initialize.proofs.Needing.{begins_untouched}
 use Rattle.et_initialize.proofs.Preparing.{true_false, blocked, blocker_state, turns_none, turns_prepared, all_pass, first_fails}
 use Rattle.et_initialize.specs.Asked.{after}
 
@@ -42,16 +43,6 @@ blocked_state p t b ks m has all sound ready not_ready =
     let q = moment p m t in
     let d = begins q in
     blocker_state q d (after p m t ks) b has not_ready (turns_prepared q d d ks has all ready (turns_none q d sound.classes.0))
-
-ready_or_waits : (b : Bool) → (if b then Ready else Waits) ≡ Begins → ⊥
-ready_or_waits true e = cc
-ready_or_waits false e = cc
-
-begins_untouched : (e : Moment) (d : Doing) (b : ℕ) (s : ClassState) → need_by e d b s ≡ Begins → s ≡ Untouched
-begins_untouched e d b Untouched h = refl
-begins_untouched e d b (Begun t) h = absurd (ready_or_waits (t == e.thread) h)
-begins_untouched e d b Done h = cc
-begins_untouched e d b Failed h = cc
 
 -- .. untouched where it begins
 pub blocked_untouched : (p : Linked) (t b : ℕ) (ks : List ℕ) (m : MachineState) (n : Need) → IsInOrder p → All (λ k. k < length p.classes) ks → IsSoundFor p (kept_of m) → list_all (is_ready (moment p m t) (begins (moment p m t))) ks ≡ true

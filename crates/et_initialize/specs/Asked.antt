@@ -1,10 +1,12 @@
 -- WHAT EVENTS ASK that initialize classes.
-use Rattle.std.specs.Prelude.{◌≡◌, ℕ, ◌<◌, ◌^◌, true, All, List, length}
+use Rattle.std.specs.Prelude.{◌≡◌, ℕ, ◌<◌, ◌^◌, true, All, Contains, List, length}
+use Rattle.et_base.specs.declared.value.Value.TheVariants.{Unset}
 use Rattle.std.specs.List.{list_all}
 use Rattle.et_program.specs.Entries.{Linked}
 use Rattle.et_state.specs.State.{MachineState, kept_of}
 use Rattle.et_state.specs.Threads.{lost_room}
-use Rattle.et_state.specs.Words.{HasFrame}
+use Rattle.et_state.specs.Interned.{interned_objects}
+use Rattle.et_state.specs.Words.{HasFrame, static_at}
 use Rattle.et_event.specs.Initialization.{is_ready, prepared}
 use Rattle.et_event.specs.InitializationOrder.{IsInOrder}
 use Rattle.et_event.specs.Moments.{Doing, begins, moment}
@@ -33,3 +35,14 @@ pub record MaySet (p : Linked) (m : MachineState) : Type 0 where
   pub order : IsInOrder p
   pub ready : IsInitializing p (kept_of m)
   pub lost : length m.lost < lost_room
+
+-- the strings of constants were made
+abbrev pub AreMade : MachineState → Type 0
+AreMade m = (o : ℕ) → Contains (interned_objects m.guest.interned) o → o < length m.heap
+
+-- a static field, to which nothing was written, may get its constant in the event under way
+pub record MayWrite (m : MachineState) (i : ℕ) : Type 0 where
+  pub slot : i < length m.guest.statics
+  pub unset : static_at m.guest i ≡ Unset
+  pub lost : length m.lost < lost_room
+  pub made : AreMade m

@@ -1,9 +1,8 @@
 //! The constant of a static field (JVMS 4.7.2).
-ghost use Rattle.std.specs.Prelude.{◌≡◌, ℕ, ◌<◌, ◌^◌, true, None, Contains, IfOk, OnOk, length};
-ghost use Rattle.et_base.specs.declared.value.Value.TheVariants.{Unset, Int, Long, Ref};
-ghost use Rattle.et_state.specs.Threads.{lost_room};
-ghost use Rattle.et_state.specs.Words.{static_at, with_static};
-ghost use Rattle.et_state.specs.Interned.{object_of, interned_objects};
+ghost use Rattle.std.specs.Prelude.{◌≡◌, ◌<◌, ◌^◌, true, None, IfOk, OnOk, length};
+ghost use Rattle.et_base.specs.declared.value.Value.TheVariants.{Int, Long, Ref};
+ghost use Rattle.et_state.specs.Words.{with_static};
+ghost use Rattle.et_state.specs.Interned.{object_of};
 ghost use Rattle.et_program.specs.Entries.{field_at};
 ghost use Rattle.et_event.specs.Kinds.{narrowed_int};
 ghost use Rattle.et_event.specs.Moments.{moment, fits_heap};
@@ -11,6 +10,7 @@ ghost use Rattle.et_event.specs.Sites.{AString, constant_at};
 ghost use Rattle.et_event.specs.Strings.{interned, string_object};
 ghost use Rattle.et_event.specs.Initialization.{constant_set, field_set};
 ghost use Rattle.et_event.specs.Telling.{so_far, StandsAt};
+ghost use Rattle.et_initialize.specs.Asked.{AreMade, MayWrite};
 
 use et_base::{ClassId, FieldId, NoMemory, ObjectId, ThreadId, Value, to_byte, to_char, to_short};
 use et_event::{add_instance, class_called, tell_update};
@@ -40,8 +40,7 @@ fn make_string(
 ) -> Result<ObjectId, NoMemory>
     requires short { length bytes.now < 2 ^ 16 }
     requires first { object_of machine.old.guest.interned bytes.now ≡ None }
-    requires made { (o : ℕ) →
-        Contains (interned_objects machine.old.guest.interned) o → o < length machine.old.heap }
+    requires made { AreMade machine.old }
     requires fits { fits_heap (interned (moment program.now machine.old thread) bytes.now
         (so_far machine.old out.old)).state.heap ≡ true }
     ensures object { IfOk result (λ o. o ≡ string_object bytes.now
@@ -65,8 +64,7 @@ fn string_of(
     out: &mut Lines,
 ) -> Result<ObjectId, NoMemory>
     requires short { length bytes.now < 2 ^ 16 }
-    requires made { (o : ℕ) →
-        Contains (interned_objects machine.old.guest.interned) o → o < length machine.old.heap }
+    requires made { AreMade machine.old }
     requires fits { fits_heap (interned (moment program.now machine.old thread) bytes.now
         (so_far machine.old out.old)).state.heap ≡ true }
     ensures object { IfOk result (λ o. o ≡ string_object bytes.now
@@ -83,9 +81,7 @@ fn string_of(
 
 /// Writes a number to a static field to which nothing was written.
 fn set_number(machine: &mut Machine, slot: u32, value: Value)
-    requires slot { slot < length machine.old.guest.statics }
-    requires unset { static_at machine.old.guest slot ≡ Unset }
-    requires lost { length machine.old.lost < lost_room }
+    requires { MayWrite machine.old slot }
     ensures { machine.new
         ≡ record machine.old { guest = with_static machine.old.guest slot value } }
 {
@@ -102,11 +98,7 @@ fn set_string(
     out: &mut Lines,
 ) -> Result<(), NoMemory>
     requires short { length bytes.now < 2 ^ 16 }
-    requires slot { field.now.slot < length machine.old.guest.statics }
-    requires unset { static_at machine.old.guest field.now.slot ≡ Unset }
-    requires lost { length machine.old.lost < lost_room }
-    requires made { (o : ℕ) →
-        Contains (interned_objects machine.old.guest.interned) o → o < length machine.old.heap }
+    requires writes { MayWrite machine.old field.now.slot }
     requires fits { fits_heap (interned (moment program.now machine.old thread) bytes.now
         (so_far machine.old out.old)).state.heap ≡ true }
     ensures { OnOk result (StandsAt (constant_set (moment program.now machine.old thread)
@@ -128,11 +120,7 @@ fn set_constant(
     field: &FieldInfo,
     out: &mut Lines,
 ) -> Result<(), NoMemory>
-    requires slot { field.now.slot < length machine.old.guest.statics }
-    requires unset { static_at machine.old.guest field.now.slot ≡ Unset }
-    requires lost { length machine.old.lost < lost_room }
-    requires made { (o : ℕ) →
-        Contains (interned_objects machine.old.guest.interned) o → o < length machine.old.heap }
+    requires writes { MayWrite machine.old field.now.slot }
     requires fits { fits_heap (constant_set (moment program.now machine.old thread) field.now
         (constant_at pool.now.slots field.now.constant) (so_far machine.old out.old)).state.heap
         ≡ true }
@@ -165,11 +153,7 @@ pub(crate) fn set_field(
     out: &mut Lines,
 ) -> Result<(), NoMemory>
     requires field { field < length program.now.fields }
-    requires slot { (field_at program.now field).slot < length machine.old.guest.statics }
-    requires unset { static_at machine.old.guest (field_at program.now field).slot ≡ Unset }
-    requires lost { length machine.old.lost < lost_room }
-    requires made { (o : ℕ) →
-        Contains (interned_objects machine.old.guest.interned) o → o < length machine.old.heap }
+    requires writes { MayWrite machine.old (field_at program.now field).slot }
     requires fits { fits_heap (field_set (moment program.now machine.old thread)
         (so_far machine.old out.old) field).state.heap ≡ true }
     ensures { OnOk result (StandsAt (field_set (moment program.now machine.old thread)

@@ -4,13 +4,12 @@ ghost use Rattle.std.specs.List.{list_all, list_any};
 ghost use Rattle.et_heap.specs.Objects.{has_room};
 ghost use Rattle.et_state.specs.declared.class_state.ClassState.{ClassState as State};
 ghost use Rattle.et_state.specs.declared.class_state.ClassState.TheVariants as states;
-ghost use Rattle.et_state.specs.State.{Kept};
 ghost use Rattle.et_state.specs.Words.{class_state_at};
 ghost use Rattle.et_event.specs.InitializationOrder.{IsInOrder};
 ghost use Rattle.et_state.specs.Interned.{object_of};
 ghost use Rattle.et_event.specs.Moments.{moment, Doing, begins, fits_heap as all_fit};
 ghost use Rattle.et_event.specs.Initialization.{state_of, field_set, constants_set, with_state, class_done, quietly_done, is_ready, prepared};
-ghost use Rattle.et_initialize.specs.Texts.{constant_text as text_in, has_text, string_slots as slots_of_string, has_room_for as room_for, Counted, CountedAll};
+ghost use Rattle.et_initialize.specs.Texts.{constant_text as text_in, has_text, string_slots as slots_of_string, has_room_for as room_for, Adds, AddsOfDone, AreFields, Counted, CountedAll, MayCount};
 
 use et_base::{ClassId, FieldId, NoMemory};
 use et_event::{class_called, slots_of};
@@ -44,7 +43,7 @@ fn is_text(program: &Program, field: FieldId, bytes: &[u8]) -> bool
 
 /// Whether one of these fields has the constant of these bytes.
 fn is_seen(program: &Program, seen: &[FieldId], bytes: &[u8]) -> bool
-    requires { All (λ f. f < length program.now.fields) seen.now }
+    requires { AreFields program.now seen.now }
     ensures { result ≡ list_any (has_text program.now bytes.now) seen.now }
 {
     for k in 0..seen.len() {
@@ -57,7 +56,7 @@ fn is_seen(program: &Program, seen: &[FieldId], bytes: &[u8]) -> bool
 
 /// Whether the string of these bytes is there, or will be once the constants of these fields are set.
 fn is_known(program: &Program, machine: &Machine, seen: &[FieldId], bytes: &[u8]) -> bool
-    requires { All (λ f. f < length program.now.fields) seen.now }
+    requires { AreFields program.now seen.now }
     ensures { result ≡ (is_some (object_of machine.now.guest.interned bytes.now) || list_any
         (has_text program.now bytes.now) seen.now) }
 {
@@ -72,12 +71,10 @@ fn count_field(
     seen: &mut Vec<FieldId>,
 ) -> Result<(), NoMemory>
     requires field { field < length program.now.fields }
-    requires within { All (λ f. f < length program.now.fields) seen.old.items }
-    ensures within { OnOk result (All (λ f. f < length program.now.fields) seen.new.items) }
-    ensures counted { OnOk result ((before : Kept) (thread : ℕ) (d : Doing) →
-        Counted program.now machine.now seen.old.items d →
-        Counted program.now machine.now seen.new.items
-        (field_set (record { program = program.now; before = before; thread = thread }) d field)) }
+    requires within { AreFields program.now seen.old.items }
+    ensures within { OnOk result (AreFields program.now seen.new.items) }
+    ensures counted { OnOk result (Adds program.now machine.now seen.old.items seen.new.items
+        (λ e d. field_set e d field)) }
 {
     if let Some(text) = text_of(program, field) {
         if !is_known(program, machine, seen.as_slice(), text) {
@@ -95,12 +92,10 @@ fn count_constants(
     seen: &mut Vec<FieldId>,
 ) -> Result<(), NoMemory>
     requires class { class < length program.now.classes }
-    requires within { All (λ f. f < length program.now.fields) seen.old.items }
-    ensures within { OnOk result (All (λ f. f < length program.now.fields) seen.new.items) }
-    ensures counted { OnOk result ((before : Kept) (thread : ℕ) (d : Doing) →
-        Counted program.now machine.now seen.old.items d →
-        Counted program.now machine.now seen.new.items (constants_set
-        (record { program = program.now; before = before; thread = thread }) class d)) }
+    requires within { AreFields program.now seen.old.items }
+    ensures within { OnOk result (AreFields program.now seen.new.items) }
+    ensures counted { OnOk result (Adds program.now machine.now seen.old.items seen.new.items
+        (λ e d. constants_set e class d)) }
 {
     let constants = program.class(class).constants.as_slice();
     for k in 0..constants.len() {
@@ -117,13 +112,10 @@ fn count_class(
     seen: &mut Vec<FieldId>,
 ) -> Result<(), NoMemory>
     requires class { class < length program.now.classes }
-    requires classes { length machine.now.guest.classes ≡ length program.now.classes }
-    requires within { All (λ f. f < length program.now.fields) seen.old.items }
-    ensures within { OnOk result (All (λ f. f < length program.now.fields) seen.new.items) }
-    ensures counted { OnOk result ((before : Kept) (thread : ℕ) (d : Doing) →
-        CountedAll program.now machine.now seen.old.items d →
-        CountedAll program.now machine.now seen.new.items (class_done (record
-        { program = program.now; before = before; thread = thread }) class (state_of d class) d)) }
+    requires counts { MayCount program.now machine.now seen.old.items }
+    ensures within { OnOk result (AreFields program.now seen.new.items) }
+    ensures counted { OnOk result (AddsOfDone program.now machine.now
+        seen.old.items seen.new.items (λ e d. class_done e class (state_of d class) d)) }
 {
     match machine.class_state(class) {
         ClassState::Untouched => count_constants(program, machine, class, seen),
@@ -139,14 +131,11 @@ fn count_classes(
     seen: &mut Vec<FieldId>,
 ) -> Result<(), NoMemory>
     requires all { All (λ c. c < length program.now.classes) classes.now }
-    requires classes { length machine.now.guest.classes ≡ length program.now.classes }
-    requires within { All (λ f. f < length program.now.fields) seen.old.items }
-    ensures within { OnOk result (All (λ f. f < length program.now.fields) seen.new.items) }
-    ensures counted { OnOk result ((before : Kept) (thread : ℕ) (d : Doing) →
-        CountedAll program.now machine.now seen.old.items d →
-        CountedAll program.now machine.now seen.new.items (fold
-        (λ x k. class_done (record { program = program.now; before = before; thread = thread }) k
-        (state_of x k) x) d classes.now)) }
+    requires counts { MayCount program.now machine.now seen.old.items }
+    ensures within { OnOk result (AreFields program.now seen.new.items) }
+    ensures counted { OnOk result (AddsOfDone program.now machine.now
+        seen.old.items seen.new.items
+        (λ e d. fold (λ x k. class_done e k (state_of x k) x) d classes.now)) }
 {
     for k in 0..classes.len() {
         count_class(program, machine, classes[k], seen)?;
@@ -174,6 +163,20 @@ fn has_room_for(machine: &Machine, strings: usize, each: u32, objects: u32, slot
     strings as u64 * each as u64 + slots as u64 <= room
 }
 
+/// Whether the strings of the fields that were seen, so many objects and so many slots besides may be made.
+fn seen_fit(
+    program: &Program,
+    machine: &Machine,
+    seen: &[FieldId],
+    objects: u32,
+    slots: u32,
+) -> bool
+    ensures { (d : Doing) → Counted program.now machine.now seen.now d →
+        result ≡ has_room d.state.heap objects slots }
+{
+    has_room_for(machine, seen.len(), string_slots(program), objects, slots)
+}
+
 /// Whether the strings that the constants of a quiet class make, with those of what is initialized with it, each once, fit
 /// together with so many objects and slots besides. Nothing is changed.
 pub fn quiet_fits(
@@ -192,7 +195,7 @@ pub fn quiet_fits(
 {
     let mut seen = Vec::new(alloc);
     count_classes(program, machine, program.init_order(class), &mut seen)?;
-    Ok(has_room_for(machine, seen.len(), string_slots(program), objects, slots))
+    Ok(seen_fit(program, machine, seen.as_slice(), objects, slots))
 }
 
 /// Whether the strings that the constants of a class make fit. Nothing is changed.
@@ -210,7 +213,7 @@ pub(crate) fn constants_fit(
 {
     let mut seen = Vec::new(alloc);
     count_constants(program, machine, class, &mut seen)?;
-    Ok(has_room_for(machine, seen.len(), string_slots(program), 0, 0))
+    Ok(seen_fit(program, machine, seen.as_slice(), 0, 0))
 }
 
 /// Adds the constants that make strings of an untouched quiet class and of what is initialized with it.
@@ -221,14 +224,11 @@ fn count_quiet(
     seen: &mut Vec<FieldId>,
 ) -> Result<(), NoMemory>
     requires class { class < length program.now.classes }
-    requires classes { length machine.now.guest.classes ≡ length program.now.classes }
-    requires within { All (λ f. f < length program.now.fields) seen.old.items }
-    ensures within { OnOk result (All (λ f. f < length program.now.fields) seen.new.items) }
+    requires counts { MayCount program.now machine.now seen.old.items }
+    ensures within { OnOk result (AreFields program.now seen.new.items) }
     ensures counted { OnOk result (class_state_at machine.now.guest class ≡ states.Untouched →
-        (before : Kept) (thread : ℕ) (d : Doing) →
-        CountedAll program.now machine.now seen.old.items d →
-        CountedAll program.now machine.now seen.new.items (quietly_done
-        (record { program = program.now; before = before; thread = thread }) class d)) }
+        AddsOfDone program.now machine.now seen.old.items seen.new.items
+        (λ e d. quietly_done e class d)) }
     ensures other { OnOk result ((class_state_at machine.now.guest class ≡ states.Untouched → ⊥) →
         seen.new.items ≡ seen.old.items) }
 {
@@ -247,9 +247,8 @@ fn count_prepared(
 ) -> Result<(), NoMemory>
     requires program { IsInOrder program.now }
     requires all { All (λ c. c < length program.now.classes) classes.now }
-    requires classes { length machine.now.guest.classes ≡ length program.now.classes }
-    requires within { All (λ f. f < length program.now.fields) seen.old.items }
-    ensures within { OnOk result (All (λ f. f < length program.now.fields) seen.new.items) }
+    requires counts { MayCount program.now machine.now seen.old.items }
+    ensures within { OnOk result (AreFields program.now seen.new.items) }
     ensures counted { OnOk result ((thread : ℕ) → list_all (is_ready (moment program.now machine.now
         thread) (begins (moment program.now machine.now thread))) classes.now ≡ true → CountedAll
         program.now machine.now seen.old.items (begins (moment program.now machine.now thread)) →
@@ -282,7 +281,7 @@ pub fn prepared_fit(
 {
     let mut seen = Vec::new(alloc);
     count_prepared(program, machine, classes, &mut seen)?;
-    Ok(has_room_for(machine, seen.len(), string_slots(program), objects, slots))
+    Ok(seen_fit(program, machine, seen.as_slice(), objects, slots))
 }
 
 /// Whether what these classes make, as the quiet ones become done, fits together with the constants of a class. Nothing is
@@ -308,5 +307,5 @@ pub(crate) fn prepared_class_fits(
     let mut seen = Vec::new(alloc);
     count_prepared(program, machine, classes, &mut seen)?;
     count_constants(program, machine, class, &mut seen)?;
-    Ok(has_room_for(machine, seen.len(), string_slots(program), 0, 0))
+    Ok(seen_fit(program, machine, seen.as_slice(), 0, 0))
 }

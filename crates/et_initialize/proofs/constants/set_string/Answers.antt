@@ -15,5 +15,5 @@ returns c =
     on_ok_weaker c.tell_update.result
     (λ (told : TellsUpdate c.clock.result c.args.thread 0 i c.set_static-old.result (Ref c.in_ok-object.object) c.string_of.new.out c.tell_update.new.out).
     string_written e i c.in_ok-object.object (string_object c.args.bytes.now d) c.clock.result c.set_static-old.result d m c.string_of.new.machine c.set_static-old.new.self c.string_of.new.out c.tell_update.new.out c.in_ok-object.ensures.made
-    (still_unset e c.args.bytes.now i (so_far m c.args.out.now) c.requires.unset) c.in_ok-object.ensures.object c.set_static-old.ensures.value c.set_static-old.ensures.new c.clock.ensures told)
+    (still_unset e c.args.bytes.now i (so_far m c.args.out.now) c.requires.writes.unset) c.in_ok-object.ensures.object c.set_static-old.ensures.value c.set_static-old.ensures.new c.clock.ensures told)
     c.tell_update.ensures.ok

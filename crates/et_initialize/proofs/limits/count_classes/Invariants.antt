@@ -1,14 +1,14 @@
-use Rattle.std.proofs.Common.{ℕ, ◌<◌, All, length, take}
+use Rattle.std.proofs.Common.{ℕ, take}
 use Rattle.std.specs.Prelude.{fold}
 use Rattle.et_state.specs.State.{Kept}
 use Rattle.et_event.specs.Moments.{Doing}
-use Rattle.et_initialize.specs.Texts.{CountedAll}
+use Rattle.et_initialize.specs.Texts.{AreFields, CountedAll}
 use Rattle.et_initialize.proofs.Setting.{done_step}
 use Rattle.et_initialize.proofs.limits.count_classes.Given as goal
 
 abbrev pub invariant-loop-k : goal.invariant-loop-k
 invariant-loop-k l = record {
-  within : All (λ f. f < length l.program.fields) l.seen.items;
+  within : AreFields l.program l.seen.items;
   counted : (before : Kept) (thread : ℕ) (d : Doing) → CountedAll l.program l.machine l.fn.seen.items d
       → CountedAll l.program l.machine l.seen.items (fold (done_step (record { program = l.program; before = before; thread = thread })) d (take l.k l.classes));
 }

@@ -1,14 +1,14 @@
-use Rattle.std.proofs.Common.{ℕ, ◌<◌, All, length, take}
+use Rattle.std.proofs.Common.{ℕ, take}
 use Rattle.std.specs.Prelude.{fold}
 use Rattle.et_state.specs.State.{Kept}
 use Rattle.et_event.specs.Moments.{Doing}
 use Rattle.et_event.specs.Initialization.{field_set}
-use Rattle.et_initialize.specs.Texts.{Counted}
+use Rattle.et_initialize.specs.Texts.{AreFields, Counted}
 use Rattle.et_initialize.proofs.limits.count_constants.Given as goal
 
 abbrev pub invariant-loop-k : goal.invariant-loop-k
 invariant-loop-k l = record {
-  within : All (λ f. f < length l.program.fields) l.seen.items;
+  within : AreFields l.program l.seen.items;
   counted : (before : Kept) (thread : ℕ) (d : Doing) → Counted l.program l.machine l.fn.seen.items d
       → Counted l.program l.machine l.seen.items (fold (field_set (record { program = l.program; before = before; thread = thread })) d (take l.k l.constants));
 }

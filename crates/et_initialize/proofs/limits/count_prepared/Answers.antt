@@ -10,7 +10,7 @@ pub loop-k-preserved : goal.loop-k-preserved
 loop-k-preserved c = record {
   within = c.in_ok-count_quiet.ensures.within;
   counted = λ thread ready none.
-      counted_more c.args.program.now c.args.machine.now thread c.args.classes.now c.loop-k.k c.index-classes-k.result c.loop-k.seen.items c.count_quiet.new.seen.items c.requires.program c.requires.all ready c.requires.classes
+      counted_more c.args.program.now c.args.machine.now thread c.args.classes.now c.loop-k.k c.index-classes-k.result c.loop-k.seen.items c.count_quiet.new.seen.items c.requires.program c.requires.all ready c.requires.counts.classes
       c.loop-k-test.true c.index-classes-k.is c.in_ok-count_quiet.ensures.counted c.in_ok-count_quiet.ensures.other (c.loop-k.invariant.counted thread ready none);
 }
 

@@ -1,7 +1,8 @@
-use Rattle.std.proofs.Common.{◌<◌, length, sym, subst}
+use Rattle.std.proofs.Common.{◌<◌, length, refl, sym, subst}
 use Rattle.et_state.specs.Threads.{lost_room}
 use Rattle.et_state.specs.State.{MachineState}
-use Rattle.et_initialize.proofs.Preparing.{pre_ready, pre_has_room, pre_came}
+use Rattle.et_initialize.proofs.Running.{round_has_room, round_came}
+use Rattle.et_initialize.proofs.Preparing.{grown_prepared, pre_ready, pre_step}
 use Rattle.et_initialize.proofs.steps.prepare.Goals as goal
 
 pub prepare_class-requires-clause-sets : goal.prepare_class-requires-clause-sets
@@ -13,9 +14,9 @@ prepare_class-requires-clause-sets c = record {
 
 pub prepare_class-requires-clause-fits : goal.prepare_class-requires-clause-fits
 prepare_class-requires-clause-fits c =
-    pre_has_room c.args.program.now c.args.thread c.args.machine.now c.loop-k.machine c.args.out.now c.loop-k.out c.args.classes.now c.loop-k.k c.index-classes-k.result c.loop-k-test.true c.index-classes-k.is c.requires.fits c.loop-k.invariant
+    round_has_room pre_step c.args.program.now c.args.thread c.args.machine.now c.loop-k.machine c.args.out.now c.loop-k.out c.args.classes.now c.loop-k.k c.index-classes-k.result grown_prepared (λ b b' x. refl) c.loop-k-test.true c.index-classes-k.is c.requires.fits c.loop-k.invariant
 
 pub loop-k-preserved : goal.loop-k-preserved
 loop-k-preserved c =
-    pre_came c.args.program.now c.args.thread c.args.machine.now c.loop-k.machine c.prepare_class.new.machine c.args.out.now c.loop-k.out c.prepare_class.new.out c.args.classes.now c.loop-k.k c.index-classes-k.result
-    c.loop-k-test.true c.index-classes-k.is c.loop-k.invariant c.in_ok-prepare_class.ensures
+    round_came pre_step c.args.program.now c.args.thread c.args.machine.now c.loop-k.machine c.prepare_class.new.machine c.args.out.now c.loop-k.out c.prepare_class.new.out c.args.classes.now c.loop-k.k c.index-classes-k.result
+    (λ b b' x. refl) c.loop-k-test.true c.index-classes-k.is c.loop-k.invariant c.in_ok-prepare_class.ensures
