@@ -63,86 +63,6 @@ fn is_known(program: &Program, machine: &Machine, seen: &[FieldId], bytes: &[u8]
     machine.interned(bytes).is_some() || is_seen(program, seen, bytes)
 }
 
-/// Adds a field to those that were seen, where its constant is a string that isn't there yet.
-fn count_field(
-    program: &Program,
-    machine: &Machine,
-    field: FieldId,
-    seen: &mut Vec<FieldId>,
-) -> Result<(), NoMemory>
-    requires field { field < length program.now.fields }
-    requires within { AreFields program.now seen.old.items }
-    ensures within { OnOk result (AreFields program.now seen.new.items) }
-    ensures counted { OnOk result (Adds program.now machine.now seen.old.items seen.new.items
-        (λ e d. field_set e d field)) }
-{
-    if let Some(text) = text_of(program, field) {
-        if !is_known(program, machine, seen.as_slice(), text) {
-            seen.push(field)?;
-        }
-    }
-    Ok(())
-}
-
-/// Adds the constants of a class that make strings.
-fn count_constants(
-    program: &Program,
-    machine: &Machine,
-    class: ClassId,
-    seen: &mut Vec<FieldId>,
-) -> Result<(), NoMemory>
-    requires class { class < length program.now.classes }
-    requires within { AreFields program.now seen.old.items }
-    ensures within { OnOk result (AreFields program.now seen.new.items) }
-    ensures counted { OnOk result (Adds program.now machine.now seen.old.items seen.new.items
-        (λ e d. constants_set e class d)) }
-{
-    let constants = program.class(class).constants.as_slice();
-    for k in 0..constants.len() {
-        count_field(program, machine, constants[k], seen)?;
-    }
-    Ok(())
-}
-
-/// Adds the constants of a class that make strings, where it is untouched.
-fn count_class(
-    program: &Program,
-    machine: &Machine,
-    class: ClassId,
-    seen: &mut Vec<FieldId>,
-) -> Result<(), NoMemory>
-    requires class { class < length program.now.classes }
-    requires counts { MayCount program.now machine.now seen.old.items }
-    ensures within { OnOk result (AreFields program.now seen.new.items) }
-    ensures counted { OnOk result (AddsOfDone program.now machine.now
-        seen.old.items seen.new.items (λ e d. class_done e class (state_of d class) d)) }
-{
-    match machine.class_state(class) {
-        ClassState::Untouched => count_constants(program, machine, class, seen),
-        _ => Ok(()),
-    }
-}
-
-/// Adds the constants of all untouched classes among these that make strings.
-fn count_classes(
-    program: &Program,
-    machine: &Machine,
-    classes: &[ClassId],
-    seen: &mut Vec<FieldId>,
-) -> Result<(), NoMemory>
-    requires all { All (λ c. c < length program.now.classes) classes.now }
-    requires counts { MayCount program.now machine.now seen.old.items }
-    ensures within { OnOk result (AreFields program.now seen.new.items) }
-    ensures counted { OnOk result (AddsOfDone program.now machine.now
-        seen.old.items seen.new.items
-        (λ e d. fold (λ x k. class_done e k (state_of x k) x) d classes.now)) }
-{
-    for k in 0..classes.len() {
-        count_class(program, machine, classes[k], seen)?;
-    }
-    Ok(())
-}
-
 /// How many slots a string has.
 fn string_slots(program: &Program) -> u32
     ensures { result ≡ slots_of_string program.now }
@@ -163,18 +83,124 @@ fn has_room_for(machine: &Machine, strings: usize, each: u32, objects: u32, slot
     strings as u64 * each as u64 + slots as u64 <= room
 }
 
-/// Whether the strings of the fields that were seen, so many objects and so many slots besides may be made.
-fn seen_fit(
-    program: &Program,
-    machine: &Machine,
-    seen: &[FieldId],
-    objects: u32,
-    slots: u32,
-) -> bool
-    ensures { (d : Doing) → Counted program.now machine.now seen.now d →
-        result ≡ has_room d.state.heap objects slots }
-{
-    has_room_for(machine, seen.len(), string_slots(program), objects, slots)
+/// A count of the strings that the constants of classes make in a program, from the state of its machine on: the fields are
+/// listed that make them.
+#[derive(Clone, Copy)]
+pub(crate) struct Count<'a> {
+    program: &'a Program,
+    machine: &'a Machine,
+}
+
+impl<'a> Count<'a> {
+    /// Adds a field to those that were seen, where its constant is a string that isn't there yet.
+    fn count_field(&self, field: FieldId, seen: &mut Vec<FieldId>) -> Result<(), NoMemory>
+        requires field { field < length self.now.program.now.fields }
+        requires within { AreFields self.now.program.now seen.old.items }
+        ensures within { OnOk result (AreFields self.now.program.now seen.new.items) }
+        ensures counted { OnOk result (Adds self.now seen.old.items seen.new.items
+            (λ e d. field_set e d field)) }
+    {
+        if let Some(text) = text_of(self.program, field) {
+            if !is_known(self.program, self.machine, seen.as_slice(), text) {
+                seen.push(field)?;
+            }
+        }
+        Ok(())
+    }
+
+    /// Adds the constants of a class that make strings.
+    fn count_constants(&self, class: ClassId, seen: &mut Vec<FieldId>) -> Result<(), NoMemory>
+        requires class { class < length self.now.program.now.classes }
+        requires within { AreFields self.now.program.now seen.old.items }
+        ensures within { OnOk result (AreFields self.now.program.now seen.new.items) }
+        ensures counted { OnOk result (Adds self.now seen.old.items seen.new.items
+            (λ e d. constants_set e class d)) }
+    {
+        let constants = self.program.class(class).constants.as_slice();
+        for k in 0..constants.len() {
+            self.count_field(constants[k], seen)?;
+        }
+        Ok(())
+    }
+
+    /// Adds the constants of a class that make strings, where it is untouched.
+    fn count_class(&self, class: ClassId, seen: &mut Vec<FieldId>) -> Result<(), NoMemory>
+        requires class { class < length self.now.program.now.classes }
+        requires counts { MayCount self.now seen.old.items }
+        ensures within { OnOk result (AreFields self.now.program.now seen.new.items) }
+        ensures counted { OnOk result (AddsOfDone self.now
+            seen.old.items seen.new.items (λ e d. class_done e class (state_of d class) d)) }
+    {
+        match self.machine.class_state(class) {
+            ClassState::Untouched => self.count_constants(class, seen),
+            _ => Ok(()),
+        }
+    }
+
+    /// Adds the constants of all untouched classes among these that make strings.
+    fn count_classes(&self, classes: &[ClassId], seen: &mut Vec<FieldId>) -> Result<(), NoMemory>
+        requires all { All (λ c. c < length self.now.program.now.classes) classes.now }
+        requires counts { MayCount self.now seen.old.items }
+        ensures within { OnOk result (AreFields self.now.program.now seen.new.items) }
+        ensures counted { OnOk result (AddsOfDone self.now
+            seen.old.items seen.new.items
+            (λ e d. fold (λ x k. class_done e k (state_of x k) x) d classes.now)) }
+    {
+        for k in 0..classes.len() {
+            self.count_class(classes[k], seen)?;
+        }
+        Ok(())
+    }
+
+    /// Adds the constants that make strings of an untouched quiet class and of what is initialized with it.
+    fn count_quiet(&self, class: ClassId, seen: &mut Vec<FieldId>) -> Result<(), NoMemory>
+        requires class { class < length self.now.program.now.classes }
+        requires counts { MayCount self.now seen.old.items }
+        ensures within { OnOk result (AreFields self.now.program.now seen.new.items) }
+        ensures counted { OnOk result (class_state_at self.now.machine.now.guest class
+            ≡ states.Untouched →
+            AddsOfDone self.now seen.old.items seen.new.items (λ e d. quietly_done e class d)) }
+        ensures other { OnOk result ((class_state_at self.now.machine.now.guest class
+            ≡ states.Untouched → ⊥) → seen.new.items ≡ seen.old.items) }
+    {
+        match self.machine.class_state(class) {
+            ClassState::Untouched => self.count_classes(self.program.init_order(class), seen),
+            _ => Ok(()),
+        }
+    }
+
+    /// Adds the constants that make strings as these classes, for which nothing is waited, become done where they are quiet.
+    fn count_prepared(&self, classes: &[ClassId], seen: &mut Vec<FieldId>) -> Result<(), NoMemory>
+        requires program { IsInOrder self.now.program.now }
+        requires all { All (λ c. c < length self.now.program.now.classes) classes.now }
+        requires counts { MayCount self.now seen.old.items }
+        ensures within { OnOk result (AreFields self.now.program.now seen.new.items) }
+        ensures counted { OnOk result ((thread : ℕ) →
+            let e = moment self.now.program.now self.now.machine.now thread in
+            list_all (is_ready e (begins e)) classes.now ≡ true →
+            CountedAll self.now.program.now self.now.machine.now seen.old.items (begins e) →
+            CountedAll self.now.program.now self.now.machine.now seen.new.items
+            (prepared e classes.now (begins e))) }
+    {
+        for k in 0..classes.len() {
+            self.count_quiet(classes[k], seen)?;
+        }
+        Ok(())
+    }
+
+    /// Whether the strings of the fields that were seen, so many objects and so many slots besides may be made.
+    fn seen_fit(&self, seen: &[FieldId], objects: u32, slots: u32) -> bool
+        ensures { (d : Doing) → Counted self.now.program.now self.now.machine.now seen.now d →
+            result ≡ has_room d.state.heap objects slots }
+    {
+        has_room_for(
+            self.machine,
+            seen.len(),
+            string_slots(self.program),
+            objects,
+            slots,
+        )
+    }
 }
 
 /// Whether the strings that the constants of a quiet class make, with those of what is initialized with it, each once, fit
@@ -193,9 +219,10 @@ pub fn quiet_fits(
         fits ≡ has_room (quietly_done (moment program.now machine.now thread) class
         (begins (moment program.now machine.now thread))).state.heap objects slots) }
 {
+    let count = Count { program, machine };
     let mut seen = Vec::new(alloc);
-    count_classes(program, machine, program.init_order(class), &mut seen)?;
-    Ok(seen_fit(program, machine, seen.as_slice(), objects, slots))
+    count.count_classes(program.init_order(class), &mut seen)?;
+    Ok(count.seen_fit(seen.as_slice(), objects, slots))
 }
 
 /// Whether the strings that the constants of a class make fit. Nothing is changed.
@@ -211,54 +238,10 @@ pub(crate) fn constants_fit(
         fits ≡ all_fit (constants_set (moment program.now machine.now thread) class
         (with_state class state (begins (moment program.now machine.now thread)))).state.heap) }
 {
+    let count = Count { program, machine };
     let mut seen = Vec::new(alloc);
-    count_constants(program, machine, class, &mut seen)?;
-    Ok(seen_fit(program, machine, seen.as_slice(), 0, 0))
-}
-
-/// Adds the constants that make strings of an untouched quiet class and of what is initialized with it.
-fn count_quiet(
-    program: &Program,
-    machine: &Machine,
-    class: ClassId,
-    seen: &mut Vec<FieldId>,
-) -> Result<(), NoMemory>
-    requires class { class < length program.now.classes }
-    requires counts { MayCount program.now machine.now seen.old.items }
-    ensures within { OnOk result (AreFields program.now seen.new.items) }
-    ensures counted { OnOk result (class_state_at machine.now.guest class ≡ states.Untouched →
-        AddsOfDone program.now machine.now seen.old.items seen.new.items
-        (λ e d. quietly_done e class d)) }
-    ensures other { OnOk result ((class_state_at machine.now.guest class ≡ states.Untouched → ⊥) →
-        seen.new.items ≡ seen.old.items) }
-{
-    match machine.class_state(class) {
-        ClassState::Untouched => count_classes(program, machine, program.init_order(class), seen),
-        _ => Ok(()),
-    }
-}
-
-/// Adds the constants that make strings as these classes, for which nothing is waited, become done where they are quiet.
-fn count_prepared(
-    program: &Program,
-    machine: &Machine,
-    classes: &[ClassId],
-    seen: &mut Vec<FieldId>,
-) -> Result<(), NoMemory>
-    requires program { IsInOrder program.now }
-    requires all { All (λ c. c < length program.now.classes) classes.now }
-    requires counts { MayCount program.now machine.now seen.old.items }
-    ensures within { OnOk result (AreFields program.now seen.new.items) }
-    ensures counted { OnOk result ((thread : ℕ) → list_all (is_ready (moment program.now machine.now
-        thread) (begins (moment program.now machine.now thread))) classes.now ≡ true → CountedAll
-        program.now machine.now seen.old.items (begins (moment program.now machine.now thread)) →
-        CountedAll program.now machine.now seen.new.items (prepared (moment program.now
-        machine.now thread) classes.now (begins (moment program.now machine.now thread)))) }
-{
-    for k in 0..classes.len() {
-        count_quiet(program, machine, classes[k], seen)?;
-    }
-    Ok(())
+    count.count_constants(class, &mut seen)?;
+    Ok(count.seen_fit(seen.as_slice(), 0, 0))
 }
 
 /// Whether what these classes make, as the quiet ones become done, fits together with so many objects and slots besides
@@ -279,9 +262,10 @@ pub fn prepared_fit(
         fits ≡ has_room (prepared (moment program.now machine.now thread) classes.now
         (begins (moment program.now machine.now thread))).state.heap objects slots) }
 {
+    let count = Count { program, machine };
     let mut seen = Vec::new(alloc);
-    count_prepared(program, machine, classes, &mut seen)?;
-    Ok(seen_fit(program, machine, seen.as_slice(), objects, slots))
+    count.count_prepared(classes, &mut seen)?;
+    Ok(count.seen_fit(seen.as_slice(), objects, slots))
 }
 
 /// Whether what these classes make, as the quiet ones become done, fits together with the constants of a class. Nothing is
@@ -304,8 +288,9 @@ pub(crate) fn prepared_class_fits(
         (with_state class state (prepared (moment program.now machine.now thread) classes.now
         (begins (moment program.now machine.now thread))))).state.heap) }
 {
+    let count = Count { program, machine };
     let mut seen = Vec::new(alloc);
-    count_prepared(program, machine, classes, &mut seen)?;
-    count_constants(program, machine, class, &mut seen)?;
-    Ok(seen_fit(program, machine, seen.as_slice(), 0, 0))
+    count.count_prepared(classes, &mut seen)?;
+    count.count_constants(class, &mut seen)?;
+    Ok(count.seen_fit(seen.as_slice(), 0, 0))
 }

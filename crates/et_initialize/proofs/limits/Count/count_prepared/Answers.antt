@@ -4,13 +4,13 @@ use Rattle.et_event.specs.Moments.{moment, begins}
 use Rattle.et_event.specs.Initialization.{prepared}
 use Rattle.et_initialize.specs.Texts.{CountedAll}
 use Rattle.et_initialize.proofs.Preparing.{counted_more}
-use Rattle.et_initialize.proofs.limits.count_prepared.Goals as goal
+use Rattle.et_initialize.proofs.limits.Count.count_prepared.Goals as goal
 
 pub loop-k-preserved : goal.loop-k-preserved
 loop-k-preserved c = record {
   within = c.in_ok-count_quiet.ensures.within;
   counted = λ thread ready none.
-      counted_more c.args.program.now c.args.machine.now thread c.args.classes.now c.loop-k.k c.index-classes-k.result c.loop-k.seen.items c.count_quiet.new.seen.items c.requires.program c.requires.all ready c.requires.counts.classes
+      counted_more c.args.self.now.program.now c.args.self.now.machine.now thread c.args.classes.now c.loop-k.k c.index-classes-k.result c.loop-k.seen.items c.count_quiet.new.seen.items c.requires.program c.requires.all ready c.requires.counts.classes
       c.loop-k-test.true c.index-classes-k.is c.in_ok-count_quiet.ensures.counted c.in_ok-count_quiet.ensures.other (c.loop-k.invariant.counted thread ready none);
 }
 
@@ -20,5 +20,5 @@ returns-clause-counted c =
     let all : length list ≤ c.loop-k.k = omega (arith, c.loop-k-test.false) in
     let is : take c.loop-k.k list ≡ list = take_all c.loop-k.k list all in
     λ thread ready none.
-    let e = moment c.args.program.now c.args.machine.now thread in
-    subst (λ (ks : List ℕ). CountedAll c.args.program.now c.args.machine.now c.loop-k.seen.items (prepared e ks (begins e))) is (c.loop-k.invariant.counted thread ready none)
+    let e = moment c.args.self.now.program.now c.args.self.now.machine.now thread in
+    subst (λ (ks : List ℕ). CountedAll c.args.self.now.program.now c.args.self.now.machine.now c.loop-k.seen.items (prepared e ks (begins e))) is (c.loop-k.invariant.counted thread ready none)
