@@ -1,8 +1,7 @@
 //! The constant of a static field (JVMS 4.7.2).
-ghost use Rattle.std.specs.Prelude.{◌≡◌, ◌<◌, ◌^◌, true, None, IfOk, OnOk, length};
+ghost use Rattle.std.specs.Prelude.{◌≡◌, ◌<◌, ◌^◌, true, IfOk, OnOk, length};
 ghost use Rattle.et_base.specs.declared.value.Value.TheVariants.{Int, Long, Ref};
 ghost use Rattle.et_state.specs.Words.{with_static};
-ghost use Rattle.et_state.specs.Interned.{object_of};
 ghost use Rattle.et_program.specs.Entries.{field_at};
 ghost use Rattle.et_event.specs.Kinds.{narrowed_int};
 ghost use Rattle.et_event.specs.Moments.{moment, fits_heap};
@@ -30,32 +29,7 @@ fn narrowed(descriptor: &[u8], n: i32) -> i32
     }
 }
 
-/// Makes the object of a string that has none yet, in the event under way. It fits.
-fn make_string(
-    program: &Program,
-    machine: &mut Machine,
-    thread: ThreadId,
-    bytes: &[u8],
-    out: &mut Lines,
-) -> Result<ObjectId, NoMemory>
-    requires short { length bytes.now < 2 ^ 16 }
-    requires first { object_of machine.old.guest.interned bytes.now ≡ None }
-    requires made { AreMade machine.old }
-    requires fits { fits_heap (interned (moment program.now machine.old thread) bytes.now
-        (so_far machine.old out.old)).state.heap ≡ true }
-    ensures object { IfOk result (λ o. o ≡ string_object bytes.now
-        (interned (moment program.now machine.old thread) bytes.now (so_far machine.old out.old))) }
-    ensures made { OnOk result (StandsAt (interned (moment program.now machine.old thread)
-        bytes.now
-        (so_far machine.old out.old)) machine.old machine.new out.new) }
-{
-    let class = class_called(program, BuiltInClass::String);
-    let object = add_instance(program, machine, thread, class, out)?;
-    machine.intern(bytes, object)?;
-    Ok(object)
-}
-
-/// The object of a string, made in the event under way where there is none yet.
+/// The object of a string, made in the event under way where there is none yet. It fits.
 fn string_of(
     program: &Program,
     machine: &mut Machine,
@@ -75,7 +49,12 @@ fn string_of(
 {
     match machine.interned(bytes) {
         Some(object) => Ok(object),
-        None => make_string(program, machine, thread, bytes, out),
+        None => {
+            let class = class_called(program, BuiltInClass::String);
+            let object = add_instance(program, machine, thread, class, out)?;
+            machine.intern(bytes, object)?;
+            Ok(object)
+        }
     }
 }
 

@@ -9,7 +9,7 @@ use Rattle.et_event.specs.Moments.{Doing, Moment, moment, fits_heap}
 use Rattle.et_event.proofs.Making.{fits_made}
 use Rattle.et_event.specs.Telling.{so_far}
 use Rattle.et_initialize.proofs.Strings.{makes, no_text, made_string}
-use Rattle.et_initialize.proofs.constants.make_string.Goals as goal
+use Rattle.et_initialize.proofs.constants.string_of.Goals as goal
 
 pub add_instance-requires : goal.add_instance-requires
 add_instance-requires c =
@@ -18,16 +18,16 @@ add_instance-requires c =
     let e : Moment = moment p m c.args.thread in
     let class : ℕ = class_called p (codes "java/lang/String") in
     ap (λ (k : ℕ). has_room m.heap 1 (class_at p k).info.slots) c.class_called-class.ensures.value
-    ∙ (sym (fits_made m.heap class 0 (class_at p class).info.slots) ∙ (ap (λ (d : Doing). fits_heap d.state.heap) (sym (makes e c.args.bytes.now (so_far m c.args.out.now) c.requires.first)) ∙ c.requires.fits))
+    ∙ (sym (fits_made m.heap class 0 (class_at p class).info.slots) ∙ (ap (λ (d : Doing). fits_heap d.state.heap) (sym (makes e c.args.bytes.now (so_far m c.args.out.now) (sym c.interned.ensures ∙ c.in-None.is))) ∙ c.requires.fits))
 
 pub intern-requires-clause-object : goal.intern-requires-clause-object
 intern-requires-clause-object c =
     let m = c.args.machine.now in
     let none : interned_text m.guest.interned (length m.heap) ≡ None = no_text (length m.heap) m.guest.interned c.requires.made in
-    ap (λ (n : MachineState). interned_text n.guest.interned c.in_ok-object.object) c.in_ok-object.ensures.made.0
-    ∙ (ap (λ (o : ℕ). interned_text m.guest.interned o) c.in_ok-object.ensures.object ∙ none)
+    ap (λ (n : MachineState). interned_text n.guest.interned c.in_ok-object-in-None.object) c.in_ok-object-in-None.ensures.made.0
+    ∙ (ap (λ (o : ℕ). interned_text m.guest.interned o) c.in_ok-object-in-None.ensures.object ∙ none)
 
-pub returns-clause-object : goal.returns-clause-object
-returns-clause-object c =
+pub returns-in_ok-intern-in-None-clause-object : goal.returns-in_ok-intern-in-None-clause-object
+returns-in_ok-intern-in-None-clause-object c =
     let m = c.args.machine.now in
-    made_string (moment c.args.program.now m c.args.thread) c.args.bytes.now (so_far m c.args.out.now) c.in_ok-object.object c.requires.first c.in_ok-object.ensures.object
+    made_string (moment c.args.program.now m c.args.thread) c.args.bytes.now (so_far m c.args.out.now) c.in_ok-object-in-None.object (sym c.interned.ensures ∙ c.in-None.is) c.in_ok-object-in-None.ensures.object
