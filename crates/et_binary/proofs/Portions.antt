@@ -14,6 +14,7 @@ use Rattle.et_binary.specs.Packs.BreaksRecord.{BreaksTable, BreaksOrder, BreaksE
 use Rattle.et_binary.specs.Packs.IsMalformed.{HasNoLetter, IsOutOfRange}
 use Rattle.et_binary.specs.Packs.ShowsPackFault.{ShowsOpening, ShowsRecord}
 use Rattle.et_binary.specs.Packs.LacksRecord.{EndsInOpening, EndsInRecord}
+use Rattle.et_binary.specs.FollowedPacks.{RefusesFrontNext}
 use Rattle.et_binary.specs.Unpacking.{Unpacks, StopsUnpacking, HasPackFault, unpacked_bytes, IsHeldBack, AreUnpacked, IsFront, RefusesFront, TakesAll, MayGoOn, ShowsIn}
 use Rattle.et_binary.proofs.OnePack.{shown_not_lacking, good_shows_none}
 
@@ -31,6 +32,10 @@ shows_more bytes more kind number (ShowsRecord past rest k n read b at) =
     ShowsRecord past (rest ++ more) k n (record { fine = read.fine; parts = ap (λ (t : List ℕ). t ++ more) read.parts ∙ append_assoc (pack (reverse past)) rest more }) (shows_breaks past rest more k b) at
 
 -- ONE RECORD
+
+pub refused_as : (old : Taken) (bytes : List ℕ) (fault : TraceFault) → RefusesFrontNext (reverse old.lines) bytes fault → RefusesFront old bytes fault
+refused_as old bytes faults.NoMemory h = tt
+refused_as old bytes (faults.At kind number) h = record { breaks = h.breaks; at = h.at ∙ ap (λ (n : ℕ). n + 1) (length-reverse old.lines) }
 
 pub refused_by : (old new : Taken) (line : TraceLine) (behind bytes : List ℕ) (fault : TraceFault) → IsFront line behind bytes → Refuses old new line fault → RefusesFront old bytes fault
 refused_by old new line behind bytes faults.NoMemory w h = tt

@@ -1,7 +1,9 @@
 //! The records at the front of bytes.
-ghost use Rattle.std.specs.Prelude.{◌≡◌, ◌<◌, length, slice_index, option_map, reverse, true, None, IfSome, IfNone, IfOk, IfErr, IsOk, IsErrOf};
+ghost use Rattle.std.specs.Prelude.{◌≡◌, ◌+◌, ◌<◌, List, [], length, slice_index, option_map, reverse, true, false, None, IfSome, IfNone, IfOk, IfErr, IsOk, IsErrOf};
+ghost use Rattle.et_base.specs.declared.line.TraceLine.{TraceLine};
 ghost use Rattle.et_binary.specs.Fronts.{is_record_letter, record_front};
-ghost use Rattle.et_text.specs.Rules.{AreFine};
+ghost use Rattle.et_text.specs.Rules.{has_ended, AreFine};
+ghost use Rattle.et_binary.specs.FollowedPacks.{RefusesFrontNext};
 ghost use Rattle.et_binary.specs.Packs.{IsMalformed, IsUnfinished};
 ghost use Rattle.et_binary.specs.Unpacking.{IsFront, TakesRecord, LeavesRecord, RefusesFront, TakesAll, MayGoOn, ShowsIn, unpacked_bytes};
 
@@ -70,6 +72,42 @@ pub fn read_record(alloc: Global, bytes: &[u8]) -> Result<Option<(TraceLine, &[u
     }
 }
 
+/// The line of the first record, which has this number in its trace, and the bytes behind the record. `None` says that no
+/// record is whole. Where the trace has ended, nothing may follow.
+#[inline(always)]
+pub fn next_record(
+    alloc: Global,
+    bytes: &[u8],
+    ended: bool,
+    number: u64,
+) -> Result<Option<(TraceLine, &[u8])>, TraceFault>
+    ensures some { IfOk result (λ found. IfSome found (λ x. IsFront x.0 x.1.now bytes.now)) }
+    ensures unfinished { IfOk result (λ found. IfNone found (IsUnfinished bytes.now)) }
+    ensures ended { IfOk result
+        (λ found. IfNone found (ended ≡ true → bytes.now ≡ [])) }
+    ensures goes_on { IfOk result (λ found. IfSome found (λ x. ended ≡ false)) }
+    ensures err { (past : List TraceLine) → ended ≡ has_ended past → number ≡ length past + 1 →
+        IfErr result (RefusesFrontNext past bytes.now) }
+{
+    if ended {
+        if bytes.is_empty() {
+            return Ok(None);
+        }
+        return Err(TraceFault::At {
+            kind: AFTER,
+            line: number,
+        });
+    }
+    match read_record(alloc, bytes) {
+        Ok(found) => Ok(found),
+        Err(LineError::Form) => Err(TraceFault::At {
+            kind: FORM,
+            line: number,
+        }),
+        Err(LineError::Memory) => Err(TraceFault::NoMemory),
+    }
+}
+
 /// Takes the first record where it is whole, and says what stands behind it.
 fn take_record<'a>(
     alloc: Global,
@@ -84,27 +122,12 @@ fn take_record<'a>(
         (λ left. IfNone left (LeavesRecord rules.old rules.new bytes.now)) }
     ensures err { IfErr result (RefusesFront rules.old bytes.now) }
 {
-    let number = rules.next_number();
-    if rules.has_ended() {
-        if bytes.is_empty() {
-            return Ok(None);
-        }
-        return Err(TraceFault::At {
-            kind: AFTER,
-            line: number,
-        });
-    }
-    match read_record(alloc, bytes) {
-        Ok(Some((line, behind))) => {
+    match next_record(alloc, bytes, rules.has_ended(), rules.next_number())? {
+        Some((line, behind)) => {
             rules.take(line)?;
             Ok(Some(behind))
         }
-        Ok(None) => Ok(None),
-        Err(LineError::Form) => Err(TraceFault::At {
-            kind: FORM,
-            line: number,
-        }),
-        Err(LineError::Memory) => Err(TraceFault::NoMemory),
+        None => Ok(None),
     }
 }
 

@@ -5,8 +5,8 @@ ghost use Rattle.et_text.specs.Followed.{IsFollowed};
 ghost use Rattle.et_binary.specs.FollowedPacks.{FollowsFront, LeavesFront, RefusesFrontNext, IsPackFollowed, IsFaultOfPack};
 
 use crate::ranges::{OPENING, may_open};
-use crate::records::read_record;
-use et_text::{AFTER, FORM, Follower, Following, LineError, TraceFault, UNENDED};
+use crate::records::next_record;
+use et_text::{FORM, Follower, Following, TraceFault, UNENDED};
 use std::alloc::Global;
 
 /// Hands on the line of the first record where it is whole, and says what stands behind it.
@@ -25,27 +25,12 @@ fn take_front<'a, F: Follower>(
     ensures err { (past : List TraceLine) → IsFollowed F.follows 2 lines.old past →
         IfErr result (RefusesFrontNext past bytes.now) }
 {
-    let number = lines.next_number();
-    if lines.has_ended() {
-        if bytes.is_empty() {
-            return Ok(None);
-        }
-        return Err(TraceFault::At {
-            kind: AFTER,
-            line: number,
-        });
-    }
-    match read_record(alloc, bytes) {
-        Ok(Some((line, behind))) => {
+    match next_record(alloc, bytes, lines.has_ended(), lines.next_number())? {
+        Some((line, behind)) => {
             lines.take(&line)?;
             Ok(Some(behind))
         }
-        Ok(None) => Ok(None),
-        Err(LineError::Form) => Err(TraceFault::At {
-            kind: FORM,
-            line: number,
-        }),
-        Err(LineError::Memory) => Err(TraceFault::NoMemory),
+        None => Ok(None),
     }
 }
 

@@ -1,22 +1,18 @@
-use Rattle.std.proofs.Common.{◌<◌, length, arith, sym, ◌∙◌}
-use Rattle.std.proofs.lemmas.Bool.Decides.{nat_tests}
+use Rattle.std.proofs.Common.{ℕ, ◌+◌, sym, ap, ◌∙◌}
+use Rattle.std.specs.Prelude.{reverse}
+use Rattle.std.proofs.lemmas.List.{length-reverse}
 use Rattle.std.proofs.lemmas.Result.{err_from_is_err_and}
-use Rattle.et_binary.specs.Packs.BreaksRecord.{BreaksTable, BreaksEnd}
-use Rattle.et_binary.proofs.Portions.{refused_by}
+use Rattle.et_binary.proofs.Portions.{refused_as, refused_by}
 use Rattle.et_binary.proofs.records.take_record.Goals as goal
 
-pub returns-then-has_ended-clause-err : goal.returns-then-has_ended-clause-err
-returns-then-has_ended-clause-err c =
-    let some : 0 < length c.args.bytes.now = grind (arith, nat_tests, c.if-is_empty.ensures) in
-    record { breaks = BreaksEnd (sym (c.has_ended.ensures c.requires.unharmed) ∙ c.if-has_ended.true) some; at = c.next_number-number.ensures }
-
-pub returns-in_err-take-in-Ok-Some-clause-err : goal.returns-in_err-take-in-Ok-Some-clause-err
-returns-in_err-take-in-Ok-Some-clause-err c =
+pub returns-in_err-line-clause-err : goal.returns-in_err-line-clause-err
+returns-in_err-line-clause-err c =
     let p = err_from_is_err_and c.from_residual.result c.from_residual.ensures.1 in
-    rw (p.1, p.2) (refused_by c.args.rules.now c.take.new.self c.in-Ok-Some.line c.in-Ok-Some.behind.now c.args.bytes.now c.in_err-take-in-Ok-Some.field-0.0 (rw c.in-Ok-Some.field-0-is at c.in-Ok-Some.ensures.found) (c.in_err-take-in-Ok-Some.ensures.err c.requires.unharmed))
+    let rules = c.args.rules.now in
+    rw (p.1, p.2) (refused_as rules c.args.bytes.now c.in_err-line.field-0.0
+    (c.in_err-line.ensures.err (reverse rules.lines) (c.has_ended.ensures c.requires.unharmed) (c.next_number.ensures ∙ ap (λ (n : ℕ). n + 1) (sym (length-reverse rules.lines)))))
 
-pub returns-in-Err-Form-clause-err : goal.returns-in-Err-Form-clause-err
-returns-in-Err-Form-clause-err c = record {
-  breaks = BreaksTable (sym (c.has_ended.ensures c.requires.unharmed) ∙ c.if-has_ended.false) (let e = c.in-Err-Form.field-0-is in c.in-Err-Form.ensures.form (cc));
-  at = c.next_number-number.ensures;
-}
+pub returns-in_err-take-in-Some-clause-err : goal.returns-in_err-take-in-Some-clause-err
+returns-in_err-take-in-Some-clause-err c =
+    let p = err_from_is_err_and c.from_residual-in_err-take-in-Some.result c.from_residual-in_err-take-in-Some.ensures.1 in
+    rw (p.1, p.2) (refused_by c.args.rules.now c.take.new.self c.in-Some.line c.in-Some.behind.now c.args.bytes.now c.in_err-take-in-Some.field-0.0 (rw c.in-Some.is at c.in_ok-line.ensures.some) (c.in_err-take-in-Some.ensures.err c.requires.unharmed))
