@@ -1,11 +1,12 @@
 -- The whole text of a snapshot, put part by part.
 use Rattle.std.proofs.Common.{◌≡◌, ◌∙◌, ℕ, List, [], ◌∷◌, ◌++◌, length, refl, sym, ap, subst, append_assoc}
-use Rattle.std.specs.Prelude.{reverse, codes, None}
+use Rattle.std.specs.Prelude.{reverse, codes, None, Result, OnOk, OnErr}
 use Rattle.std.specs.List.{flat_map}
 use Rattle.std.proofs.lemmas.List.{length-map}
+use Rattle.std.proofs.lemmas.Result.{on_ok_weaker, on_err_weaker}
 use Rattle.et_base.specs.declared.line.TraceLine.{TraceLine}
-use Rattle.et_io.specs.Sink.{Log, TakesUpTo, TakesPrefix}
-use Rattle.et_io.proofs.Taking.{longer}
+use Rattle.et_io.specs.Sink.{Log, with_more, TakesUpTo, TakesPrefix}
+use Rattle.et_io.proofs.Taking.{all_put, longer, part_put}
 use Rattle.et_text.specs.Rules.{AreFine}
 use Rattle.et_text.specs.Spelling.{number_field}
 use Rattle.et_replay.specs.Curve.{live}
@@ -112,7 +113,16 @@ module _ (lines : List TraceLine) (e : ℕ) (heap : Heap) (totals : List Total) 
           subst (λ (t : List ℕ). TakesPrefix old three t) parts_are
           (last_stops old one two three (head_of e all) (statics_of heap) (object_text heap) (class_text heap totals) a b statics_put objects_put (subst (λ (t : List ℕ). TakesPrefix two three (b ++ t)) classes_are p))
 
-      pub all_gathered : (d : List ℕ) → TakesUpTo two three (b ++ classes) d → TakesUpTo old three (snapshot_text lines e) d
+      all_gathered : (d : List ℕ) → TakesUpTo two three (b ++ classes) d → TakesUpTo old three (snapshot_text lines e) d
       all_gathered d q =
           subst (λ (t : List ℕ). TakesUpTo old three t d) parts_are
           (three_up_to old one two three (head_of e all) (statics_of heap) (object_text heap) (class_text heap totals) a b d statics_put objects_put (subst (λ (t : List ℕ). TakesUpTo two three (b ++ t) d) classes_are q))
+
+      -- the rest is put, or fails to be
+      pub whole_put : {T E : Type 0} (d rest : List ℕ) (new : Log) (r : Result T E) → TakesUpTo two three (b ++ classes) d → rest ≡ d → OnOk r (new ≡ with_more three rest) → OnOk r (new ≡ with_more old (snapshot_text lines e))
+      whole_put d rest new r q same ok =
+          on_ok_weaker r (λ (taken : new ≡ with_more three rest). all_put old three new (snapshot_text lines e) d (all_gathered d q) (taken ∙ ap (λ (t : List ℕ). with_more three t) same)) ok
+
+      pub whole_stops : {T E : Type 0} (d rest : List ℕ) (new : Log) (r : Result T E) → TakesUpTo two three (b ++ classes) d → rest ≡ d → OnErr r (TakesPrefix three new rest) → OnErr r (TakesPrefix old new (snapshot_text lines e))
+      whole_stops d rest new r q same err =
+          on_err_weaker r (λ (part : TakesPrefix three new rest). part_put old three new (snapshot_text lines e) d (all_gathered d q) (subst (λ (t : List ℕ). TakesPrefix three new t) same part)) err

@@ -1,17 +1,14 @@
-use Rattle.std.proofs.Common.{◌≡◌, ◌∙◌, ℕ, List, [], ◌++◌, length, sym, ap, subst}
+use Rattle.std.proofs.Common.{◌∙◌, ℕ, List, length, sym, ap, subst}
 use Rattle.std.specs.Prelude.{All}
-use Rattle.std.specs.List.{flat_map}
 use Rattle.std.specs.declared.vec.Vec.{Vec}
 use Rattle.std.specs.declared.alloc.Global.{Global}
-use Rattle.std.proofs.lemmas.Result.{on_ok_weaker, on_err_weaker}
-use Rattle.et_io.specs.Sink.{with_more, TakesUpTo, TakesPrefix}
-use Rattle.et_io.proofs.Taking.{all_put, none_put, part_put}
+use Rattle.et_io.proofs.Taking.{none_put}
 use Rattle.et_snapshot.specs.Snapshot.{snapshot_text}
 use Rattle.et_snapshot.specs.declared.objects.Entry.{Entry}
 use Rattle.et_snapshot.specs.declared.totals.Total.{Total}
 use Rattle.et_snapshot.specs.Heap.{objects_of, lists_of, rows_of, total_rows, HasClass}
 use Rattle.et_snapshot.proofs.Pieces.{on_err}
-use Rattle.et_snapshot.proofs.Wholes.{object_text_is, class_text_is, stops_at_statics, stops_at_objects, stops_at_classes, all_gathered}
+use Rattle.et_snapshot.proofs.Wholes.{object_text_is, class_text_is, stops_at_statics, stops_at_objects, stops_at_classes, whole_put, whole_stops}
 use Rattle.et_snapshot.proofs.snapshot.snapshot_lines.Goals as goal
 
 pub put_objects-requires : goal.put_objects-requires
@@ -30,30 +27,18 @@ put_classes-requires g c =
 pub returns-clause-ok : goal.returns-clause-ok
 returns-clause-ok g c =
     let r = c.in-Ok.field-0 in
-    let old = g.O.Sink.taken c.args.sink.now in
-    let three = g.O.Sink.taken c.put_classes.new.sink in
-    let new = g.O.Sink.taken c.put_all.new.sink in
-    let d = c.put_classes.new.text.items in
-    let gathered = all_gathered c.args.trace.now c.args.event r.heap r.totals.items r.all c.in-Ok.ensures c.new-text.result.items c.put_head.new.text.items c.new-text.ensures.items c.in-Ok-put_head.ensures (g.O.Sink.taken c.args.sink.now) (g.O.Sink.taken c.put_slots.new.sink)
+    whole_put c.args.trace.now c.args.event r.heap r.totals.items r.all c.in-Ok.ensures c.new-text.result.items c.put_head.new.text.items c.new-text.ensures.items c.in-Ok-put_head.ensures (g.O.Sink.taken c.args.sink.now) (g.O.Sink.taken c.put_slots.new.sink)
     c.put_slots.new.text.items _ (object_text_is r.heap c.deref.result.now c.deref-2.result.now c.deref.ensures.value c.deref-2.ensures.value) c.in_ok-put_slots.ensures.ok (g.O.Sink.taken c.put_objects.new.sink)
-    c.put_objects.new.text.items _ (class_text_is r.heap r.totals.items c.deref-3.result.now c.deref-4.result.now c.deref-3.ensures.value c.deref-4.ensures.value) c.in_ok-put_objects.ensures.ok (g.O.Sink.taken c.put_classes.new.sink) d c.in_ok-put_classes.ensures.ok in
-    on_ok_weaker c.put_all.result
-    (λ (taken : new ≡ with_more three c.as_slice.result.now). all_put old three new (snapshot_text c.args.trace.now c.args.event) d gathered (taken ∙ ap (λ (t : List ℕ). with_more three t) c.as_slice.ensures.value))
-    c.put_all.ensures.ok
+    c.put_objects.new.text.items _ (class_text_is r.heap r.totals.items c.deref-3.result.now c.deref-4.result.now c.deref-3.ensures.value c.deref-4.ensures.value) c.in_ok-put_objects.ensures.ok (g.O.Sink.taken c.put_classes.new.sink)
+    c.put_classes.new.text.items c.as_slice.result.now (g.O.Sink.taken c.put_all.new.sink) c.put_all.result c.in_ok-put_classes.ensures.ok c.as_slice.ensures.value c.put_all.ensures.ok
 
 pub returns-clause-err : goal.returns-clause-err
 returns-clause-err g c =
     let r = c.in-Ok.field-0 in
-    let old = g.O.Sink.taken c.args.sink.now in
-    let three = g.O.Sink.taken c.put_classes.new.sink in
-    let new = g.O.Sink.taken c.put_all.new.sink in
-    let d = c.put_classes.new.text.items in
-    let gathered = all_gathered c.args.trace.now c.args.event r.heap r.totals.items r.all c.in-Ok.ensures c.new-text.result.items c.put_head.new.text.items c.new-text.ensures.items c.in-Ok-put_head.ensures (g.O.Sink.taken c.args.sink.now) (g.O.Sink.taken c.put_slots.new.sink)
+    whole_stops c.args.trace.now c.args.event r.heap r.totals.items r.all c.in-Ok.ensures c.new-text.result.items c.put_head.new.text.items c.new-text.ensures.items c.in-Ok-put_head.ensures (g.O.Sink.taken c.args.sink.now) (g.O.Sink.taken c.put_slots.new.sink)
     c.put_slots.new.text.items _ (object_text_is r.heap c.deref.result.now c.deref-2.result.now c.deref.ensures.value c.deref-2.ensures.value) c.in_ok-put_slots.ensures.ok (g.O.Sink.taken c.put_objects.new.sink)
-    c.put_objects.new.text.items _ (class_text_is r.heap r.totals.items c.deref-3.result.now c.deref-4.result.now c.deref-3.ensures.value c.deref-4.ensures.value) c.in_ok-put_objects.ensures.ok (g.O.Sink.taken c.put_classes.new.sink) d c.in_ok-put_classes.ensures.ok in
-    on_err_weaker c.put_all.result
-    (λ (part : TakesPrefix three new c.as_slice.result.now). part_put old three new (snapshot_text c.args.trace.now c.args.event) d gathered (subst (λ (t : List ℕ). TakesPrefix three new t) c.as_slice.ensures.value part))
-    c.put_all.ensures.err
+    c.put_objects.new.text.items _ (class_text_is r.heap r.totals.items c.deref-3.result.now c.deref-4.result.now c.deref-3.ensures.value c.deref-4.ensures.value) c.in_ok-put_objects.ensures.ok (g.O.Sink.taken c.put_classes.new.sink)
+    c.put_classes.new.text.items c.as_slice.result.now (g.O.Sink.taken c.put_all.new.sink) c.put_all.result c.in_ok-put_classes.ensures.ok c.as_slice.ensures.value c.put_all.ensures.err
 
 pub returns-in_default-clause-err : goal.returns-in_default-clause-err
 returns-in_default-clause-err g c = none_put (g.O.Sink.taken c.args.sink.now) (snapshot_text c.args.trace.now c.args.event)
