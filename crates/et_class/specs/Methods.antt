@@ -1,21 +1,26 @@
 -- The rules on methods (JVMS 4.6) and on their Code attribute (4.7.3).
-use Rattle.std.specs.Prelude.{ℕ, ◌+◌, List, [], ◌∷◌, ◌++◌, Bool, true, false, not, nat_le, ◌&&◌, ◌||◌, if◌then◌else◌, Option, Some, None, option_and_then, option_map, is_some, Result, Ok, Err}
+use Rattle.std.specs.Prelude.{◌≡◌, ℕ, map, ◌+◌, List, [], ◌∷◌, ◌++◌, Bool, true, false, not, nat_le, ◌&&◌, ◌||◌, if◌then◌else◌, Option, Some, None, option_and_then, option_map, is_some, Result, Ok, Err}
 use Rattle.std.specs.List.{list_any, find}
 use Rattle.et_base.specs.Marks.{Mark, mark}
 use Rattle.et_pool.specs.declared.descriptor.MethodShape.{MethodShape}
 use Rattle.et_pool.specs.Entries.{Item}
-use Rattle.et_pool.specs.Looks.{utf8_at}
+use Rattle.et_pool.specs.Looks.{utf8_at, tag_of_slot}
 use Rattle.et_pool.specs.Descriptors.{method_type, shape_of_method}
 use Rattle.et_code.specs.declared.body.TheConstants.{CODE, UNSUPPORTED}
 use Rattle.et_code.specs.Bodies.{Body}
 use Rattle.et_class.specs.declared.fault.TheConstants.{FLAGS, DESCRIPTOR, MEMBER, ATTRIBUTE}
 use Rattle.et_class.specs.declared.flags.TheConstants.{PRIVATE, STATIC, FINAL, SYNCHRONIZED, NATIVE, ABSTRACT}
 use Rattle.et_class.specs.declared.names.TheConstants.{CODE_NAME, INIT, CLINIT}
+use Rattle.et_class.specs.declared.methods.Constants.{Constants}
 use Rattle.et_class.specs.Layout.{AttributeOf, MemberOf, attribute_bytes}
 use Rattle.et_class.specs.Along.{along}
 use Rattle.et_class.specs.Names.{has, is_attribute_named, is_member_named, has_member_name, is_member_new}
 use Rattle.et_class.specs.Fields.{is_one_access, attribute_marks}
 use Rattle.et_class.specs.Codes.{CodeOf, code_at, body_marks}
+
+-- the tags beside a pool are those of its entries
+abbrev pub HasItsTags : Constants → Type 0
+HasItsTags c = c.tags.now ≡ map tag_of_slot c.pool.now.slots
 
 -- an abstract method is none of final, native, private, static and synchronized
 abbrev pub is_method_flags : ℕ → Bool

@@ -1,15 +1,15 @@
 //! The rules on methods (JVMS 4.6) and on their Code attribute (JVMS 4.7.3).
 
-ghost use Rattle.std.specs.Prelude.{◌≡◌, ◌+◌, ◌<◌, ◌≤◌, ◌^◌, ◌*◌, ℕ, List, [], ◌∷◌, ◌||◌, if◌then◌else◌, length, map, is_some, IfOk, IfSome, option_map, option_and_then, Ok};
+ghost use Rattle.std.specs.Prelude.{◌≡◌, ◌+◌, ◌<◌, ◌≤◌, ◌^◌, ◌*◌, ℕ, List, [], ◌∷◌, ◌||◌, if◌then◌else◌, length, is_some, IfOk, IfSome, option_map, option_and_then, Ok};
 ghost use Rattle.std.specs.List.{flat_map, list_any, find};
 ghost use Rattle.et_base.specs.Marks.{first_from, mark as mark_of};
-ghost use Rattle.et_pool.specs.Looks.{utf8_at, tag_of_slot};
+ghost use Rattle.et_pool.specs.Looks.{utf8_at};
 ghost use Rattle.et_code.specs.Bodies.{body_of};
 ghost use Rattle.et_class.specs.Layout.{attribute_of, attributes_of, attribute_bytes, member_of, member_bytes};
 ghost use Rattle.et_class.specs.Reading.{many_at, attribute_at};
 ghost use Rattle.et_class.specs.Along.{along};
 ghost use Rattle.et_class.specs.Codes.{code_at, body_marks};
-ghost use Rattle.et_class.specs.Methods.{is_method_flags, is_clinit, is_init, shape_at, receiver_words, is_shape_well, is_floating_shape, arguments_fit_locals, is_code, is_code_well, code_attribute_marks, method_attribute_marks, method_attribute_marks_if, method_marks_if};
+ghost use Rattle.et_class.specs.Methods.{HasItsTags, is_method_flags, is_clinit, is_init, shape_at, receiver_words, is_shape_well, is_floating_shape, arguments_fit_locals, is_code, is_code_well, code_attribute_marks, method_attribute_marks, method_attribute_marks_if, method_marks_if};
 ghost use Rattle.et_class.specs.Kept.{inner_from, inner_at, name_and_next, kept_body, kept_attribute, kept_in, kept_among, kept_code};
 
 use crate::code::{check_instructions, read_code};
@@ -190,8 +190,7 @@ fn check_body(
     place: usize,
     raw: RawCode,
 ) -> Result<(First, Option<Code>), AllocError>
-    requires tags_are { constants.now.tags.now
-        ≡ map tag_of_slot constants.now.pool.now.slots }
+    requires tags_are { HasItsTags constants.now }
     requires one { receiver ≤ 1 }
     requires room { place + 6 + length raw.code.items + 8 * length raw.table.items < 2 ^ 64 }
     ensures { IfOk result (λ x.
@@ -223,8 +222,7 @@ fn check_code_attribute(
     place: usize,
     body: &[u8],
 ) -> Result<(First, Option<Code>), AllocError>
-    requires tags_are { constants.now.tags.now
-        ≡ map tag_of_slot constants.now.pool.now.slots }
+    requires tags_are { HasItsTags constants.now }
     requires one { receiver ≤ 1 }
     requires room { place + 6 + length body.now < 2 ^ 64 }
     ensures { IfOk result (λ x. (x.0 ≡ first_from first
@@ -257,8 +255,7 @@ fn check_method_attribute(
     place: usize,
     a: &Attribute,
 ) -> Result<(First, Option<Code>), AllocError>
-    requires tags_are { constants.now.tags.now
-        ≡ map tag_of_slot constants.now.pool.now.slots }
+    requires tags_are { HasItsTags constants.now }
     requires room { place + length (attribute_bytes (attribute_of a.now)) < 2 ^ 64 }
     ensures { IfOk result (λ x. (x.0 ≡ first_from first (method_attribute_marks_if
         constants.now.pool.now.slots (member_of method.now) seen place (attribute_of a.now)))
@@ -298,8 +295,7 @@ fn check_method_attributes(
     start: usize,
     attributes: &[Attribute],
 ) -> Result<(First, Option<Code>), AllocError>
-    requires tags_are { constants.now.tags.now
-        ≡ map tag_of_slot constants.now.pool.now.slots }
+    requires tags_are { HasItsTags constants.now }
     requires room { start + length (flat_map attribute_bytes (attributes_of attributes.now))
         < 2 ^ 64 }
     ensures { IfOk result
@@ -333,8 +329,7 @@ pub fn check_method(
     place: usize,
     method: &Member,
 ) -> Result<(First, Option<Code>), AllocError>
-    requires tags_are { constants.now.tags.now
-        ≡ map tag_of_slot constants.now.pool.now.slots }
+    requires tags_are { HasItsTags constants.now }
     requires room { place + length (member_bytes (member_of method.now)) < 2 ^ 64 }
     ensures { IfOk result (λ x. (x.0 ≡ first_from first
         (method_marks_if constants.now.pool.now.slots new place (member_of method.now)))
