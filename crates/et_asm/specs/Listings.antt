@@ -18,6 +18,8 @@ use Rattle.et_listing.specs.Lines.{parsed_of, pairs}
 use Rattle.et_asm.specs.declared.fault.AsmFault.{AsmFault}
 use Rattle.et_asm.specs.declared.fault.AsmFault.TheVariants as answer
 use Rattle.et_asm.specs.declared.fault.TheConstants.{WORD, OPERANDS, NUMBER, LABEL, ORDER, LIMIT}
+use Rattle.et_asm.specs.declared.class.Section.{Section}
+use Rattle.et_asm.specs.declared.class.Section.TheVariants as section
 use Rattle.et_asm.specs.declared.order.Stage.{Stage}
 use Rattle.et_asm.specs.Along.{along_lines}
 use Rattle.et_asm.specs.Order.{opens, lines_of_body, stage_of, is_inside, is_finished, may_stand}
@@ -179,6 +181,12 @@ constant_bytes entries (Some e) = u2 1 ++ (u2 (entry_index entries (entry.Utf8 (
 abbrev pub field_bytes : List Entry → Line → List ℕ
 field_bytes entries (line.Field name descriptor flags constant) = listed_member_bytes entries name descriptor flags ++ constant_bytes entries constant
 field_bytes entries other = []
+
+-- what a line gives to a section
+abbrev pub section_bytes : List Entry → Section → Line → List ℕ
+section_bytes entries section.Header l = header_bytes entries l
+section_bytes entries section.Interfaces l = interface_bytes entries l
+section_bytes entries section.Fields l = field_bytes entries l
 
 -- a method has a Code, or no attributes
 abbrev pub body_bytes : List Entry → Option (ℕ × ℕ) → List Parsed → List ℕ

@@ -4,7 +4,7 @@ ghost use Rattle.std.specs.Prelude.{◌≡◌, ◌++◌, OnOk, IfOk, Some};
 ghost use Rattle.std.specs.List.{flat_map};
 ghost use Rattle.et_asm.specs.Pool.{entry_pool_bytes};
 ghost use Rattle.et_asm.specs.Symbols.{HasIndexOf, stage_method};
-ghost use Rattle.et_asm.specs.Listings.{count, is_interface_line, is_field_line, is_method_line, header_bytes, interface_bytes, listed_member_bytes, constant_bytes, field_bytes, body_bytes, method_bytes, methods_bytes, listed_class_bytes};
+ghost use Rattle.et_asm.specs.Listings.{count, is_interface_line, is_field_line, is_method_line, listed_member_bytes, constant_bytes, section_bytes, body_bytes, method_bytes, methods_bytes, listed_class_bytes};
 
 use crate::code::put_code_attribute;
 use crate::counts::{is_field, is_interface, is_method};
@@ -15,6 +15,17 @@ use et_listing::entry::Entry;
 use et_listing::line::{Line, Parsed};
 use et_listing::word::Word;
 use std::alloc::{AllocError, Global};
+
+/// A part of the class file to which a line gives its bytes by itself.
+#[derive(Clone, Copy)]
+pub(crate) enum Section {
+    /// The flags and the names of the class and its superclass.
+    Header,
+    /// The interfaces.
+    Interfaces,
+    /// The fields.
+    Fields,
+}
 
 /// Appends the constant pool.
 fn put_pool<'a>(out: &mut Vec<u8>, symbols: &Symbols<'a>) -> Result<(), AllocError>
@@ -27,42 +38,6 @@ fn put_pool<'a>(out: &mut Vec<u8>, symbols: &Symbols<'a>) -> Result<(), AllocErr
         put_entry(out, symbols, e)?;
     }
     Ok(())
-}
-
-/// Appends what a class line says.
-fn put_header<'a>(
-    out: &mut Vec<u8>,
-    symbols: &Symbols<'a>,
-    line: &Line<'a>,
-) -> Result<(), AllocError>
-    requires { HasIndexOf symbols.now symbols.now.entries.keys }
-    ensures { OnOk result
-        (out.new.items ≡ out.old.items ++ header_bytes symbols.now.entries.keys line.now) }
-{
-    match line {
-        Line::Class(name, super_name, flags) => {
-            put_u2(out, *flags as usize)?;
-            put_index(out, symbols, Entry::Class(name.copy()))?;
-            put_index(out, symbols, Entry::Class(super_name.copy()))
-        }
-        _ => Ok(()),
-    }
-}
-
-/// Appends an interface.
-fn put_interface<'a>(
-    out: &mut Vec<u8>,
-    symbols: &Symbols<'a>,
-    line: &Line<'a>,
-) -> Result<(), AllocError>
-    requires { HasIndexOf symbols.now symbols.now.entries.keys }
-    ensures { OnOk result
-        (out.new.items ≡ out.old.items ++ interface_bytes symbols.now.entries.keys line.now) }
-{
-    match line {
-        Line::Interface(name) => put_index(out, symbols, Entry::Class(name.copy())),
-        _ => Ok(()),
-    }
 }
 
 /// Appends the value of a field, as its one attribute.
@@ -113,25 +88,6 @@ fn put_member<'a>(
     put_u2(out, flags as usize)?;
     put_index(out, symbols, Entry::Utf8(name.copy()))?;
     put_index(out, symbols, Entry::Utf8(descriptor.copy()))
-}
-
-/// Appends a field.
-fn put_field<'a>(
-    out: &mut Vec<u8>,
-    symbols: &Symbols<'a>,
-    line: &Line<'a>,
-) -> Result<(), AllocError>
-    requires { HasIndexOf symbols.now symbols.now.entries.keys }
-    ensures { OnOk result
-        (out.new.items ≡ out.old.items ++ field_bytes symbols.now.entries.keys line.now) }
-{
-    match line {
-        Line::Field(name, descriptor, flags, constant) => {
-            put_member(out, symbols, name, descriptor, *flags)?;
-            put_constant(out, symbols, constant)
-        }
-        _ => Ok(()),
-    }
 }
 
 /// Appends the code of a method, as its one attribute.
@@ -190,47 +146,47 @@ fn put_method<'a>(
     }
 }
 
-fn put_headers<'a>(
+/// Appends what a line gives to a section.
+fn put_line<'a>(
     out: &mut Vec<u8>,
     symbols: &Symbols<'a>,
-    lines: &[Parsed<'a>],
+    section: Section,
+    line: &Line<'a>,
 ) -> Result<(), AllocError>
     requires { HasIndexOf symbols.now symbols.now.entries.keys }
     ensures { OnOk result (out.new.items
-        ≡ out.old.items ++ flat_map (λ p. header_bytes symbols.now.entries.keys p.line) lines.now) }
+        ≡ out.old.items ++ section_bytes symbols.now.entries.keys section line.now) }
 {
-    for p in lines {
-        put_header(out, symbols, &p.line)?;
+    match (section, line) {
+        (Section::Header, Line::Class(name, super_name, flags)) => {
+            put_u2(out, *flags as usize)?;
+            put_index(out, symbols, Entry::Class(name.copy()))?;
+            put_index(out, symbols, Entry::Class(super_name.copy()))
+        }
+        (Section::Interfaces, Line::Interface(name)) => {
+            put_index(out, symbols, Entry::Class(name.copy()))
+        }
+        (Section::Fields, Line::Field(name, descriptor, flags, constant)) => {
+            put_member(out, symbols, name, descriptor, *flags)?;
+            put_constant(out, symbols, constant)
+        }
+        _ => Ok(()),
     }
-    Ok(())
 }
 
-fn put_interfaces<'a>(
+/// Appends a section.
+fn put_section<'a>(
     out: &mut Vec<u8>,
     symbols: &Symbols<'a>,
+    section: Section,
     lines: &[Parsed<'a>],
 ) -> Result<(), AllocError>
     requires { HasIndexOf symbols.now symbols.now.entries.keys }
     ensures { OnOk result (out.new.items ≡ out.old.items
-        ++ flat_map (λ p. interface_bytes symbols.now.entries.keys p.line) lines.now) }
+        ++ flat_map (λ p. section_bytes symbols.now.entries.keys section p.line) lines.now) }
 {
     for p in lines {
-        put_interface(out, symbols, &p.line)?;
-    }
-    Ok(())
-}
-
-fn put_fields<'a>(
-    out: &mut Vec<u8>,
-    symbols: &Symbols<'a>,
-    lines: &[Parsed<'a>],
-) -> Result<(), AllocError>
-    requires { HasIndexOf symbols.now symbols.now.entries.keys }
-    ensures { OnOk result (out.new.items
-        ≡ out.old.items ++ flat_map (λ p. field_bytes symbols.now.entries.keys p.line) lines.now) }
-{
-    for p in lines {
-        put_field(out, symbols, &p.line)?;
+        put_line(out, symbols, section, &p.line)?;
     }
     Ok(())
 }
@@ -306,11 +262,11 @@ pub(crate) fn class_bytes<'a>(
     put_u2(&mut out, 0)?;
     put_u2(&mut out, 52)?;
     put_pool(&mut out, symbols)?;
-    put_headers(&mut out, symbols, lines)?;
+    put_section(&mut out, symbols, Section::Header, lines)?;
     put_u2(&mut out, interface_count(lines))?;
-    put_interfaces(&mut out, symbols, lines)?;
+    put_section(&mut out, symbols, Section::Interfaces, lines)?;
     put_u2(&mut out, field_count(lines))?;
-    put_fields(&mut out, symbols, lines)?;
+    put_section(&mut out, symbols, Section::Fields, lines)?;
     put_u2(&mut out, method_count(lines))?;
     put_methods(&mut out, alloc, symbols, lines)?;
     put_u2(&mut out, 0)?;

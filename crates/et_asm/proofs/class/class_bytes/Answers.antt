@@ -16,11 +16,11 @@ returns c =
     let o2 = c.put_u2.new.out.items in
     let o3 = c.put_u2-2.new.out.items in
     let o4 = c.put_pool.new.out.items in
-    let o5 = c.put_headers.new.out.items in
+    let o5 = c.put_section.new.out.items in
     let o6 = c.put_u2-3.new.out.items in
-    let o7 = c.put_interfaces.new.out.items in
+    let o7 = c.put_section-2.new.out.items in
     let o8 = c.put_u2-4.new.out.items in
-    let o9 = c.put_fields.new.out.items in
+    let o9 = c.put_section-3.new.out.items in
     let o10 = c.put_u2-5.new.out.items in
     let o11 = c.put_methods.new.out.items in
     let o12 = c.put_u2-6.new.out.items in
@@ -40,11 +40,11 @@ returns c =
     (chain o1 o2 o12 b2 (b3 ++ (b4 ++ (b5 ++ (b6 ++ (b7 ++ (b8 ++ (b9 ++ (b10 ++ (b11 ++ b12))))))))) c.in_ok-put_u2.ensures
     (chain o2 o3 o12 b3 (b4 ++ (b5 ++ (b6 ++ (b7 ++ (b8 ++ (b9 ++ (b10 ++ (b11 ++ b12)))))))) c.in_ok-put_u2-2.ensures
     (chain o3 o4 o12 b4 (b5 ++ (b6 ++ (b7 ++ (b8 ++ (b9 ++ (b10 ++ (b11 ++ b12))))))) c.in_ok-put_pool.ensures
-    (chain o4 o5 o12 b5 (b6 ++ (b7 ++ (b8 ++ (b9 ++ (b10 ++ (b11 ++ b12)))))) c.in_ok-put_headers.ensures
+    (chain o4 o5 o12 b5 (b6 ++ (b7 ++ (b8 ++ (b9 ++ (b10 ++ (b11 ++ b12)))))) c.in_ok-put_section.ensures
     (chain o5 o6 o12 b6 (b7 ++ (b8 ++ (b9 ++ (b10 ++ (b11 ++ b12))))) (c.in_ok-put_u2-3.ensures ∙ ap (λ n. o5 ++ u2 n) c.interface_count.ensures)
-    (chain o6 o7 o12 b7 (b8 ++ (b9 ++ (b10 ++ (b11 ++ b12)))) c.in_ok-put_interfaces.ensures
+    (chain o6 o7 o12 b7 (b8 ++ (b9 ++ (b10 ++ (b11 ++ b12)))) c.in_ok-put_section-2.ensures
     (chain o7 o8 o12 b8 (b9 ++ (b10 ++ (b11 ++ b12))) (c.in_ok-put_u2-4.ensures ∙ ap (λ n. o7 ++ u2 n) c.field_count.ensures)
-    (chain o8 o9 o12 b9 (b10 ++ (b11 ++ b12)) c.in_ok-put_fields.ensures
+    (chain o8 o9 o12 b9 (b10 ++ (b11 ++ b12)) c.in_ok-put_section-3.ensures
     (chain o9 o10 o12 b10 (b11 ++ b12) (c.in_ok-put_u2-5.ensures ∙ ap (λ n. o9 ++ u2 n) c.method_count.ensures)
     (chain o10 o11 o12 b11 b12 c.in_ok-put_methods.ensures
     (c.in_ok-put_u2-6.ensures))))))))))) in
