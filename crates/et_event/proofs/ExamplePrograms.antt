@@ -12,7 +12,10 @@ use Rattle.et_program.specs.declared.info.Element.{Element}
 use Rattle.et_program.specs.declared.kind.Leaf.{Leaf}
 use Rattle.et_program.specs.declared.info.Element.TheVariants as element
 use Rattle.et_program.specs.declared.kind.Leaf.TheVariants as leaf
-use Rattle.et_state.specs.State.{Kept}
+use Rattle.et_base.specs.declared.value.Value.TheVariants.{Unset}
+use Rattle.et_state.specs.declared.class_state.ClassState.{ClassState}
+use Rattle.et_state.specs.State.{Kept, kept_of}
+use Rattle.et_state.specs.Words.{first_state}
 use Rattle.et_state.specs.Threads.{unended_of}
 use Rattle.et_state.specs.declared.records.Record.{Record}
 use Rattle.et_state.specs.Outcome.{state_after, records_of}
@@ -57,14 +60,28 @@ base_classes strings =
     ∷ class_below [] (codes "java/lang/String") 17 3 0 None [] (Some strings)
     ∷ []
 
--- .. and those of exceptions that need not be declared
+-- .. and those of what is thrown
+abbrev thrown_classes : ℕ → List ClassEntry
+thrown_classes strings =
+    base_classes strings ++ thrown_class (codes "java/lang/Throwable") 4 [] ∷ thrown_class (codes "java/lang/Exception") 5 (4 ∷ []) ∷ []
+
+-- .. and that of exceptions that need not be declared
 abbrev pub runtime_classes : ℕ → List ClassEntry
-runtime_classes strings =
-    base_classes strings
-    ++ thrown_class (codes "java/lang/Throwable") 4 []
-    ∷ thrown_class (codes "java/lang/Exception") 5 (4 ∷ [])
-    ∷ thrown_class (codes "java/lang/RuntimeException") 6 (5 ∷ 4 ∷ [])
+runtime_classes strings = thrown_classes strings ++ thrown_class (codes "java/lang/RuntimeException") 6 (5 ∷ 4 ∷ []) ∷ []
+
+-- .. or those of an initializer that fails
+abbrev pub failing_classes : ℕ → List ClassEntry
+failing_classes strings =
+    thrown_classes strings
+    ++ thrown_class (codes "java/lang/Error") 6 (4 ∷ [])
+    ∷ thrown_class (codes "java/lang/RuntimeException") 7 (5 ∷ 4 ∷ [])
+    ∷ thrown_class (codes "java/lang/ArithmeticException") 8 (7 ∷ 5 ∷ 4 ∷ [])
+    ∷ thrown_class (codes "java/lang/LinkageError") 9 (6 ∷ 4 ∷ [])
     ∷ []
+
+-- the class of arrays of String
+abbrev pub strings_class : ℕ → ClassEntry
+strings_class k = array_class (codes "[Ljava/lang/String;") k (element.Class 3) 1 (leaf.Class 3) None
 
 -- METHODS, FIELDS AND POOLS
 
@@ -73,6 +90,9 @@ method_of class name descriptor flags code = record { class = class; name = name
 
 abbrev pub object_methods : List MethodInfo
 object_methods = method_of 0 (codes "<init>") (codes "()V") 1 None ∷ []
+
+abbrev pub main_of : ℕ → Option Body → MethodInfo
+main_of class code = method_of class (codes "main") (codes "([Ljava/lang/String;)V") 9 code
 
 -- the constructors of a class of exceptions
 abbrev constructors : ℕ → List MethodInfo
@@ -109,6 +129,10 @@ program_of classes methods fields statics file_methods main pools =
     record { classes = classes; methods = methods; fields = fields; statics = statics; file_methods = file_methods; main = main; pools = pools }
 
 -- RUNS
+
+-- the state in which a program begins whose classes stand so, with so many static slots
+abbrev pub begun_with : ℕ → List ClassState → ℕ → Kept
+begun_with strings states statics = kept_of (first_state strings states (replicate statics Unset))
 
 -- of the threads that have not ended, the one that a pick chooses
 unfoldable pub turn_by : ℕ → Kept → ℕ
