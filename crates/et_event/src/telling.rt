@@ -1,8 +1,6 @@
 //! What an event makes and writes, and tells of it.
 ghost use Rattle.std.specs.Prelude.{◌≡◌, ◌+◌, ◌*◌, ◌<◌, ◌^◌, ◌++◌, ◌∷◌, [], true, IfOk, OnOk, OnErr, length, unwrap_or};
 ghost use Rattle.et_heap.specs.Objects.{has_room, new_object};
-ghost use Rattle.et_state.specs.State.{kept_of};
-ghost use Rattle.et_state.specs.Sound.{IsSound};
 ghost use Rattle.et_state.specs.declared.records.Record.TheVariants.{Alloc};
 ghost use Rattle.et_program.specs.Entries.{class_at};
 ghost use Rattle.et_event.specs.Moments.{array_made, begins, instance_made, moment, number_of_value};
@@ -123,7 +121,6 @@ pub fn make_instance(
     class: ClassId,
     out: &mut Lines,
 ) -> Result<Option<ObjectId>, NoMemory>
-    requires sound { IsSound (kept_of machine.old) }
     requires clock { machine.old.guest.clock < 2 ^ 40 }
     ensures err { OnErr result (machine.new.guest ≡ machine.old.guest) }
     ensures made { IfOk result
@@ -146,7 +143,6 @@ pub fn make_array(
     elements: u32,
     out: &mut Lines,
 ) -> Result<Option<ObjectId>, NoMemory>
-    requires sound { IsSound (kept_of machine.old) }
     requires clock { machine.old.guest.clock < 2 ^ 40 }
     ensures err { OnErr result (machine.new.guest ≡ machine.old.guest) }
     ensures made { IfOk result (λ made.
