@@ -13,7 +13,7 @@ use Rattle.et_event.specs.Sites.{Site, site_of, decoded_at, pool_of_class}
 use Rattle.et_event.specs.Table.{row_of}
 use Rattle.et_event.specs.declared.places.Place.{Place}
 use Rattle.et_event.specs.Families.{row_at}
-use Rattle.et_event.specs.Places.{IsPlace, site_at}
+use Rattle.et_event.specs.Places.{IsFound, IsPlace, site_at}
 
 pub if_some : {A : Type 0} {P Q : A → Type 0} → (o : Option A) → ((a : A) → P a → Q a) → IfSome o P → IfSome o Q
 if_some None f h = tt
@@ -22,6 +22,18 @@ if_some (Some a) f h = f a h
 pub if_none : {A : Type 0} {P Q : Type 0} → (o : Option A) → (P → Q) → IfNone o P → IfNone o Q
 if_none None f h = f h
 if_none (Some a) f h = tt
+
+-- WHAT IS FOUND
+
+pub found_there : (p : Linked) (f : FrameState) (o : Option Place) → IsFound p f o → IfSome o (λ place. IsPlace p f place)
+found_there p f None h = tt
+found_there p f (Some place) h = h
+
+pub none_there : (p : Linked) (f : FrameState) (o : Option Place) → IsFound p f o → IfNone o (row_at (decoded_at p f) ≡ None)
+none_there p f None h = h
+none_there p f (Some place) h = tt
+
+-- WHAT IS DONE THERE
 
 abbrev pub moment : Linked → Kept → ℕ → Moment
 moment p s t = record { program = p; before = s; thread = t }

@@ -1,5 +1,5 @@
 -- The instruction at which a thread stands.
-use Rattle.std.specs.Prelude.{◌≡◌, ℕ, ◌<◌, ◌^◌, Bool, true, false, Some, Ok, length}
+use Rattle.std.specs.Prelude.{◌≡◌, ℕ, ◌<◌, ◌^◌, Bool, true, false, Option, Some, None, Ok, length}
 use Rattle.std.specs.Option.{option_copied}
 use Rattle.et_code.specs.Rules.{KeepsRules}
 use Rattle.et_code.specs.Switches.{IsSwitch}
@@ -8,6 +8,7 @@ use Rattle.et_state.specs.Threads.{FrameState}
 use Rattle.et_event.specs.declared.rows.Row.{Row}
 use Rattle.et_event.specs.declared.rows.Row.TheVariants as rows
 use Rattle.et_event.specs.declared.rows.FrameRow.TheVariants as frame_rows
+use Rattle.et_event.specs.Families.{row_at}
 use Rattle.et_event.specs.Sites.{Site, site_of, code_of_frame, decoded_at, natural_of}
 use Rattle.et_event.specs.Sound.{RunsMethod}
 use Rattle.et_event.specs.Table.{row_of}
@@ -42,3 +43,8 @@ pub record IsPlace (p : Linked) (f : FrameState) (place : Place) : Type 0 where
   pub pc : f.pc < 2 ^ 16
   pub locals : length f.locals < 2 ^ 16
   pub index : is_frame place.row ≡ false → natural_of place.instr.first < 2 ^ 16
+
+-- a place is found exactly where one stands there
+abbrev pub IsFound : Linked → FrameState → Option Place → Type 0
+IsFound p f (Some place) = IsPlace p f place
+IsFound p f None = row_at (decoded_at p f) ≡ None

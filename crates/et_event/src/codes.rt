@@ -31,37 +31,23 @@ pub fn method_of<'a>(program: &'a Program, machine: &Machine, thread: ThreadId) 
 fn bytes_of(code: &Code) -> &[u8]
     ensures bytes { result.now ≡ code.now.code }
     ensures few { length result.now < 2 ^ 16 }
+    ensures rules { KeepsRules code.now }
 {
     // Laws: they tell the prover, and do nothing.
     et_code::laws::kept_code();
     code.raw().code.as_slice()
 }
 
-/// The code of a method, borrowed; it is empty where the method is abstract, native or built in.
+/// The code of a method, borrowed; it is empty where the method is abstract, native or built in. Code keeps the rules of the
+/// standard (JVMS 4.9.1).
 pub fn code_of(method: &MethodInfo) -> &[u8]
     ensures bytes { result.now ≡ (present_body method.now.code).code }
     ensures few { length result.now < 2 ^ 16 }
+    ensures rules { IfSome method.now.code (λ body. KeepsRules body) }
 {
     match &method.code {
         Some(code) => bytes_of(code),
         None => b"",
-    }
-}
-
-/// Code keeps the rules of the standard (JVMS 4.9.1).
-fn code_keeps_rules(code: &Code)
-    ensures { KeepsRules code.now }
-{
-    let _raw = code.raw();
-}
-
-/// .. and so does that of a method which has code.
-pub(crate) fn keeps_rules(method: &MethodInfo)
-    ensures { IfSome method.now.code (λ body. KeepsRules body) }
-{
-    match &method.code {
-        Some(code) => code_keeps_rules(code),
-        None => (),
     }
 }
 

@@ -10,9 +10,9 @@ ghost use Rattle.et_event.specs.Sites.{decoded_at};
 ghost use Rattle.et_event.specs.Sound.{IsSoundFor};
 ghost use Rattle.et_event.specs.Families.{family_of, family_of_row, row_at};
 ghost use Rattle.et_event.specs.declared.families.Family.TheVariants as families;
-ghost use Rattle.et_event.specs.Places.{IsPlace, site_at};
+ghost use Rattle.et_event.specs.Places.{IsFound, IsPlace, site_at};
 
-use crate::codes::{code_of, instruction, keeps_rules, locals_are_few, method_of};
+use crate::codes::{code_of, instruction, locals_are_few, method_of};
 use crate::place_laws;
 use crate::rows::Row;
 use crate::table::row_of;
@@ -43,15 +43,11 @@ pub struct Place<'a> {
 fn find_place<'a>(program: &'a Program, machine: &Machine, thread: ThreadId) -> Option<Place<'a>>
     requires sound { IsSoundFor program.now (kept_of machine.now) }
     requires turn { turn_of (thread_at machine.now.guest thread) ≡ turns.Instruction }
-    ensures found { IfSome result
-        (λ place. IsPlace program.now (top machine.now.guest thread) place) }
-    ensures none { IfNone result
-        (row_at (decoded_at program.now (top machine.now.guest thread)) ≡ None) }
+    ensures { IsFound program.now (top machine.now.guest thread) result }
 {
     // Laws: they tell the prover, and do nothing.
     place_laws::switch();
     let method = method_of(program, machine, thread);
-    keeps_rules(method);
     locals_are_few(method);
     let code = code_of(method);
     let (instr, next) = instruction(code, machine.pc(thread)).ok()?;

@@ -17,8 +17,8 @@ use Rattle.et_event.proofs.Running.{runs_there}
 use Rattle.et_event.proofs.Placing.{pool_found, locals_found, rules_found, site_found}
 use Rattle.et_event.proofs.places.find_place.Goals as goal
 
-pub returns-clause-found : goal.returns-clause-found
-returns-clause-found c =
+pub returns : goal.returns
+returns c =
     let p = c.args.program.now in
     let f = top c.args.machine.now.guest c.args.thread in
     let method : c.method_of-method.result.now ≡ running_method p f = c.method_of-method.ensures.method in
@@ -36,7 +36,7 @@ returns-clause-found c =
       row = row;
       site = site_found p f (c.in_ok-instr.instr, c.in_ok-instr.next) c.code_of-code.result.now _ c.method_of-method.result.now.class code (pool_found p c.method_of-method.result.now.class (running_method p f).class (option_copied c.pool.result) c.pool.ensures class) class;
       class = c.method_of-method.ensures.class;
-      rules = rules_found p f runs (subst (λ (m : MethodInfo). IfSome m.code (λ body. KeepsRules body)) method c.keeps_rules.ensures);
+      rules = rules_found p f runs (subst (λ (m : MethodInfo). IfSome m.code (λ body. KeepsRules body)) method c.code_of-code.ensures.rules);
       switch = λ e. subst (λ (bytes : List ℕ). IsSwitch bytes c.in_ok-instr.instr) (sym code)
           (c.switch.ensures (code_of_frame p f).code f.pc (c.in_ok-instr.instr, c.in_ok-instr.next) at_pc (row ∙ ap (λ (r : Row). Some r) e));
       pc = few;
