@@ -1,26 +1,27 @@
 -- The receiver of a call, and what is selected.
-use Rattle.std.proofs.Common.{◌≡◌, ℕ, ◌<◌, Bool, true, false, List, length, Option, Some, None, refl, sym, ◌∙◌, ap, subst}
-use Rattle.std.specs.Prelude.{if◌then◌else◌, option_and_then, Result}
+use Rattle.std.proofs.Common.{◌≡◌, ℕ, ◌<◌, Bool, true, false, List, length, Option, Some, None, refl, ◌∙◌, ap}
+use Rattle.std.specs.Prelude.{if◌then◌else◌, option_and_then, Result, IfOk}
 use Rattle.std.specs.Result.{result_ok}
 use Rattle.et_base.specs.declared.value.Value.{Value}
 use Rattle.et_heap.specs.Objects.{ObjectState, IsHeld, at, found, is_there, object_at}
 use Rattle.et_state.specs.State.{Kept, MachineState, kept_of}
-use Rattle.et_program.specs.BuiltIns.{is_deferred}
 use Rattle.et_program.specs.Entries.{Linked, is_static}
-use Rattle.et_program.specs.Members.{kept}
-use Rattle.et_program.specs.Resolution.{resolve_class, resolve_method, select, select_special}
+use Rattle.et_program.specs.Resolution.{resolve_class, resolve_method, select}
 use Rattle.et_event.specs.declared.errors.GuestError.{GuestError}
-use Rattle.et_event.specs.declared.errors.GuestError.TheVariants.{IncompatibleClassChangeError, NullPointerException}
-use Rattle.et_event.specs.declared.rows.CallKind.TheVariants.{Virtual, Special, Interface}
-use Rattle.et_event.specs.Calls.{arguments_of, call_fits, dispatched, enters_method, entry_count, fits_resolved, invoke, is_as, is_static_call, special_class, with_method, with_type}
+use Rattle.et_event.specs.declared.errors.GuestError.TheVariants.{IncompatibleClassChangeError}
+use Rattle.et_event.specs.declared.rows.CallKind.TheVariants.{Virtual, Special, Static, Interface}
+use Rattle.et_event.specs.Calls.{arguments_of, call_fits, dispatched, enters_method, entry_count, invoke, is_as, is_static_call, special_class, with_method, with_type}
 use Rattle.et_event.specs.declared.rows.CallKind.{CallKind}
 use Rattle.et_builtins.specs.Arguments.{fitting}
+use Rattle.et_builtins.specs.Plans.{HasCallRoom, fits_in_kind, is_interface_call, selection_in}
+use Rattle.et_builtins.proofs.Choosing.{select_room, special_room}
+use Rattle.et_program.specs.declared.errors.LinkError.{LinkError}
 use Rattle.et_event.specs.Selected.{selected_by, selected_from, selected_method, selected_on, with_resolved}
 use Rattle.et_pool.specs.Descriptors.{MethodType, method_type}
 use Rattle.et_state.specs.Outcome.{Outcome}
 use Rattle.et_event.specs.Checks.{ill_typed_unless, not_null, resolved, after_selection, throws_unless}
 use Rattle.et_event.specs.Frames.{first_reference}
-use Rattle.et_event.specs.Moments.{Moment, begins, object_class, ill_typed, throws}
+use Rattle.et_event.specs.Moments.{Moment, begins, object_class, ill_typed}
 use Rattle.et_event.specs.Sites.{Member, Site, site_member, names_interface}
 use Rattle.et_event.specs.Sound.{IsSoundFor}
 
@@ -33,44 +34,38 @@ class_within p m o sound held = (sound.objects o (found (at m.heap o)) (there_is
 
 -- WHAT THE TABLE SAYS OF A RECEIVER
 
-pub virtual_null : (e : Moment) (at : Site) (args : List Value) (named m : ℕ) → first_reference args ≡ None → dispatched e at Virtual args named m ≡ throws e NullPointerException (begins e)
-virtual_null e at args named m h =
-    ap (λ (r : Option ℕ). not_null e (begins e) r (λ o. ill_typed_unless e (fits_resolved e (begins e) args m o) (after_selection e (begins e) (select e.program (object_class (begins e) o) m false) (enters_method e at (begins e) args)))) h
+-- an invoke on an object
+abbrev pub on_object : Moment → Site → CallKind → List Value → (named m o : ℕ) → Outcome Kept
+on_object e at kind args named m o =
+    ill_typed_unless e (fits_in_kind e kind args m o) (after_selection e (begins e) (selection_in e.program kind at.class named m (object_class (begins e) o)) (enters_method e at (begins e) args))
 
-pub virtual_refused : (e : Moment) (at : Site) (args : List Value) (named m o : ℕ) → first_reference args ≡ Some o → fits_resolved e (begins e) args m o ≡ false → dispatched e at Virtual args named m ≡ ill_typed e
-virtual_refused e at args named m o h b =
-    ap (λ (r : Option ℕ). not_null e (begins e) r (λ o. ill_typed_unless e (fits_resolved e (begins e) args m o) (after_selection e (begins e) (select e.program (object_class (begins e) o) m false) (enters_method e at (begins e) args)))) h
-    ∙ ap (λ (x : Bool). ill_typed_unless e x (after_selection e (begins e) (select e.program (object_class (begins e) o) m false) (enters_method e at (begins e) args))) b
+-- .. is one on the receiver
+pub on_receiver : (e : Moment) (at : Site) (kind : CallKind) (args : List Value) (named m : ℕ) (r : Option ℕ) → (kind ≡ Static → ⊥) → first_reference args ≡ r
+    → dispatched e at kind args named m ≡ not_null e (begins e) r (λ o. on_object e at kind args named m o)
+on_receiver e at Virtual args named m r receives h = ap (λ (q : Option ℕ). not_null e (begins e) q (λ o. on_object e at Virtual args named m o)) h
+on_receiver e at Special args named m r receives h = ap (λ (q : Option ℕ). not_null e (begins e) q (λ o. on_object e at Special args named m o)) h
+on_receiver e at Static args named m r receives h = absurd (receives refl)
+on_receiver e at Interface args named m r receives h = ap (λ (q : Option ℕ). not_null e (begins e) q (λ o. on_object e at Interface args named m o)) h
 
-pub virtual_selected : (e : Moment) (at : Site) (args : List Value) (named m o : ℕ) → first_reference args ≡ Some o → fits_resolved e (begins e) args m o ≡ true
-    → dispatched e at Virtual args named m ≡ after_selection e (begins e) (select e.program (object_class (begins e) o) m false) (enters_method e at (begins e) args)
-virtual_selected e at args named m o h b =
-    ap (λ (r : Option ℕ). not_null e (begins e) r (λ o. ill_typed_unless e (fits_resolved e (begins e) args m o) (after_selection e (begins e) (select e.program (object_class (begins e) o) m false) (enters_method e at (begins e) args)))) h
-    ∙ ap (λ (x : Bool). ill_typed_unless e x (after_selection e (begins e) (select e.program (object_class (begins e) o) m false) (enters_method e at (begins e) args))) b
+-- .. and selects what it selects
+pub selects_on : (e : Moment) (at : Site) (kind : CallKind) (args : List Value) (named m o : ℕ) → (kind ≡ Static → ⊥)
+    → selected_on e at kind args named m o ≡ (if fits_in_kind e kind args m o then result_ok (selection_in e.program kind at.class named m (object_class (begins e) o)) else None)
+selects_on e at Virtual args named m o receives = refl
+selects_on e at Special args named m o receives = refl
+selects_on e at Static args named m o receives = absurd (receives refl)
+selects_on e at Interface args named m o receives = refl
 
-pub interface_null : (e : Moment) (at : Site) (args : List Value) (named m : ℕ) → first_reference args ≡ None → dispatched e at Interface args named m ≡ throws e NullPointerException (begins e)
-interface_null e at args named m h =
-    ap (λ (r : Option ℕ). not_null e (begins e) r (λ o. after_selection e (begins e) (select e.program (object_class (begins e) o) m true) (enters_method e at (begins e) args))) h
+pub selection_room : (e : Moment) (kind : CallKind) (current named m class count : ℕ) (r : Result ℕ LinkError) → r ≡ selection_in e.program kind current named m class → HasCallRoom e m count → IfOk r (λ n. HasCallRoom e n count)
+selection_room e Virtual current named m class count r is room = select_room e class m count false r is room
+selection_room e Special current named m class count r is room = special_room e current (special_class e.program named) m count r is room
+selection_room e Static current named m class count r is room = select_room e class m count false r is room
+selection_room e Interface current named m class count r is room = select_room e class m count true r is room
 
-pub interface_selected : (e : Moment) (at : Site) (args : List Value) (named m o : ℕ) → first_reference args ≡ Some o
-    → dispatched e at Interface args named m ≡ after_selection e (begins e) (select e.program (object_class (begins e) o) m true) (enters_method e at (begins e) args)
-interface_selected e at args named m o h =
-    ap (λ (r : Option ℕ). not_null e (begins e) r (λ o. after_selection e (begins e) (select e.program (object_class (begins e) o) m true) (enters_method e at (begins e) args))) h
-
-pub special_null : (e : Moment) (at : Site) (args : List Value) (named m : ℕ) → first_reference args ≡ None → dispatched e at Special args named m ≡ throws e NullPointerException (begins e)
-special_null e at args named m h =
-    ap (λ (r : Option ℕ). not_null e (begins e) r (λ o. ill_typed_unless e (fits_resolved e (begins e) args m o) (after_selection e (begins e) (select_special e.program at.class (special_class e.program named) m) (enters_method e at (begins e) args)))) h
-
-pub special_refused : (e : Moment) (at : Site) (args : List Value) (named m o : ℕ) → first_reference args ≡ Some o → fits_resolved e (begins e) args m o ≡ false → dispatched e at Special args named m ≡ ill_typed e
-special_refused e at args named m o h b =
-    ap (λ (r : Option ℕ). not_null e (begins e) r (λ o. ill_typed_unless e (fits_resolved e (begins e) args m o) (after_selection e (begins e) (select_special e.program at.class (special_class e.program named) m) (enters_method e at (begins e) args)))) h
-    ∙ ap (λ (x : Bool). ill_typed_unless e x (after_selection e (begins e) (select_special e.program at.class (special_class e.program named) m) (enters_method e at (begins e) args))) b
-
-pub special_selected : (e : Moment) (at : Site) (args : List Value) (named m o : ℕ) → first_reference args ≡ Some o → fits_resolved e (begins e) args m o ≡ true
-    → dispatched e at Special args named m ≡ after_selection e (begins e) (select_special e.program at.class (special_class e.program named) m) (enters_method e at (begins e) args)
-special_selected e at args named m o h b =
-    ap (λ (r : Option ℕ). not_null e (begins e) r (λ o. ill_typed_unless e (fits_resolved e (begins e) args m o) (after_selection e (begins e) (select_special e.program at.class (special_class e.program named) m) (enters_method e at (begins e) args)))) h
-    ∙ ap (λ (x : Bool). ill_typed_unless e x (after_selection e (begins e) (select_special e.program at.class (special_class e.program named) m) (enters_method e at (begins e) args))) b
+pub other_selection : (p : Linked) (kind : CallKind) (current named m class : ℕ) → (kind ≡ Special → ⊥) → select p class m (is_interface_call kind) ≡ selection_in p kind current named m class
+other_selection p Virtual current named m class other = refl
+other_selection p Special current named m class other = absurd (other refl)
+other_selection p Static current named m class other = refl
+other_selection p Interface current named m class other = refl
 
 -- THE CHECKS BEFORE THE RECEIVER
 
@@ -121,13 +116,6 @@ pub selected_is : (e : Moment) (at : Site) (kind : CallKind) (m : Member) → si
 selected_is e at kind m h =
     ap (λ (o : Option Member). option_and_then (λ (named : Member). option_and_then (selected_by e at kind named) (method_type named.descriptor)) o) h
     ∙ method_by_type e at kind m (method_type m.descriptor)
-
--- .. by the kind of the invoke
-pub by_kind : (e : Moment) (at : Site) (kind same : CallKind) (r : Option ℕ) (count named m : ℕ) → kind ≡ same
-    → kept (is_deferred e.program) r ≡ kept (is_deferred e.program) (option_and_then (selected_on e at same (arguments_of e count) named m) (first_reference (arguments_of e count)))
-    → kept (is_deferred e.program) r ≡ kept (is_deferred e.program) (option_and_then (selected_on e at kind (arguments_of e count) named m) (first_reference (arguments_of e count)))
-by_kind e at kind same r count named m is h =
-    subst (λ (k : CallKind). kept (is_deferred e.program) r ≡ kept (is_deferred e.program) (option_and_then (selected_on e at k (arguments_of e count) named m) (first_reference (arguments_of e count)))) (sym is) h
 
 -- .. where the method is static or not as the invoke wants it
 pub from_by : (e : Moment) (at : Site) (kind : CallKind) (count named m : ℕ) (b : Bool) → is_as (is_static_call kind) (is_static e.program m) ≡ b

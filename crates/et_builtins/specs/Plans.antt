@@ -1,13 +1,16 @@
 -- What an invoke comes to, as a plan.
-use Rattle.std.specs.Prelude.{◌≡◌, ℕ, ◌+◌, ◌<◌, ◌≤◌, true, length, drop, option_and_then, Option, Some, None, Result, Ok, Err}
+use Rattle.std.specs.Prelude.{◌≡◌, ℕ, ◌+◌, ◌<◌, ◌≤◌, ◌||◌, Bool, true, false, List, length, drop, option_and_then, Option, Some, None, Result, Ok, Err}
 use Rattle.et_state.specs.State.{Kept}
 use Rattle.et_state.specs.declared.class_state.ClassState.TheVariants.{Untouched}
-use Rattle.et_program.specs.Entries.{method_at, is_static}
+use Rattle.et_base.specs.declared.value.Value.{Value}
+use Rattle.et_program.specs.Entries.{Linked, method_at, is_static}
+use Rattle.et_program.specs.Resolution.{select, select_special}
+use Rattle.et_program.specs.declared.errors.LinkError.{LinkError}
 use Rattle.et_state.specs.Outcome.{Outcome}
 use Rattle.et_event.specs.declared.rows.CallKind.{CallKind}
-use Rattle.et_event.specs.declared.rows.CallKind.TheVariants.{Static}
+use Rattle.et_event.specs.declared.rows.CallKind.TheVariants.{Special, Static, Interface}
 use Rattle.et_event.specs.declared.errors.GuestError.{GuestError}
-use Rattle.et_event.specs.Calls.{arguments_of, dispatched, enters_method}
+use Rattle.et_event.specs.Calls.{arguments_of, dispatched, enters_method, fits_resolved, special_class}
 use Rattle.et_event.specs.Frames.{first_reference}
 use Rattle.et_event.specs.Moments.{Moment, begins, current_frame, ill_typed, throws, waits}
 use Rattle.et_event.specs.Initialization.{state_of}
@@ -29,6 +32,21 @@ call_planned e at (Enters method count) = enters_method e at (begins e) (argumen
 -- .. is that of the row of an invoke of a kind, of a method that was resolved in a named class
 abbrev pub IsPlanOf : Moment → Site → CallKind → (named method count : ℕ) → CallPlan → Type 0
 IsPlanOf e at kind named method count plan = dispatched e at kind (arguments_of e count) named method ≡ call_planned e at plan
+
+-- ON A RECEIVER
+
+-- it is called by an interface, which asks for no more than what is selected
+abbrev pub is_interface_call : CallKind → Bool
+is_interface_call Interface = true
+is_interface_call other = false
+
+abbrev pub fits_in_kind : Moment → CallKind → List Value → (method receiver : ℕ) → Bool
+fits_in_kind e kind arguments method receiver = is_interface_call kind || fits_resolved e (begins e) arguments method receiver
+
+-- what an invoke of a kind selects in a method of the current class, for a receiver of this class
+abbrev pub selection_in : Linked → CallKind → (current named method class : ℕ) → Result ℕ LinkError
+selection_in p Special current named method class = select_special p current (special_class p named) method
+selection_in p kind current named method class = select p class method (is_interface_call kind)
 
 -- what that row selects
 abbrev pub entered_by : Moment → Site → CallKind → (named method count : ℕ) → Option ℕ

@@ -15,13 +15,13 @@ ghost use Rattle.et_state.specs.Outcome.{Outcome};
 ghost use Rattle.et_event.specs.declared.errors.GuestError.TheVariants as errors;
 ghost use Rattle.et_event.specs.Calls.{arguments_of, dispatched, enters_method, invoke, is_as, is_static_call as calls_static, special_class as class_of_special};
 ghost use Rattle.et_event.specs.Checks.{resolved, after_selection as selected_in, throws_unless};
-ghost use Rattle.et_event.specs.Moments.{Moment, begins, current_frame, moment};
+ghost use Rattle.et_event.specs.Moments.{Moment, begins, current_frame, moment, object_class};
 ghost use Rattle.et_event.specs.Sites.{Member, Site, natural_of, site_member, names_interface as is_of_interface};
 ghost use Rattle.et_event.specs.Initialization.{state_of};
 ghost use Rattle.et_event.specs.Sound.{IsSoundFor};
 ghost use Rattle.et_event.specs.Selected.{selected_from, selected_method, with_resolved};
 ghost use Rattle.et_builtins.specs.Calling.{IsCallable};
-ghost use Rattle.et_builtins.specs.Plans.{method_entered, call_planned, HasCallRoom, HasCount, IsCallPlan, IsPassing, IsPlanOf, resolving, entered_by};
+ghost use Rattle.et_builtins.specs.Plans.{method_entered, call_planned, HasCallRoom, HasCount, IsCallPlan, IsPassing, IsPlanOf, resolving, entered_by, fits_in_kind, is_interface_call as calls_interface, selection_in};
 
 use crate::arguments::{fitting_call, receiver};
 use crate::classes::fits_resolved;
@@ -85,61 +85,6 @@ fn selected(answer: Result<MethodId, LinkError>, count: u16) -> CallPlan
     }
 }
 
-/// The plan of `invokevirtual` of a resolved method.
-#[tactic(auto, using(crate::proofs::Planning::class_within))]
-fn virtual_plan<L: Ledger>(
-    program: &Program,
-    machine: &Machine,
-    thread: ThreadId,
-    method: MethodId,
-    count: u16,
-    visits: &mut Steps<L>,
-) -> CallPlan
-    requires call { IsCallable program.now machine.now thread method count }
-    ensures plan { (at : Site) (named : ℕ) → IsPlanOf
-        (moment program.now machine.now thread) at kinds.Virtual named method count result }
-    ensures entered { (at : Site) (named : ℕ) → method_entered result ≡ entered_by
-        (moment program.now machine.now thread) at kinds.Virtual named method count }
-    ensures within { IsCallPlan (moment program.now machine.now thread) result }
-    ensures passes { HasCount count result }
-    ensures visits { visits.new ≤ visits.old + 2 }
-{
-    let Some(receiver) = receiver(machine, thread, count) else {
-        return CallPlan::Throws(GuestError::NullPointerException);
-    };
-    let class = machine.heap.class_of(receiver, visits);
-    if !fits_resolved(program, machine, thread, class, method, count, visits) {
-        return CallPlan::IllTyped;
-    }
-    selected(program.select(class, method, false), count)
-}
-
-/// The plan of `invokeinterface` of a resolved method.
-#[tactic(auto, using(crate::proofs::Planning::class_within))]
-fn interface_plan<L: Ledger>(
-    program: &Program,
-    machine: &Machine,
-    thread: ThreadId,
-    method: MethodId,
-    count: u16,
-    visits: &mut Steps<L>,
-) -> CallPlan
-    requires call { IsCallable program.now machine.now thread method count }
-    ensures plan { (at : Site) (named : ℕ) → IsPlanOf
-        (moment program.now machine.now thread) at kinds.Interface named method count result }
-    ensures entered { (at : Site) (named : ℕ) → method_entered result ≡ entered_by
-        (moment program.now machine.now thread) at kinds.Interface named method count }
-    ensures within { IsCallPlan (moment program.now machine.now thread) result }
-    ensures passes { HasCount count result }
-    ensures visits { visits.new ≤ visits.old + 1 }
-{
-    let Some(receiver) = receiver(machine, thread, count) else {
-        return CallPlan::Throws(GuestError::NullPointerException);
-    };
-    let class = machine.heap.class_of(receiver, visits);
-    selected(program.select(class, method, true), count)
-}
-
 /// The class from which `invokespecial` selects: the one that it names, or Object for an array class.
 fn special_class(program: &Program, named: ClassId) -> ClassId
     requires { named < length program.now.classes }
@@ -152,38 +97,98 @@ fn special_class(program: &Program, named: ClassId) -> ClassId
     }
 }
 
-/// The plan of `invokespecial` in a method of the current class, of a method that was resolved in a named one.
-#[tactic(auto, using(crate::proofs::Planning::class_within))]
-fn special_plan<L: Ledger>(
+/// Whether an invoke calls by an interface.
+fn is_interface_call(kind: CallKind) -> bool
+    ensures { result ≡ calls_interface kind }
+{
+    matches!(kind, CallKind::Interface)
+}
+
+/// Whether an invoke of a kind may call a resolved method on a receiver of this class: by an interface it is seen as the method
+/// is selected.
+fn fits_kind<L: Ledger>(
     program: &Program,
     machine: &Machine,
     thread: ThreadId,
-    callee: Callee,
+    kind: CallKind,
+    callee: &Callee,
+    class: ClassId,
+    visits: &mut Steps<L>,
+) -> bool
+    requires call { IsCallable program.now machine.now thread callee.now.method callee.now.count }
+    requires class { class < length program.now.classes }
+    ensures value { (o : ℕ) →
+        class ≡ object_class (begins (moment program.now machine.now thread)) o →
+        result ≡ fits_in_kind (moment program.now machine.now thread) kind
+        (arguments_of (moment program.now machine.now thread) callee.now.count)
+        callee.now.method o }
+    ensures visits { visits.new ≤ visits.old + 1 }
+{
+    if is_interface_call(kind) {
+        return true;
+    }
+    let Callee { method, count, .. } = *callee;
+    fits_resolved(program, machine, thread, class, method, count, visits)
+}
+
+/// What an invoke of a kind selects for a receiver of this class (JVMS 5.4.6; 6.5 invokespecial).
+fn selection(
+    program: &Program,
+    kind: CallKind,
+    callee: &Callee,
+    class: ClassId,
+) -> Result<MethodId, LinkError>
+    requires method { callee.now.method < length program.now.methods }
+    requires current { callee.now.current < length program.now.classes }
+    requires named { callee.now.named < length program.now.classes }
+    requires class { class < length program.now.classes }
+    ensures value { result ≡ selection_in program.now kind
+        callee.now.current callee.now.named callee.now.method class }
+    ensures within { IfOk result (λ m. m < length program.now.methods) }
+{
+    match kind {
+        CallKind::Special => {
+            let from = special_class(program, callee.named);
+            program.select_special(callee.current, from, callee.method)
+        }
+        _ => program.select(class, callee.method, is_interface_call(kind)),
+    }
+}
+
+/// The plan of an invoke of a kind on a receiver, in a method of the current class, of a method that was resolved in a named
+/// one.
+#[tactic(auto, using(crate::proofs::Planning::class_within))]
+fn receiver_plan<L: Ledger>(
+    program: &Program,
+    machine: &Machine,
+    thread: ThreadId,
+    kind: CallKind,
+    callee: &Callee,
     visits: &mut Steps<L>,
 ) -> CallPlan
-    requires call { IsCallable program.now machine.now thread callee.method callee.count }
-    requires current { callee.current < length program.now.classes }
-    requires named { callee.named < length program.now.classes }
-    ensures plan { (at : Site) → at.class ≡ callee.current →
-        IsPlanOf (moment program.now machine.now thread) at kinds.Special
-        callee.named callee.method callee.count result }
-    ensures entered { (at : Site) → at.class ≡ callee.current → method_entered result ≡ entered_by
-        (moment program.now machine.now thread) at kinds.Special
-        callee.named callee.method callee.count }
+    requires call { IsCallable program.now machine.now thread callee.now.method callee.now.count }
+    requires current { callee.now.current < length program.now.classes }
+    requires named { callee.now.named < length program.now.classes }
+    requires receives { kind ≡ kinds.Static → ⊥ }
+    ensures plan { (at : Site) → at.class ≡ callee.now.current →
+        IsPlanOf (moment program.now machine.now thread) at kind
+        callee.now.named callee.now.method callee.now.count result }
+    ensures entered { (at : Site) → at.class ≡ callee.now.current →
+        method_entered result ≡ entered_by (moment program.now machine.now thread) at kind
+        callee.now.named callee.now.method callee.now.count }
     ensures within { IsCallPlan (moment program.now machine.now thread) result }
-    ensures passes { HasCount callee.count result }
+    ensures passes { HasCount callee.now.count result }
     ensures visits { visits.new ≤ visits.old + 2 }
 {
     let Some(receiver) = receiver(machine, thread, callee.count) else {
         return CallPlan::Throws(GuestError::NullPointerException);
     };
     let class = machine.heap.class_of(receiver, visits);
-    let Callee { method, count, .. } = callee;
-    if !fits_resolved(program, machine, thread, class, method, count, visits) {
+    if !fits_kind(program, machine, thread, kind, callee, class, visits) {
         return CallPlan::IllTyped;
     }
-    let from = special_class(program, callee.named);
-    selected(program.select_special(callee.current, from, method), count)
+    let answer = selection(program, kind, callee, class);
+    selected(answer, callee.count)
 }
 
 /// The plan of `invokestatic` of a resolved method, by how far its class is with its initialization (JVMS 5.5).
@@ -255,28 +260,8 @@ fn dispatch_plan<L: Ledger>(
     ensures visits { visits.new ≤ visits.old + 2 }
 {
     match kind {
-        CallKind::Virtual => {
-            virtual_plan(
-                program,
-                machine,
-                thread,
-                callee.method,
-                callee.count,
-                visits,
-            )
-        }
-        CallKind::Special => special_plan(program, machine, thread, callee, visits),
-        CallKind::Static => { static_plan(program, machine, thread, callee.method, callee.count) }
-        CallKind::Interface => {
-            interface_plan(
-                program,
-                machine,
-                thread,
-                callee.method,
-                callee.count,
-                visits,
-            )
-        }
+        CallKind::Static => static_plan(program, machine, thread, callee.method, callee.count),
+        _ => receiver_plan(program, machine, thread, kind, &callee, visits),
     }
 }
 
