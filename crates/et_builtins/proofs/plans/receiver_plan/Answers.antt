@@ -27,26 +27,25 @@ returns-in_default-clause-entered g c = λ at same.
 
 -- ONE THAT DOESN'T FIT
 
-pub returns-then-not-fits_kind-clause-plan : goal.returns-then-not-fits_kind-clause-plan
-returns-then-not-fits_kind-clause-plan g c = λ at same.
+pub returns-then-not-fits_kind : goal.returns-then-not-fits_kind
+returns-then-not-fits_kind g c =
     let e = moment c.args.program.now c.args.machine.now c.args.thread in
     let x = c.args.callee.now in
     let args = arguments_of e x.count in
     let class : c.class_of-class.result ≡ object_class (begins e) c.in-Some.receiver = c.class_of-class.ensures.value ∙ ap (λ (m : MachineState). (object_at m.heap c.in-Some.receiver).class) c.machine.view_is in
     let unfit : fits_in_kind e c.args.kind args x.method c.in-Some.receiver ≡ false = sym (c.if-not-fits_kind.ensures.value c.in-Some.receiver class) in
-    on_receiver e at c.args.kind args x.named x.method _ c.requires.receives (sym c.in-Some.ensures.value)
-    ∙ ap (λ (b : Bool). ill_typed_unless e b (after_selection e (begins e) (selection_in e.program c.args.kind at.class x.named x.method (object_class (begins e) c.in-Some.receiver)) (enters_method e at (begins e) args))) unfit
-
-pub returns-then-not-fits_kind-clause-entered : goal.returns-then-not-fits_kind-clause-entered
-returns-then-not-fits_kind-clause-entered g c = λ at same.
-    let e = moment c.args.program.now c.args.machine.now c.args.thread in
-    let x = c.args.callee.now in
-    let args = arguments_of e x.count in
-    let class : c.class_of-class.result ≡ object_class (begins e) c.in-Some.receiver = c.class_of-class.ensures.value ∙ ap (λ (m : MachineState). (object_at m.heap c.in-Some.receiver).class) c.machine.view_is in
-    let unfit : fits_in_kind e c.args.kind args x.method c.in-Some.receiver ≡ false = sym (c.if-not-fits_kind.ensures.value c.in-Some.receiver class) in
-    sym (ap (λ (o : Option ℕ). option_and_then (selected_on e at c.args.kind args x.named x.method) o) (sym c.in-Some.ensures.value)
-    ∙ (selects_on e at c.args.kind args x.named x.method c.in-Some.receiver c.requires.receives
-    ∙ ap (λ (b : Bool). if b then result_ok (selection_in e.program c.args.kind at.class x.named x.method (object_class (begins e) c.in-Some.receiver)) else None) unfit))
+    record {
+      plan = λ at same.
+          on_receiver e at c.args.kind args x.named x.method _ c.requires.receives (sym c.in-Some.ensures.value)
+          ∙ ap (λ (b : Bool). ill_typed_unless e b (after_selection e (begins e) (selection_in e.program c.args.kind at.class x.named x.method (object_class (begins e) c.in-Some.receiver)) (enters_method e at (begins e) args))) unfit;
+      entered = λ at same.
+          sym (ap (λ (o : Option ℕ). option_and_then (selected_on e at c.args.kind args x.named x.method) o) (sym c.in-Some.ensures.value)
+          ∙ (selects_on e at c.args.kind args x.named x.method c.in-Some.receiver c.requires.receives
+          ∙ ap (λ (b : Bool). if b then result_ok (selection_in e.program c.args.kind at.class x.named x.method (object_class (begins e) c.in-Some.receiver)) else None) unfit));
+      within = tt;
+      passes = tt;
+      visits = omega (arith, c.class_of-class.ensures.visits, c.if-not-fits_kind.ensures.visits);
+    }
 
 -- WHAT IS SELECTED
 
