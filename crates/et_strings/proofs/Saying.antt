@@ -1,5 +1,5 @@
 -- What is printed where a row is done.
-use Rattle.std.proofs.Common.{◌≡◌, ℕ, ◌++◌, List, [], true, false, Bool, refl, sym, ap, subst}
+use Rattle.std.proofs.Common.{◌≡◌, ℕ, ◌++◌, List, [], true, false, Bool, refl, sym, ap, subst, ◌∙◌}
 use Rattle.std.specs.Prelude.{IfOk, OnOk, Ok, Err, Result, unwrap_or}
 use Rattle.et_base.specs.declared.value.Value.{Value}
 use Rattle.et_event.specs.Answered.{TextAnswers}
@@ -21,20 +21,35 @@ use Rattle.et_state.specs.declared.ends.EventEnd.TheVariants as ends
 use Rattle.et_state.specs.declared.records.Record.{Record}
 use Rattle.et_strings.specs.Calls.{AnswersRow, AnswersText, IsCalled, SaysRow, call_made, text_moment}
 use Rattle.et_strings.specs.declared.calls.TextCalled.{TextCalled}
+use Rattle.et_event.proofs.Answering.{if_ok}
 use Rattle.et_strings.proofs.Answering.{giving, ill-beside, says}
 
-pub if_both : {A E : Type 0} {P R : A → Type 0} {Q : Type 0} → (r : Result A E) → ((a : A) → P a → Q → R a) → IfOk r P → OnOk r Q → IfOk r R
+if_both : {A E : Type 0} {P R : A → Type 0} {Q : Type 0} → (r : Result A E) → ((a : A) → P a → Q → R a) → IfOk r P → OnOk r Q → IfOk r R
 if_both (Ok a) f h q = f a h q
 if_both (Err e) f h q = tt
 
 -- a row that answers nothing has these bytes
-pub says-row : (p : Linked) (m m' : MachineState) (x : Texts) (c : TextCalled) (method : TextMethod) (end : EventEnd) (records : List Record) (old new : List ℕ) → c.method ≡ method → IsCalled m c
+says-row : (p : Linked) (m m' : MachineState) (x : Texts) (c : TextCalled) (method : TextMethod) (end : EventEnd) (records : List Record) (old new : List ℕ) → c.method ≡ method → IsCalled m c
     → ((at : Site) → at.next ≡ c.called.next → TextAnswers (goes (giving p m x c.called.thread c.called.count at [])) end m m' x x records records)
     → new ≡ old ++ said_of_method (text_moment p m x c.called.thread) c.argument method → SaysRow p c end m x old new
 says-row p m m' x c method end records old new named called answers is = λ at same.
     let e = text_moment p m x c.called.thread in
     let printed : SaysWhereDone end (said_of_method e c.argument method) old new = says (giving p m x c.called.thread c.called.count at []) end m m' x x records records (said_of_method e c.argument method) old new (answers at same) is in
     subst (λ (k : TextMethod). SaysWhereDone end (said_of_method e (argument (arguments_of e c.called.count) 1) k) old new) (sym named) (subst (λ (v : Value). SaysWhereDone end (said_of_method e v method) old new) called.argument printed)
+
+-- THE ROW OF A METHOD whose answer says nothing of the program and of the records
+
+pub answers-row : {E : Type 0} → (p : Linked) (m m' : MachineState) (x x' : Texts) (c : TextCalled) (method : TextMethod) (r : Result EventEnd E) (records : List Record) → c.method ≡ method
+    → IfOk r (λ end. (q : Linked) (out : List Record) → AnswersText method q c end m m' x x' out out) → IfOk r (λ end. AnswersText c.method p c end m m' x x' records records)
+answers-row p m m' x x' c method r records named h =
+    if_ok r (λ end answers. subst (λ (k : TextMethod). AnswersText k p c end m m' x x' records records) (sym named) (answers p records)) h
+
+-- .. and which prints these bytes
+pub prints-row : {E : Type 0} → (p : Linked) (m m' : MachineState) (x : Texts) (c : TextCalled) (method : TextMethod) (r : Result EventEnd E) (old new bytes : List ℕ) → c.method ≡ method → IsCalled m c
+    → IfOk r (λ end. (q : Linked) (out : List Record) (at : Site) → at.next ≡ c.called.next → TextAnswers (goes (giving q m x c.called.thread c.called.count at [])) end m m' x x out out)
+    → bytes ≡ said_of_method (text_moment p m x c.called.thread) c.argument method → OnOk r (new ≡ old ++ bytes) → IfOk r (λ end. SaysRow p c end m x old new)
+prints-row p m m' x c method r old new bytes named called h same is =
+    if_both r (λ end answers said. says-row p m m' x c method end [] old new named called (answers p []) (said ∙ ap (λ (b : List ℕ). old ++ b) same)) h is
 
 -- THE TEST OF THE CLASSES
 

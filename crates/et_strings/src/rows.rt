@@ -12,7 +12,7 @@ use crate::calls::TextCalled;
 use crate::reading::{char_event, equals_event, length_event};
 use crate::rewriting::{append_event, begin_event, begin_with_event, to_string_event};
 use crate::texts::Texts;
-use crate::writing::{end_line_event, print_event, print_line_event};
+use crate::writing::{end_line_event, print_event};
 use et_base::{NoMemory, Steps};
 use et_builtins::{Called, is_of, takes_text};
 use et_event::ill_typed;
@@ -89,9 +89,11 @@ fn done_event<L: Ledger>(
         TextMethod::Append(kind) => {
             append_event(alloc, program, machine, texts, call, kind, records)
         }
-        TextMethod::Print(kind) => { print_event(alloc, machine, texts, call, kind, &mut out.said) }
+        TextMethod::Print(kind) => {
+            print_event(alloc, machine, texts, call, kind, b"", &mut out.said)
+        }
         TextMethod::PrintLine(kind) => {
-            print_line_event(alloc, machine, texts, call, kind, &mut out.said)
+            print_event(alloc, machine, texts, call, kind, b"\n", &mut out.said)
         }
         TextMethod::EndLine => end_line_event(machine, call, &mut out.said),
     }

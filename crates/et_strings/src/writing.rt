@@ -44,44 +44,25 @@ fn say(
     Ok(())
 }
 
-/// The event in which an argument is printed.
+/// The event in which an argument is printed, and these bytes behind it: none, or the end of the line.
 pub(crate) fn print_event(
     alloc: Global,
     machine: &mut Machine,
     texts: &Texts,
     call: &TextCalled,
     kind: Shown,
+    behind: &[u8],
     said: &mut Vec<u8>,
 ) -> Result<EventEnd, NoMemory>
     requires answers { MayAnswer machine.old texts.now call.now }
     ensures event { IfOk result (λ end. (p : Linked) (out : List Record) →
         AnswersText (methods.Print kind) p call.now end machine.old machine.new
         texts.now texts.now out out) }
-    ensures said { OnOk result (said.new.items ≡ said.old.items ++ written_units
-        (shown (spoken texts.now (kept_of machine.old)) kind call.now.argument)) }
-{
-    say(alloc, machine, texts, kind, call.argument, said)?;
-    Ok(give_nothing(machine, &call.called))
-}
-
-/// The event in which an argument is printed, and the end of the line.
-pub(crate) fn print_line_event(
-    alloc: Global,
-    machine: &mut Machine,
-    texts: &Texts,
-    call: &TextCalled,
-    kind: Shown,
-    said: &mut Vec<u8>,
-) -> Result<EventEnd, NoMemory>
-    requires answers { MayAnswer machine.old texts.now call.now }
-    ensures event { IfOk result (λ end. (p : Linked) (out : List Record) →
-        AnswersText (methods.PrintLine kind) p call.now end machine.old machine.new
-        texts.now texts.now out out) }
     ensures said { OnOk result (said.new.items ≡ said.old.items ++ (written_units
-        (shown (spoken texts.now (kept_of machine.old)) kind call.now.argument) ++ 10 ∷ [])) }
+        (shown (spoken texts.now (kept_of machine.old)) kind call.now.argument) ++ behind.now)) }
 {
     say(alloc, machine, texts, kind, call.argument, said)?;
-    said.push(b'\n')?;
+    said.extend_from_slice(behind)?;
     Ok(give_nothing(machine, &call.called))
 }
 

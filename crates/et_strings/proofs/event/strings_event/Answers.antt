@@ -15,11 +15,9 @@ use Rattle.et_event.proofs.Running.{has_frame_there}
 use Rattle.et_state.specs.Answers.{SaysWhereDone}
 use Rattle.et_state.specs.Outcome.{Outcome}
 use Rattle.et_state.specs.State.{Kept, MachineState, kept_of}
-use Rattle.et_state.specs.Threads.{turn_of}
-use Rattle.et_state.specs.Words.{thread_at, top}
-use Rattle.et_state.specs.declared.stage.Turn.TheVariants.{Instruction}
+use Rattle.et_state.specs.Words.{top}
 use Rattle.et_strings.specs.declared.calls.TextCalled.{TextCalled}
-use Rattle.et_strings.proofs.Turns.{Calls, at_row, instructs, invoke_calls, no_call_reads, no_place, row-called, said-called, text_at_place}
+use Rattle.et_strings.proofs.Turns.{Calls, IsTurn, at_row, instructs, invoke_calls, no_call_reads, no_place, row-called, said-called, text_at_place}
 use Rattle.et_strings.proofs.event.strings_event.Goals as goal
 
 -- WHERE IT STANDS
@@ -53,34 +51,26 @@ read_event-requires-clause-turn g c =
 -- THE EVENT
 
 -- the call that the turn makes
-made : (p : Linked) (m : MachineState) (t : ℕ) (place : Place) (kind : CallKind) (c : TextCalled) → turn_of (thread_at m.guest t) ≡ Instruction → IsPlace p (top m.guest t) place → place.row ≡ rows.Call (Invoke kind)
-    → text_call_at (moment p m t) (site_at place) (rows.Call (Invoke kind)) ≡ Some (record { at = site_at place; arguments = arguments_of (moment p m t) c.called.count; method = c.method }) → Calls p m t c (site_at place)
-made p m t place kind c turn is row call = text_at_place p m t place turn is ∙ (ap (λ (r : Row). text_call_at (moment p m t) (site_at place) r) row ∙ call)
+made : (p : Linked) (m : MachineState) (t : ℕ) (place : Place) (kind : CallKind) (c : TextCalled) → IsTurn p (kept_of m) t → IsPlace p (top m.guest t) place → place.row ≡ rows.Call (Invoke kind)
+    → text_call_at (moment p m t) (site_at place) (rows.Call (Invoke kind)) ≡ Some (record { at = (site_at place); arguments = arguments_of (moment p m t) c.called.count; method = c.method }) → Calls p m t c (site_at place)
+made p m t place kind c turn is row call = text_at_place p m t place (instructs p (kept_of m) t turn) is ∙ (ap (λ (r : Row). text_call_at (moment p m t) (site_at place) r) row ∙ call)
 
 pub returns-in-Some-invoke_kind-clause-event : goal.returns-in-Some-invoke_kind-clause-event
 returns-in-Some-invoke_kind-clause-event g c =
-    let p = c.args.program.now in
-    let m = c.args.machine.now in
-    let x = c.args.texts.now in
-    let t = c.args.thread in
     let place = c.in-Some.place in
-    let call = c.text_called-call.result in
-    let calls = made p m t place c.in-Some-invoke_kind.kind call (instructs p (kept_of m) t c.requires.turn) c.in-Some.ensures.found c.in-Some-invoke_kind.ensures.some c.text_called-call.ensures.call in
+    let call = c.text_called-call in
+    let calls = made c.args.program.now c.args.machine.now c.args.thread place c.in-Some-invoke_kind.kind call.result c.requires.turn c.in-Some.ensures.found c.in-Some-invoke_kind.ensures.some call.ensures.call in
     if_ok c.row_event.result
-    (λ end h. subst (λ (k : Outcome Kept). TextAnswers k end m c.row_event.new.machine x c.row_event.new.texts c.args.out.now.records c.row_event.new.out.records)
-    (sym (row-called p m x t call (site_at place) c.text_called-call.ensures.thread calls c.text_called-call.ensures.receiver)) (h (site_at place) (sym c.text_called-call.ensures.next)))
+    (λ end h. subst (λ (k : Outcome Kept). TextAnswers k end c.args.machine.now c.row_event.new.machine c.args.texts.now c.row_event.new.texts c.args.out.now.records c.row_event.new.out.records)
+    (sym (row-called c.args.program.now c.args.machine.now c.args.texts.now c.args.thread call.result (site_at place) call.ensures.thread calls call.ensures.receiver)) (h (site_at place) (sym call.ensures.next)))
     c.row_event.ensures.event
 
 pub returns-in-Some-invoke_kind-clause-said : goal.returns-in-Some-invoke_kind-clause-said
 returns-in-Some-invoke_kind-clause-said g c =
-    let p = c.args.program.now in
-    let m = c.args.machine.now in
-    let x = c.args.texts.now in
-    let t = c.args.thread in
     let place = c.in-Some.place in
-    let call = c.text_called-call.result in
-    let calls = made p m t place c.in-Some-invoke_kind.kind call (instructs p (kept_of m) t c.requires.turn) c.in-Some.ensures.found c.in-Some-invoke_kind.ensures.some c.text_called-call.ensures.call in
+    let call = c.text_called-call in
+    let calls = made c.args.program.now c.args.machine.now c.args.thread place c.in-Some-invoke_kind.kind call.result c.requires.turn c.in-Some.ensures.found c.in-Some-invoke_kind.ensures.some call.ensures.call in
     if_ok c.row_event.result
     (λ end h. subst (λ (b : List ℕ). SaysWhereDone end b c.args.out.now.said.items c.row_event.new.out.said.items)
-    (sym (said-called p m x t call (site_at place) c.text_called-call.ensures.thread calls)) (h (site_at place) (sym c.text_called-call.ensures.next)))
+    (sym (said-called c.args.program.now c.args.machine.now c.args.texts.now c.args.thread call.result (site_at place) call.ensures.thread calls)) (h (site_at place) (sym call.ensures.next)))
     c.row_event.ensures.said
