@@ -30,17 +30,18 @@ pub fn lose_each(machine: &mut Machine, objects: &[ObjectId])
     }
 }
 
-/// Does the plain instruction of this row at a place, over the frame that runs.
+/// Does the plain instruction at a place, over the frame that runs.
 #[inline(always)]
-fn plain_step(running: &mut Running, place: &Place<'_>, row: Row) -> PlainEnd
+fn plain_step(running: &mut Running, place: &Place<'_>) -> PlainEnd
     requires pc { running.old.frame.pc < 2 ^ 31 }
-    requires switch { row ≡ rows.Frame frame_rows.Switch →
+    requires switch { place.now.row ≡ rows.Frame frame_rows.Switch →
         IsSwitch place.now.code.now place.now.instr }
-    requires index { row ≡ rows.PoolConstant → natural_of place.now.instr.first < 2 ^ 16 }
-    requires plain { is_plain row ≡ true }
-    ensures { RunsPlain (site_at place.now) row result running.old running.new }
+    requires index { place.now.row ≡ rows.PoolConstant →
+        natural_of place.now.instr.first < 2 ^ 16 }
+    requires plain { is_plain place.now.row ≡ true }
+    ensures { RunsPlain (site_at place.now) place.now.row result running.old running.new }
 {
-    match row {
+    match place.row {
         Row::Frame(row) => end_of(frame_event(running, &row, place.code, &place.instr, place.next)),
         Row::PoolConstant => {
             let index = natural(place.instr.first) as u16;
@@ -51,28 +52,24 @@ fn plain_step(running: &mut Running, place: &Place<'_>, row: Row) -> PlainEnd
     }
 }
 
-/// The event of the plain instruction of this row at a place, where it changes nothing but the topmost frame: it is done over the
+/// The event of the plain instruction at a place, where it changes nothing but the topmost frame: it is done over the
 /// frames of the thread while they are lifted out of the machine, and a legal step leads to the state after it. Where it has no
 /// meaning or changes more, the machine is as before.
-pub(crate) fn plain_done(
-    machine: &mut Machine,
-    thread: ThreadId,
-    place: &Place<'_>,
-    row: Row,
-) -> PlainEnd
+pub(crate) fn plain_done(machine: &mut Machine, thread: ThreadId, place: &Place<'_>) -> PlainEnd
     requires frame { HasFrame machine.old.guest thread }
     requires sound { IsSound (kept_of machine.old) }
     requires clock { machine.old.guest.clock < 2 ^ 40 }
     requires few { length (thread_at machine.old.guest thread).frames ≤ most_frames }
     requires pc { (top machine.old.guest thread).pc < 2 ^ 31 }
-    requires switch { row ≡ rows.Frame frame_rows.Switch →
+    requires switch { place.now.row ≡ rows.Frame frame_rows.Switch →
         IsSwitch place.now.code.now place.now.instr }
-    requires index { row ≡ rows.PoolConstant → natural_of place.now.instr.first < 2 ^ 16 }
-    requires plain { is_plain row ≡ true }
-    ensures { DoesPlain (site_at place.now) row result thread machine.old machine.new }
+    requires index { place.now.row ≡ rows.PoolConstant →
+        natural_of place.now.instr.first < 2 ^ 16 }
+    requires plain { is_plain place.now.row ≡ true }
+    ensures { DoesPlain (site_at place.now) place.now.row result thread machine.old machine.new }
 {
     let mut running = machine.lift(thread);
-    let end = plain_step(&mut running, place, row);
+    let end = plain_step(&mut running, place);
     if end.is_done() {
         machine.begin_event();
         lose_each(machine, running.lost());

@@ -1,18 +1,16 @@
 //! The plain instructions, by their rows.
-ghost use Rattle.std.specs.Prelude.{◌≡◌, ◌<◌, ◌≤◌, ◌^◌, true, IfOk, OnErr, length};
-ghost use Rattle.et_code.specs.Switches.{IsSwitch};
-ghost use Rattle.et_state.specs.State.{kept_of};
-ghost use Rattle.et_state.specs.Threads.{most_frames};
-ghost use Rattle.et_state.specs.Words.{HasFrame, thread_at, top};
-ghost use Rattle.et_state.specs.Sound.{IsSound};
-ghost use Rattle.et_event.specs.declared.rows.FrameRow.TheVariants as frame_rows;
+ghost use Rattle.std.specs.Prelude.{◌≡◌, ◌<◌, ◌^◌, true, Some, IfNone, IfOk, IfSome, OnErr, length};
+ghost use Rattle.et_state.specs.Threads.{FrameState};
+ghost use Rattle.et_state.specs.Words.{HasFrame, top};
+ghost use Rattle.et_event.specs.declared.rows.Division.{Division};
+ghost use Rattle.et_event.specs.declared.rows.Number.{Number};
 ghost use Rattle.et_event.specs.declared.rows.Row.TheVariants as rows;
 ghost use Rattle.et_event.specs.Answered.{EventAnswers};
+ghost use Rattle.et_event.specs.Beginning.{BeginsEvent};
 ghost use Rattle.et_event.specs.Event.{does};
-ghost use Rattle.et_event.specs.Moments.{fits_heap, moment};
-ghost use Rattle.et_event.specs.Sites.{natural_of};
+ghost use Rattle.et_event.specs.Moments.{moment};
+ghost use Rattle.et_event.specs.Sites.{AString, constant_at, natural_of, pool_index};
 ghost use Rattle.et_event.specs.PlainRows.{is_plain};
-ghost use Rattle.et_event.specs.Sound.{IsSoundFor};
 ghost use Rattle.et_event.specs.Places.{IsPlace, site_at};
 ghost use Rattle.et_ops.specs.Plain.{ChangesMore};
 
@@ -26,93 +24,31 @@ use et_event::{GuestError, Place, Row, ill_typed, throw_error};
 use et_program::Program;
 use et_state::{EventEnd, Lines, Machine};
 
-/// The event of `ldc` or `ldc_w` at a place, where it loads a string.
-fn load_string(
-    program: &Program,
-    machine: &mut Machine,
-    thread: ThreadId,
-    place: &Place<'_>,
-    out: &mut Lines,
-) -> Result<EventEnd, NoMemory>
-    requires frame { HasFrame machine.old.guest thread }
-    requires sound { IsSound (kept_of machine.old) }
-    requires clock { machine.old.guest.clock < 2 ^ 40 }
-    requires fits { fits_heap machine.old.heap ≡ true }
-    requires index { natural_of place.now.instr.first < 2 ^ 16 }
-    requires string { ChangesMore (site_at place.now) rows.PoolConstant
-        (top machine.old.guest thread) }
-    ensures ok { IfOk result (λ end. EventAnswers (does (moment program.now machine.old thread)
-        (site_at place.now) rows.PoolConstant) end machine.old machine.new out.old out.new) }
-    ensures err { OnErr result (machine.new.guest ≡ machine.old.guest) }
+/// The bytes of the string that a plain instruction loads where it changes more than the topmost frame; `None` where it divides
+/// by 0.
+fn string_loaded<'a>(place: &Place<'a>) -> Option<&'a [u8]>
+    requires index { place.now.row ≡ rows.PoolConstant →
+        natural_of place.now.instr.first < 2 ^ 16 }
+    requires more { (f : FrameState) × ChangesMore (site_at place.now) place.now.row f }
+    ensures some { IfSome result (λ bytes. (place.now.row ≡ rows.PoolConstant)
+        × (constant_at (site_at place.now).pool (pool_index (site_at place.now))
+        ≡ Some (AString bytes.now))) }
+    ensures short { IfSome result (λ bytes. length bytes.now < 2 ^ 16) }
+    ensures none { IfNone result ((number : Number) × (division : Division)
+        × (place.now.row ≡ rows.Divide number division)) }
 {
-    match string_bytes(place.pool, natural(place.instr.first) as u16) {
-        Some(bytes) => string_event(program, machine, thread, bytes, place.next, out),
-        None => unreachable!(),
-    }
-}
-
-/// The event of the plain instruction of this row at a place, where it changes more than the topmost frame: it loads a string, or
-/// divides by 0, which throws ArithmeticException.
-fn more_event(
-    program: &Program,
-    machine: &mut Machine,
-    thread: ThreadId,
-    place: &Place<'_>,
-    row: Row,
-    out: &mut Lines,
-) -> Result<EventEnd, NoMemory>
-    requires frame { HasFrame machine.old.guest thread }
-    requires sound { IsSound (kept_of machine.old) }
-    requires clock { machine.old.guest.clock < 2 ^ 40 }
-    requires fits { fits_heap machine.old.heap ≡ true }
-    requires index { row ≡ rows.PoolConstant → natural_of place.now.instr.first < 2 ^ 16 }
-    requires more { ChangesMore (site_at place.now) row (top machine.old.guest thread) }
-    ensures ok { IfOk result (λ end. EventAnswers (does (moment program.now machine.old thread)
-        (site_at place.now) row) end machine.old machine.new out.old out.new) }
-    ensures err { OnErr result (machine.new.guest ≡ machine.old.guest) }
-{
-    match row {
-        Row::PoolConstant => load_string(program, machine, thread, place, out),
-        Row::Divide(..) => throw_error(
-            program,
-            machine,
-            thread,
-            GuestError::ArithmeticException,
-            out,
-        ),
+    match place.row {
+        Row::PoolConstant => {
+            let index = natural(place.instr.first) as u16;
+            match string_bytes(place.pool, index) {
+                Some(bytes) => Some(bytes),
+                None => unreachable!(),
+            }
+        }
+        Row::Divide(..) => None,
         Row::Frame(_) | Row::Heap(_) | Row::Call(_) | Row::Throw | Row::Monitor(_) => {
             unreachable!()
         }
-    }
-}
-
-/// The event of a plain instruction of this row at a place.
-fn row_event(
-    program: &Program,
-    machine: &mut Machine,
-    thread: ThreadId,
-    place: &Place<'_>,
-    row: Row,
-    out: &mut Lines,
-) -> Result<EventEnd, NoMemory>
-    requires frame { HasFrame machine.old.guest thread }
-    requires sound { IsSound (kept_of machine.old) }
-    requires clock { machine.old.guest.clock < 2 ^ 40 }
-    requires fits { fits_heap machine.old.heap ≡ true }
-    requires few { length (thread_at machine.old.guest thread).frames ≤ most_frames }
-    requires pc { (top machine.old.guest thread).pc < 2 ^ 31 }
-    requires switch { row ≡ rows.Frame frame_rows.Switch →
-        IsSwitch place.now.code.now place.now.instr }
-    requires index { row ≡ rows.PoolConstant → natural_of place.now.instr.first < 2 ^ 16 }
-    requires plain { is_plain row ≡ true }
-    ensures ok { IfOk result (λ end. EventAnswers (does (moment program.now machine.old thread)
-        (site_at place.now) row) end machine.old machine.new out.old out.new) }
-    ensures err { OnErr result (machine.new.guest ≡ machine.old.guest) }
-{
-    match plain_done(machine, thread, place, row) {
-        PlainEnd::Done => Ok(EventEnd::Done),
-        PlainEnd::IllTyped => Ok(ill_typed(machine, thread)),
-        PlainEnd::More => more_event(program, machine, thread, place, row, out),
     }
 }
 
@@ -127,13 +63,22 @@ pub(crate) fn plain_event(
     out: &mut Lines,
 ) -> Result<EventEnd, NoMemory>
     requires frame { HasFrame machine.old.guest thread }
-    requires sound { IsSoundFor program.now (kept_of machine.old) }
-    requires clock { machine.old.guest.clock < 2 ^ 40 }
+    requires begins { BeginsEvent program.now machine.old thread }
     requires place { IsPlace program.now (top machine.old.guest thread) place.now }
     requires plain { is_plain place.now.row ≡ true }
     ensures ok { IfOk result (λ end. EventAnswers (does (moment program.now machine.old thread)
         (site_at place.now) place.now.row) end machine.old machine.new out.old out.new) }
     ensures err { OnErr result (machine.new.guest ≡ machine.old.guest) }
 {
-    row_event(program, machine, thread, place, place.row, out)
+    match plain_done(machine, thread, place) {
+        PlainEnd::Done => Ok(EventEnd::Done),
+        PlainEnd::IllTyped => Ok(ill_typed(machine, thread)),
+        PlainEnd::More => match string_loaded(place) {
+            Some(bytes) => string_event(program, machine, thread, bytes, place.next, out),
+            None => {
+                let error = GuestError::ArithmeticException;
+                throw_error(program, machine, thread, error, out)
+            }
+        },
+    }
 }

@@ -24,11 +24,11 @@ returns c =
           let done : is_done end ≡ true = sym c.is_done.ensures ∙ w.if-is_done.true in
           let is : c.land.new.self ≡ landed (losing (begun (lifted m t)) r'.lost) t r' =
           c.land.ensures ∙ ap (λ (n : MachineState). landed n t r') (w.machine-is ∙ (w.lose_each.ensures ∙ (ap (λ (n : MachineState). losing n w.lost.result.now) (w.begin_event.ensures ∙ ap begun c.lift-running.ensures.new) ∙ ap (λ (os : List ℕ). losing (begun (lifted m t)) os) w.lost.ensures.value))) in
-          subst (λ (n : MachineState). DoesPlain at c.args.row end t m n) (sym is)
-          (plain_led m t at c.args.row r r' c.requires.frame c.lift-running.ensures.frame c.lift-running.ensures.below end done c.requires.sound c.plain_step-end.ensures)
+          subst (λ (n : MachineState). DoesPlain at c.args.place.now.row end t m n) (sym is)
+          (plain_led m t at c.args.place.now.row r r' c.requires.frame c.lift-running.ensures.frame c.lift-running.ensures.below end done c.requires.sound c.plain_step-end.ensures)
       | else-is_done w ↦
           let undone : is_done end ≡ false = sym c.is_done.ensures ∙ w.if-is_done.false in
           let is : c.land.new.self ≡ landed (lifted m t) t r' = c.land.ensures ∙ ap (λ (n : MachineState). landed n t r') (w.machine-is ∙ c.lift-running.ensures.new) in
-          subst (λ (n : MachineState). DoesPlain at c.args.row end t m n) (sym is)
-          (plain_back m t at c.args.row r r' c.requires.frame c.lift-running.ensures.frame c.lift-running.ensures.below end undone c.plain_step-end.ensures)
+          subst (λ (n : MachineState). DoesPlain at c.args.place.now.row end t m n) (sym is)
+          (plain_back m t at c.args.place.now.row r r' c.requires.frame c.lift-running.ensures.frame c.lift-running.ensures.below end undone c.plain_step-end.ensures)
     ]
