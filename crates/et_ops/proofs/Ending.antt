@@ -4,17 +4,27 @@ use Rattle.std.specs.Prelude.{if◌then◌else◌}
 use Rattle.std.specs.Option.{option_map, option_or}
 use Rattle.et_pool.specs.Entries.{Item}
 use Rattle.et_pool.specs.Looks.{integer_at, long_at, string_at}
+use Rattle.et_program.specs.Entries.{Linked}
+use Rattle.et_state.specs.declared.ends.EventEnd.{EventEnd}
+use Rattle.et_state.specs.declared.records.Record.{Record}
+use Rattle.et_state.specs.Outcome.{Outcome}
 use Rattle.et_state.specs.Running.{RunningState, MovesInFrame}
 use Rattle.et_state.specs.Sound.{IsSound}
-use Rattle.et_state.specs.State.{MachineState, kept_of}
+use Rattle.et_state.specs.State.{Kept, MachineState, kept_of}
 use Rattle.et_state.specs.Threads.{FrameState, rest_of}
 use Rattle.et_state.specs.Words.{HasFrame, begun, losing, thread_at, top}
+use Rattle.et_event.specs.declared.errors.GuestError.TheVariants.{ArithmeticException}
+use Rattle.et_event.specs.declared.rows.Division.{Division}
 use Rattle.et_event.specs.declared.rows.FrameRow.{FrameRow}
+use Rattle.et_event.specs.declared.rows.Number.{Number}
 use Rattle.et_event.specs.declared.rows.Row.{Row}
 use Rattle.et_event.specs.declared.rows.Row.TheVariants as rows
+use Rattle.et_event.specs.Answered.{EventAnswers}
+use Rattle.et_event.specs.Event.{does}
 use Rattle.et_event.specs.FrameSteps.{StepsRunning}
-use Rattle.et_event.specs.Plain.{frame_after, on_frame}
-use Rattle.et_event.specs.Sites.{Site, AnInt, ALong, AString, LoadedConstant, constant_at}
+use Rattle.et_event.specs.Moments.{begins, moment, throws}
+use Rattle.et_event.specs.Plain.{constant, frame_after, on_frame}
+use Rattle.et_event.specs.Sites.{Site, AnInt, ALong, AString, LoadedConstant, constant_at, pool_index}
 use Rattle.et_ops.specs.declared.ends.PlainEnd.{PlainEnd}
 use Rattle.et_ops.specs.declared.ends.PlainEnd.TheVariants as ends
 use Rattle.et_ops.specs.Plain.{ChangesFrame, ChangesMore, DoesPlain, RunsPlain, is_done}
@@ -45,6 +55,23 @@ string_is pool i bytes found is there =
     let first : string_at pool i ≡ Some bytes = string_first (integer_at pool i) (long_at pool i) (string_at pool i) bytes is in
     let same : bytes ≡ found = cc in
     is ∙ ap (λ (b : List ℕ). let c : Option LoadedConstant = Some (AString b) in c) same
+
+-- MORE THAN THE FRAME is changed by an event that begins where the machine was
+
+-- .. which loads a string
+pub loads_string : (p : Linked) (m m' m'' : MachineState) (t : ℕ) (at : Site) (row : Row) (bytes : List ℕ) (end : EventEnd) (out out' : List Record) → m' ≡ m → row ≡ rows.PoolConstant → constant_at at.pool (pool_index at) ≡ Some (AString bytes)
+    → EventAnswers (constant (moment p m' t) at (Some (AString bytes))) end m' m'' out out' → EventAnswers (does (moment p m t) at row) end m m'' out out'
+loads_string p m m' m'' t at row bytes end out out' same named is h =
+    let loads : does (moment p m t) at row ≡ constant (moment p m t) at (Some (AString bytes)) = ap (λ (r : Row). does (moment p m t) at r) named ∙ ap (λ (x : Option LoadedConstant). constant (moment p m t) at x) is in
+    subst (λ (o : Outcome Kept). EventAnswers o end m m'' out out') (sym loads) (subst (λ (k : MachineState). EventAnswers (constant (moment p k t) at (Some (AString bytes))) end k m'' out out') same h)
+
+-- .. or divides by 0
+pub divides_by_zero : (p : Linked) (m m' m'' : MachineState) (t : ℕ) (at : Site) (row : Row) (number : Number) (division : Division) (end : EventEnd) (out out' : List Record) → m' ≡ m → row ≡ rows.Divide number division → ChangesMore at row (top m.guest t)
+    → EventAnswers (throws (moment p m' t) ArithmeticException (begins (moment p m' t))) end m' m'' out out' → EventAnswers (does (moment p m t) at row) end m m'' out out'
+divides_by_zero p m m' m'' t at row number division end out out' same named more h =
+    let thrown = subst (λ (r : Row). ChangesMore at r (top m.guest t)) named more in
+    subst (λ (o : Outcome Kept). EventAnswers o end m m'' out out') (sym (ap (λ (r : Row). does (moment p m t) at r) named ∙ thrown (moment p m t) refl))
+    (subst (λ (k : MachineState). EventAnswers (throws (moment p k t) ArithmeticException (begins (moment p k t))) end k m'' out out') same h)
 
 -- AS AN EVENT of a machine out of which the frames of the thread were lifted
 module _ (m : MachineState) (t : ℕ) (at : Site) (row : Row) (r r' : RunningState) (has : HasFrame m.guest t) (frame : r.frame ≡ top m.guest t) (below : r.below ≡ rest_of (thread_at m.guest t).frames) where
