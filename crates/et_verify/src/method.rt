@@ -26,7 +26,7 @@ use et_base::numbers::{u8_at, u16_at};
 use et_base::{ClassId, MethodId, NoMemory};
 use et_class::flags::{STATIC, has};
 use et_code::{RawCode, TableRow};
-use et_event::{CallRow, Operand, Place, Row, code_of};
+use et_event::{CallRow, Operand, Place, Row};
 use et_flow::{EntryType, Flow, Lead, Search, Types, find_typing};
 use et_pool::{CallShape, Pool, Returned};
 use et_program::{MethodInfo, Program};
@@ -401,7 +401,6 @@ pub(crate) fn has_typing(
     let Some(shape) = program.method_shape(method) else {
         return Ok(false);
     };
-    let _few = code_of(info);
     let found = code_has_typing(alloc, room, program, method, shape, code.raw())?;
     Ok(found)
 }
