@@ -14,7 +14,7 @@ use Rattle.et_state.specs.Naming.{Names, Mentions, mentions_after, lines_of}
 use Rattle.et_state.specs.Outcome.{Outcome, state_after, records_of, end_by}
 use Rattle.et_io.specs.Sink.{Log, with_more}
 use Rattle.et_binary.specs.Formats.{trace_bytes}
-use Rattle.et_loop.specs.Visits.{visits_at, visits_below, allowed_visits, visits_to, visits_of_turn, turn_visits, due_visits, made_after, IsCut}
+use Rattle.et_loop.specs.Visits.{visits_at, visits_below, allowed_visits, visits_to, visits_of_turn, turn_visits, due_visits, made_after, IsCut, IsCutAfter}
 use Rattle.et_loop.specs.Said.{said_at, said_to, IsCutSaid}
 use Rattle.et_state.specs.History.{Rule, Setting, is_flush_point, is_gone, deaths_to, flush_lines, picked_turn, outcome_step, ending, settled, left_by, records_at, IsLastEvent, last_reached, deaths, mentions_to, lines_to, trace_of, how_of}
 
@@ -248,35 +248,25 @@ module _ {S T : Type 0} (reached : Graph → ℕ → Bool) (given : Setting S) (
         pub turns_alike : (e : ℕ) → GoesTo e → visits_to reached given visits start made e ≡ visits_to reached other visits' start' made e
         turns_alike e goes = omega (arith, below_alike e goes, turn_alike e goes, (looks_alike e goes).made, (mirrors.looks 0 start start' first).made)
 
-        -- a run that was cut off in a turn of one was so in the same turn of the other
+        -- a run that was cut off in a turn of one was so in the same turn of the other, where what was taken is the same
+        cut_after_alike : (before after : Log) (old new e : ℕ) (bytes bytes' : List ℕ) → (GoesTo e → bytes ≡ bytes') → IsCutAfter reached given visits start made before after old new bytes e → IsCutAfter reached other visits' start' made before after old new bytes' e
+        cut_after_alike before after old new e bytes bytes' same c = record {
+          goes = goes_there e c.goes;
+          rest = c.rest;
+          mid = c.mid;
+          left = c.left;
+          stops = c.stops;
+          taken = c.taken ∙ ap (λ (taken : List ℕ). with_more before (taken ++ c.rest)) (same c.goes);
+          visits = subst (λ (n : ℕ). new ≤ old + n) (turns_alike e c.goes) c.visits;
+        }
+
+        -- .. by its lines
         pub cut_alike : (before after : Log) (old new : ℕ) → IsCut reached given visits start made before after old new → IsCut reached other visits' start' made before after old new
         cut_alike before after old new (inl same) = inl same
-        cut_alike before after old new (inr (e, c)) = inr (
-          e,
-          record {
-            goes = goes_there e c.goes;
-            rest = c.rest;
-            mid = c.mid;
-            left = c.left;
-            stops = c.stops;
-            taken = c.taken ∙ ap (λ (ls : List TraceLine). with_more before (trace_bytes given.format ls ++ c.rest)) (lines_alike e c.goes);
-            visits = subst (λ (n : ℕ). new ≤ old + n) (turns_alike e c.goes) c.visits;
-          },
-        )
+        cut_alike before after old new (inr (e, c)) = inr (e, cut_after_alike before after old new e _ _ (λ goes. ap (λ (ls : List TraceLine). trace_bytes given.format ls) (lines_alike e goes)) c)
 
-        -- .. by what was printed
+        -- .. and by what was printed
         pub cut_said_alike : (said : S → ℕ → List ℕ) (said' : T → ℕ → List ℕ) → ((e : ℕ) (s : S) (t : T) (thread : ℕ) → M e s t → said s thread ≡ said' t thread) → (before after : Log) (old new : ℕ)
             → IsCutSaid reached given said start made visits before after old new → IsCutSaid reached other said' start' made visits' before after old new
         cut_said_alike said said' tells before after old new (inl same) = inl same
-        cut_said_alike said said' tells before after old new (inr (e, c)) = inr (
-          e,
-          record {
-            goes = goes_there e c.goes;
-            rest = c.rest;
-            mid = c.mid;
-            left = c.left;
-            stops = c.stops;
-            taken = c.taken ∙ ap (λ (bytes : List ℕ). with_more before (bytes ++ c.rest)) (said_alike said said' tells e c.goes);
-            visits = subst (λ (n : ℕ). new ≤ old + n) (turns_alike e c.goes) c.visits;
-          },
-        )
+        cut_said_alike said said' tells before after old new (inr (e, c)) = inr (e, cut_after_alike before after old new e _ _ (λ goes. said_alike said said' tells e goes) c)

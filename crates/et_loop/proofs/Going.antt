@@ -1,5 +1,5 @@
 -- WHAT A TURN MAKES OF A RUN: it goes on, or it is over, or it was cut off in the turn.
-use Rattle.std.proofs.Common.{◌≡◌, ℕ, suc, ◌+◌, ◌*◌, ◌≤◌, Bool, List, [], Some, None, refl, subst, add-one}
+use Rattle.std.proofs.Common.{◌≡◌, ℕ, suc, ◌+◌, ◌*◌, ◌≤◌, Bool, List, [], Some, None, refl, subst, inl, add-one}
 use Rattle.std.specs.Prelude.{slice_index}
 use Rattle.et_base.specs.declared.value.End.{End}
 use Rattle.et_graph.specs.Graph.{Graph, Decides}
@@ -8,39 +8,33 @@ use Rattle.et_io.proofs.Taking.{all_put, part_put, whole_prefix}
 use Rattle.et_state.specs.declared.records.Record.{Record}
 use Rattle.et_state.specs.Naming.{Mentions}
 use Rattle.et_state.specs.History.{Setting, is_flush_point}
-use Rattle.et_loop.specs.declared.options.Ran.{Ran}
 use Rattle.et_loop.specs.declared.tracer.Progress.{Progress}
 use Rattle.et_loop.specs.Quiet.{IsTurn, IsBrokenTurn}
 use Rattle.et_loop.specs.Run.{time_noted, Turns}
-use Rattle.et_loop.specs.Said.{Says, SaysPrefix, IsCutSaid}
+use Rattle.et_loop.specs.Ends.{IsOver, IsCutOff}
 use Rattle.et_loop.specs.Stamping.{Passes}
-use Rattle.et_loop.specs.Traced.{WritesTrace, WritesPrefix}
-use Rattle.et_loop.specs.Visits.{allowed_visits, visits_to, IsCut}
+use Rattle.et_loop.specs.Traced.{WritesPrefix}
+use Rattle.et_loop.specs.Visits.{visits_to, IsCut}
 use Rattle.et_loop.proofs.Counts.{more_so_far, last_allowed, cut_allowed, passes_grow, going_few, ending_few}
 use Rattle.et_loop.proofs.Cuts.{cut_broken, cut_putting}
 use Rattle.et_loop.proofs.Joins.{listed_here, next_runs, next_told}
-use Rattle.et_loop.proofs.RunLemmas.{at_none, front_broken, front_turn, noted_before, turn_end, turn_on}
+use Rattle.et_loop.proofs.RunLemmas.{at_none, front_broken, front_nothing, front_turn, noted_before, turn_end, turn_on}
 use Rattle.et_loop.proofs.Standing.{Stands, stands_on}
-use Rattle.et_loop.proofs.Talking.{say_now, say_turn, said_here, said_putting, talking_end, talking_on}
+use Rattle.et_loop.proofs.Talking.{say_nothing, say_now, say_turn, said_here, said_putting, talking_end, talking_on}
 
-module _ {S : Type 0} (reached : Graph → ℕ → Bool) (decides : Decides reached) (given : Setting S) (said : S → ℕ → List ℕ) (flush_visits : (ℕ → Bool) → S → ℕ) (start : S) (made : List Record) (before heard : Log) (first : ℕ) where
-  -- what holds of a run that was cut off, by what both sinks took and by the visits
-  pub record IsCutOff (after hears : Log) (visits : ℕ) : Type 0 where
-    pub prefix : WritesPrefix reached given start made before after
-    pub cut : IsCut reached given flush_visits start made before after first visits
-    pub said_prefix : SaysPrefix reached given said start made heard hears
-    pub said_cut : IsCutSaid reached given said start made flush_visits heard hears first visits
+-- BEFORE THE FIRST TURN nothing was printed, and nothing visited.
+module _ {S : Type 0} {reached : Graph → ℕ → Bool} {given : Setting S} {said : S → ℕ → List ℕ} {flush_visits : (ℕ → Bool) → S → ℕ} {start : S} {made : List Record} {before heard : Log} {visits : ℕ} where
+  pub cut_at_start : {after : Log} → WritesPrefix reached given start made before after → IsCutOff reached given said flush_visits start made before after heard heard visits visits
+  cut_at_start prefix = record { prefix = prefix; cut = inl refl; said_prefix = say_nothing reached given said start made heard; said_cut = inl (refl, refl) }
 
-  -- .. and of one that is over
-  pub record IsOver (ran : Ran) (after hears : Log) (visits : ℕ) : Type 0 where
-    pub trace : WritesTrace reached given start made ran before after
-    pub allowed : visits ≤ first + allowed_visits reached given flush_visits start made ran.event
-    pub says : Says reached given said start made ran heard hears
+  -- .. and maybe no line was put
+  pub nothing_done : IsCutOff reached given said flush_visits start made before before heard heard visits visits
+  nothing_done = cut_at_start (front_nothing reached given start made before)
 
 module _ {S : Type 0} {reached : Graph → ℕ → Bool} {decides : Decides reached} {given : Setting S} {said : S → ℕ → List ℕ} {flush_visits : (ℕ → Bool) → S → ℕ} {start : S} {made : List Record} {before now heard hears : Log} {first e visits : ℕ} {m : Mentions} {s : S} {stamps : List ℕ}
     (h : Stands reached decides given said flush_visits start made m before now heard hears first e s stamps visits) where
   -- the turn was broken off
-  pub broken_off : {now' : Log} {out : List ℕ} {after : ℕ} → out ≡ [] → IsBrokenTurn given said e s stamps visits after flush_visits now now' out → IsCutOff reached decides given said flush_visits start made before heard first now' hears after
+  pub broken_off : {now' : Log} {out : List ℕ} {after : ℕ} → out ≡ [] → IsBrokenTurn given said e s stamps visits after flush_visits now now' out → IsCutOff reached given said flush_visits start made before now' heard hears first after
   broken_off {now' = now'} {out = out} {after = after} empty turn =
       let at : ℕ = e + turn.quiet in
       let here = stands_on reached decides given said flush_visits start made m before now heard hears first turn.quiet e s turn.from stamps turn.between visits h turn.comes.events in
@@ -81,7 +75,7 @@ module _ {S : Type 0} {reached : Graph → ℕ → Bool} {decides : Decides reac
     cut_there now'' part = cut_putting reached given flush_visits start made before first after at turn.from last m now here.runs few now'' turn.whole part
 
     -- only a part of its lines was put
-    pub cut_in_lines : {now'' : Log} {piece : List ℕ} → piece ≡ left → TakesPrefix now' now'' piece → IsCutOff reached decides given said flush_visits start made before heard first now'' hears after
+    pub cut_in_lines : {now'' : Log} {piece : List ℕ} → piece ≡ left → TakesPrefix now' now'' piece → IsCutOff reached given said flush_visits start made before now'' heard hears first after
     cut_in_lines {now'' = now''} is put =
         let part = part_put now now' now'' turn.whole left turn.put (subst (λ (b : List ℕ). TakesPrefix now' now'' b) is put) in
         record {
@@ -97,7 +91,7 @@ module _ {S : Type 0} {reached : Graph → ℕ → Bool} {decides : Decides reac
       all = all_put now now' now'' turn.whole left turn.put (subst (λ (b : List ℕ). now'' ≡ with_more now' b) lines_are put)
 
       -- .. but only a part of what it prints
-      pub cut_in_print : {hears' : Log} {piece : List ℕ} → piece ≡ bytes → TakesPrefix hears hears' piece → IsCutOff reached decides given said flush_visits start made before heard first now'' hears' after
+      pub cut_in_print : {hears' : Log} {piece : List ℕ} → piece ≡ bytes → TakesPrefix hears hears' piece → IsCutOff reached given said flush_visits start made before now'' heard hears' first after
       cut_in_print {hears' = hears'} is put =
           let part = subst (λ (b : List ℕ). TakesPrefix hears hears' b) is put in
           record {
@@ -113,14 +107,14 @@ module _ {S : Type 0} {reached : Graph → ℕ → Bool} {decides : Decides reac
         printed : hears' ≡ with_more hears bytes
         printed = subst (λ (b : List ℕ). hears' ≡ with_more hears b) piece_is heard_it
 
-        pub run_over : {end : End} → progress.end ≡ Some end → IsOver reached decides given said flush_visits start made before heard first (record { end = end; event = at }) now'' hears' after
+        pub run_over : {end : End} → progress.end ≡ Some end → IsOver reached given said flush_visits start made before now'' heard hears' first after (record { end = end; event = at })
         run_over {end = end} is =
             let wrote = turn_end reached given start made at turn.from last m before now here.runs progress.end end s' last' m' out turn.whole empty is turns now'' all in
             record {
               trace = wrote;
-              allowed = last_allowed reached given flush_visits start made at turn.from first (visits + 8 * progress.quiet) here.so_far here.runs.state after
+              visits = last_allowed reached given flush_visits start made at turn.from first (visits + 8 * progress.quiet) here.so_far here.runs.state after
                   (ending_few reached given flush_visits at turn.from last m s' last' m' out turn.whole progress.end turns (visits + 8 * progress.quiet) after (turn.comes.visits reached decides) end is);
-              says = record { ends = wrote.ends; taken = talking_end reached given said start made at heard hears here.talks here.runs.first turn.from bytes here.runs.state progress.end end is (turn.says reached decides) hears' printed };
+              said = record { ends = wrote.ends; taken = talking_end reached given said start made at heard hears here.talks here.runs.first turn.from bytes here.runs.state progress.end end is (turn.says reached decides) hears' printed };
             }
 
         pub run_goes : progress.end ≡ None → Stands reached decides given said flush_visits start made m' before now'' heard hears' first (at + 1) s' new after

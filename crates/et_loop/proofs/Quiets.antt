@@ -22,7 +22,7 @@ use Rattle.et_loop.specs.Kept.{IsStepTo, Settles}
 use Rattle.et_loop.specs.Quiet.{event_at, IsQuiet, AreQuiet, GoesQuietly, GoQuietly, IsStep}
 use Rattle.et_loop.specs.Run.{end_after, StepsTo, StopsAt}
 use Rattle.et_loop.specs.Said.{SaysStep}
-use Rattle.et_loop.specs.Stamping.{AreMade, StepsWhereDone}
+use Rattle.et_loop.specs.Stamping.{AreMade, HasStamps, StepsWhereDone}
 use Rattle.et_loop.specs.Told.{IsToldByStamps}
 use Rattle.et_loop.specs.Visits.{visits_of_event}
 use Rattle.et_loop.proofs.Counts.{event_allowed}
@@ -66,6 +66,10 @@ settled_there true g h c made =
       ];
     }
 settled_there false g h e made = subst (λ (x : Graph). AreMade x) (sym e) made
+
+pub settled_stamps : (due : Bool) (g h : Graph) (stamps : List ℕ) → Settles due g h → HasStamps g stamps → HasStamps h stamps
+settled_stamps true g h stamps c has = record { few = omega (arith, has.few, c.1.made, c.2.made); places = omega (arith, has.places, c.1.made, c.2.made) }
+settled_stamps false g h stamps e has = subst (λ (x : Graph). HasStamps x stamps) (sym e) has
 
 pub told_there : (graphs : ℕ → Graph) (e : ℕ) (g : Graph) (stamps : ℕ → ℕ) → IsToldByStamps graphs e g stamps → AreMade g
 told_there graphs e g stamps told =

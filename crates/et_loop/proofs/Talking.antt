@@ -10,6 +10,7 @@ use Rattle.et_state.specs.History.{Setting, ending, settled, left_by, picked_tur
 use Rattle.et_loop.specs.Quiet.{GoesQuietly}
 use Rattle.et_loop.specs.Said.{said_at, said_to, SaysPrefix, SaysTurn, IsCutSaid}
 use Rattle.et_loop.specs.Visits.{visits_to}
+use Rattle.et_loop.proofs.Cuts.{cut_in_put}
 use Rattle.et_loop.proofs.RunLemmas.{more_nothing, more_twice, front_on, front_so_far, up_to_last}
 
 module _ {S : Type 0} (reached : Graph → ℕ → Bool) (given : Setting S) (said : S → ℕ → List ℕ) (start : S) (made : List Record) where
@@ -66,18 +67,7 @@ module _ {S : Type 0} (reached : Graph → ℕ → Bool) (given : Setting S) (sa
 
       -- in a put of what the turn prints
       pub said_putting : (after : Log) (piece : List ℕ) → TakesPrefix now after piece → IsCutSaid reached given said start made flush_visits before after old new
-      said_putting after piece t = inr (
-        e,
-        record {
-          goes = first;
-          rest = t.takes.prefix;
-          mid = t.mid;
-          taken = t.takes.taken ∙ (ap (λ (x : Log). with_more x t.takes.prefix) h.taken ∙ more_twice before (said_to reached given said start made e) t.takes.prefix);
-          left = t.rest;
-          stops = t.stops;
-          visits = few;
-        },
-      )
+      said_putting after piece t = inr (e, cut_in_put reached given flush_visits start made before old new (said_to reached given said start made e) e now after piece first h.taken t few)
 
     -- a quiet event prints nothing
     pub talking_quiet : (s s' : S) (old new : List ℕ) → s ≡ left_by reached given start made e → GoesQuietly given said e s s' old new → Talking (suc e) before now

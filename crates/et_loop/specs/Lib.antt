@@ -9,3 +9,5 @@ pub mod Visits
 pub mod Pace
 pub mod Quiet
 pub mod Said
+pub mod Going
+pub mod Ends

@@ -1,8 +1,11 @@
 -- The lines of one mention.
 use Rattle.std.specs.Prelude.{◌≡◌, ℕ, ◌==◌, true, if◌then◌else◌, List, ◌++◌, Option, Some, None, slice_index_or}
 use Rattle.std.specs.List.{list_any}
+use Rattle.et_base.specs.declared.format.Format.{Format}
 use Rattle.et_base.specs.declared.line.TraceLine.{TraceLine}
-use Rattle.et_state.specs.Naming.{Names, Mentions, with_new, number_in, class_line, method_line}
+use Rattle.et_binary.specs.Formats.{lines_written_in}
+use Rattle.et_state.specs.declared.records.Record.{Record}
+use Rattle.et_state.specs.Naming.{Names, Mentions, with_new, with_mentions, number_in, class_line, method_line, record_lines}
 
 -- what is mentioned once a method and its class are
 abbrev pub mentions_method : Names → Mentions → ℕ → Mentions
@@ -25,3 +28,8 @@ number_if_in seen x = if list_any (λ y. x == y) seen then Some (number_in seen 
 -- a table has the number of each x at x
 abbrev pub AreNumbersOf : List ℕ → List (Option ℕ) → Type 0
 AreNumbersOf seen numbers = (x : ℕ) → slice_index_or numbers x None ≡ number_if_in seen x
+
+-- the lines of a record were put behind the old ones, and what it mentions is mentioned
+pub record WritesRecord (names : Names) (format : Format) (r : Record) (m m' : Mentions) (old new : List ℕ) : Type 0 where
+  pub mentions : m' ≡ with_mentions names m r
+  pub lines : new ≡ old ++ lines_written_in format (record_lines names m r)

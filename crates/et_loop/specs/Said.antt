@@ -1,14 +1,14 @@
 -- WHAT A HISTORY PRINTS, and what of it the sink of the guest takes. `said` is what the event of a thread prints in a state,
 -- where it is done. S is what a state is.
-use Rattle.std.specs.Prelude.{◌≡◌, ℕ, zero, suc, ◌+◌, ◌<◌, ◌≤◌, ◌⊎◌, Bool, List, [], ◌++◌, Option, Some, None}
+use Rattle.std.specs.Prelude.{◌≡◌, ℕ, zero, suc, ◌+◌, ◌⊎◌, Bool, List, [], ◌++◌, Option, Some, None}
 use Rattle.et_base.specs.declared.value.End.{End}
 use Rattle.et_graph.specs.Graph.{Graph}
 use Rattle.et_io.specs.Faults.{count_after}
-use Rattle.et_io.specs.Sink.{Log, with_more, Stops, TakesPrefix}
+use Rattle.et_io.specs.Sink.{Log, with_more, TakesPrefix}
 use Rattle.et_state.specs.declared.records.Record.{Record}
-use Rattle.et_state.specs.History.{Setting, IsLastEvent, ending, left_by, picked_turn, settled}
+use Rattle.et_state.specs.History.{Setting, IsLastEvent, left_by, picked_turn, settled}
 use Rattle.et_loop.specs.declared.options.Ran.{Ran}
-use Rattle.et_loop.specs.Visits.{visits_to}
+use Rattle.et_loop.specs.Visits.{IsCutAfter}
 
 -- these bytes are what the event after event e prints, which leads from s, where it is done; at the end there are none
 module _ {S : Type 0} (given : Setting S) (said : S → ℕ → List ℕ) (e : ℕ) (s : S) (bytes : List ℕ) where
@@ -43,22 +43,10 @@ module _ {S : Type 0} (reached : Graph → ℕ → Bool) (given : Setting S) (sa
     abbrev pub SaysPrefix : Log → Log → Type 0
     SaysPrefix before after = (e : ℕ) (end : End) → IsLastEvent reached given start made e end → TakesPrefix before after (said_to e)
 
-    module _ (flush_visits : (ℕ → Bool) → S → ℕ) (before after : Log) (old new : ℕ) where
-      -- The run was cut off in the turn after event e: the sink took what the events up to that one print, and maybe a part
-      -- of what the event of the turn prints; a put that failed is the last one. The counter of visits, which was old, allows for
-      -- the turns so far and this one.
-      pub record IsCutSaidAfter (e : ℕ) : Type 0 where
-        pub goes : (k : ℕ) → k < e → ending given k (settled reached given k (left_by reached given start made k)) ≡ None
-        pub rest : List ℕ
-        pub mid : Log
-        pub taken : mid ≡ with_more before (said_to e ++ rest)
-        pub left : List ℕ
-        pub stops : Stops mid after left
-        pub visits : new ≤ old + visits_to reached given flush_visits start made e
-
-      -- .. or before the first turn, and then nothing was visited
-      abbrev pub IsCutSaid : Type 0
-      IsCutSaid = ((new ≡ old) × (after ≡ before)) ⊎ ((e : ℕ) × IsCutSaidAfter e)
+    -- It was cut off in a turn, and took what the events up to that one print, and maybe a part of what the event of the turn
+    -- prints; or before the first turn, and then nothing was visited.
+    abbrev pub IsCutSaid : ((ℕ → Bool) → S → ℕ) → Log → Log → ℕ → ℕ → Type 0
+    IsCutSaid flush_visits before after old new = ((new ≡ old) × (after ≡ before)) ⊎ ((e : ℕ) × IsCutAfter reached given flush_visits start made before after old new (said_to e) e)
 
 -- a failed put was counted, by the one sink or by the other
 abbrev pub CountsWrite : Bool → (a a' b b' : ℕ) → Type 0

@@ -65,18 +65,18 @@ module _ {S : Type 0} (reached : Graph → ℕ → Bool) (given : Setting S) (fl
       + visits_of_turn reached given flush_visits e (left_by reached given start made e)
 
   module _ (before after : Log) (old new : ℕ) where
-    -- The run was cut off in the turn after event e: the history goes on before that event, and the sink took all lines up to
-    -- its records, and maybe more; a put that failed is the last one. The counter of visits, which was old, allows for the turns so
-    -- far and this one.
-    pub record IsCutAfter (e : ℕ) : Type 0 where
+    -- The run was cut off in the turn after event e: the history goes on before that event, and the sink took all these bytes,
+    -- and maybe more; a put that failed is the last one. The counter of visits, which was old, allows for the turns so far and
+    -- this one.
+    pub record IsCutAfter (bytes : List ℕ) (e : ℕ) : Type 0 where
       pub goes : (k : ℕ) → k < e → ending given k (settled reached given k (left_by reached given start made k)) ≡ None
       pub rest : List ℕ
       pub mid : Log
-      pub taken : mid ≡ with_more before (trace_bytes given.format (lines_to reached given start made e) ++ rest)
+      pub taken : mid ≡ with_more before (bytes ++ rest)
       pub left : List ℕ
       pub stops : Stops mid after left
       pub visits : new ≤ old + visits_to e
 
-    -- .. or before the first turn, and then nothing was visited
+    -- It took all lines up to the records of that event; or it was before the first turn, and then nothing was visited.
     abbrev pub IsCut : Type 0
-    IsCut = (new ≡ old) ⊎ ((e : ℕ) × IsCutAfter e)
+    IsCut = (new ≡ old) ⊎ ((e : ℕ) × IsCutAfter (trace_bytes given.format (lines_to reached given start made e)) e)

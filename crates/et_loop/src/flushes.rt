@@ -8,8 +8,8 @@ ghost use Rattle.et_state.specs.History.{flush_lines};
 ghost use Rattle.et_binary.specs.Formats.{lines_written_in};
 ghost use Rattle.et_loop.specs.Run.{due_lines, due_state, last_lines, PutsFlush, PutsLast};
 ghost use Rattle.et_graph.specs.Listed.{AreListed};
+ghost use Rattle.et_loop.specs.Going.{MayFlush};
 ghost use Rattle.et_loop.specs.Kept.{Settles};
-ghost use Rattle.et_loop.specs.Stamping.{HasStamps};
 ghost use Rattle.et_loop.specs.Visits.{due_visits, last_visits};
 
 use crate::guest::Guest;
@@ -72,9 +72,7 @@ pub fn settle<G: Guest, O: Sink, L: Ledger>(
     sink: &mut O,
     visits: &mut Steps<L>,
 ) -> Result<(), RunFault>
-    requires sound { G.is_sound program.now (G.state guest.old) }
-    requires stamps { HasStamps (G.graph_of (G.state guest.old)) tracer.old.stamps }
-    requires room { G.has_places tracer.old.room (G.graph_of (G.state guest.old)).made }
+    requires { MayFlush G.Guest program.now (G.state guest.old) tracer.old.stamps tracer.old.room }
     ensures lines { OnOk result (PutsFlush
         (G.graph_of (G.state guest.old)) tracer.old.stamps tracer.old.format due e
         (O.taken sink.old) (O.taken sink.new) tracer.old.buffer.items tracer.new.buffer.items) }
@@ -130,9 +128,7 @@ pub fn conclude<G: Guest, O: Sink, L: Ledger>(
     sink: &mut O,
     visits: &mut Steps<L>,
 ) -> Result<(), RunFault>
-    requires sound { G.is_sound program.now (G.state guest.old) }
-    requires stamps { HasStamps (G.graph_of (G.state guest.old)) tracer.old.stamps }
-    requires room { G.has_places tracer.old.room (G.graph_of (G.state guest.old)).made }
+    requires { MayFlush G.Guest program.now (G.state guest.old) tracer.old.stamps tracer.old.room }
     ensures visits { (here : ℕ → Bool) → (due ≡ false →
         (o : ℕ) → IsTrue (here o) ↔ IsReached (G.graph_of (G.state guest.old)) o) →
         visits.new ≤ visits.old + last_visits due (G.flush_visits_of here (G.state guest.old)) }

@@ -1,9 +1,9 @@
 //! Records become lines, and classes and methods get their numbers.
 ghost use Rattle.std.specs.Prelude.{◌≡◌, ◌<◌, ◌++◌, length, All, IfOk, OnOk};
 ghost use Rattle.et_base.specs.declared.line.TraceLine.TheVariants.{Class, Method};
-ghost use Rattle.et_state.specs.Naming.{IsNamed, methods_named_by, nothing_mentioned, with_new, with_mentions, mentions_after, number_in, class_line, record_lines, lines_of};
+ghost use Rattle.et_state.specs.Naming.{IsNamed, methods_named_by, nothing_mentioned, with_new, mentions_after, number_in, class_line, lines_of};
 ghost use Rattle.et_binary.specs.Formats.{written_in, lines_written_in};
-ghost use Rattle.et_loop.specs.Naming.{mentions_method, method_lines, HasClasses};
+ghost use Rattle.et_loop.specs.Naming.{mentions_method, method_lines, HasClasses, WritesRecord};
 
 use crate::mentioned::Mentioned;
 use crate::program::Program;
@@ -149,11 +149,8 @@ impl Numbering {
         requires named { IsNamed (P.names program.now) entry }
         requires method { length (methods_named_by entry) ≡ 1 }
         requires classes { HasClasses (P.names program.now) self.old }
-        ensures mentions { OnOk result
-            (self.new ≡ with_mentions (P.names program.now) self.old entry) }
-        ensures lines { OnOk result (buffer.new.items
-            ≡ buffer.old.items
-            ++ lines_written_in format (record_lines (P.names program.now) self.old entry)) }
+        ensures { OnOk result (WritesRecord (P.names program.now) format entry self.old self.new
+            buffer.old.items buffer.new.items) }
     {
         let line = match entry {
             Record::Enter {
@@ -203,11 +200,8 @@ impl Numbering {
     ) -> Result<(), NoMemory>
         requires named { IsNamed (P.names program.now) entry }
         requires classes { HasClasses (P.names program.now) self.old }
-        ensures mentions { OnOk result
-            (self.new ≡ with_mentions (P.names program.now) self.old entry) }
-        ensures lines { OnOk result (buffer.new.items
-            ≡ buffer.old.items
-            ++ lines_written_in format (record_lines (P.names program.now) self.old entry)) }
+        ensures { OnOk result (WritesRecord (P.names program.now) format entry self.old self.new
+            buffer.old.items buffer.new.items) }
     {
         let line = match entry {
             Record::Alloc {

@@ -1,14 +1,13 @@
 //! The whole run.
-ghost use Rattle.std.specs.Prelude.{◌≡◌, ℕ, Bool, ◌+◌, ◌≤◌, [], All, IfOk, OnErr};
+ghost use Rattle.std.specs.Prelude.{◌≡◌, ℕ, Bool, ◌≤◌, [], All, IfOk, OnErr};
 ghost use Rattle.et_io.specs.Faults.{is_write_fault};
 ghost use Rattle.et_graph.specs.Graph.{Graph, nothing_made, Decides};
 ghost use Rattle.et_state.specs.Naming.{IsNamed};
 ghost use Rattle.et_state.specs.Options.{AreOptions};
 ghost use Rattle.et_loop.specs.Options.{guest_setting};
-ghost use Rattle.et_loop.specs.Traced.{WritesTrace, WritesPrefix};
+ghost use Rattle.et_loop.specs.Ends.{IsOver, IsCutOff};
 ghost use Rattle.et_loop.specs.Kept.{IsStepTo};
-ghost use Rattle.et_loop.specs.Visits.{allowed_visits, IsCut};
-ghost use Rattle.et_loop.specs.Said.{Says, SaysPrefix, IsCutSaid, CountsWrite};
+ghost use Rattle.et_loop.specs.Said.{CountsWrite};
 
 use crate::guest::Guest;
 use crate::options::Ran;
@@ -59,32 +58,16 @@ pub fn run_guest<G: Guest + Drop, O: Sink, P: Sink, L: Ledger>(
     requires sound { G.is_sound program.now (G.state start.guest) }
     requires first { IsStepTo nothing_made (G.graph_of (G.state start.guest)) [] }
     requires named { All (IsNamed (G.Code.names program.now)) start.made }
-    ensures trace { (reached : Graph → ℕ → Bool) → Decides reached → IfOk result (λ ran.
-        WritesTrace reached (guest_setting G.Guest G.Code.Program program.now options.now)
-        (G.state start.guest) start.made ran (O.taken trace.old) (O.taken trace.new)) }
-    ensures prefix { (reached : Graph → ℕ → Bool) → Decides reached → OnErr result
-        (WritesPrefix reached (guest_setting G.Guest G.Code.Program program.now options.now)
-        (G.state start.guest) start.made (O.taken trace.old) (O.taken trace.new)) }
-    ensures visits { (reached : Graph → ℕ → Bool) →
-        Decides reached → IfOk result (λ ran. visits.new ≤ visits.old + allowed_visits reached
-        (guest_setting G.Guest G.Code.Program program.now options.now)
-        G.flush_visits_of (G.state start.guest) start.made ran.event) }
-    ensures cut { (reached : Graph → ℕ → Bool) → Decides reached → OnErr result (IsCut reached
-        (guest_setting G.Guest G.Code.Program program.now options.now)
-        G.flush_visits_of (G.state start.guest) start.made
-        (O.taken trace.old) (O.taken trace.new) visits.old visits.new) }
-    ensures said { (reached : Graph → ℕ → Bool) → Decides reached → IfOk result (λ ran.
-        Says reached (guest_setting G.Guest G.Code.Program program.now options.now)
-        (G.said_of program.now) (G.state start.guest) start.made
-        ran (P.taken printed.old) (P.taken printed.new)) }
-    ensures said_prefix { (reached : Graph → ℕ → Bool) → Decides reached → OnErr result
-        (SaysPrefix reached (guest_setting G.Guest G.Code.Program program.now options.now)
-        (G.said_of program.now) (G.state start.guest) start.made
-        (P.taken printed.old) (P.taken printed.new)) }
-    ensures said_cut { (reached : Graph → ℕ → Bool) → Decides reached → OnErr result
-        (IsCutSaid reached (guest_setting G.Guest G.Code.Program program.now options.now)
-        (G.said_of program.now) (G.state start.guest) start.made G.flush_visits_of
-        (P.taken printed.old) (P.taken printed.new) visits.old visits.new) }
+    ensures over { (reached : Graph → ℕ → Bool) → Decides reached → IfOk result (λ ran.
+        IsOver reached (guest_setting G.Guest G.Code.Program program.now options.now)
+        (G.said_of program.now) G.flush_visits_of (G.state start.guest) start.made
+        (O.taken trace.old) (O.taken trace.new) (P.taken printed.old) (P.taken printed.new)
+        visits.old visits.new ran) }
+    ensures cut_off { (reached : Graph → ℕ → Bool) → Decides reached → OnErr result
+        (IsCutOff reached (guest_setting G.Guest G.Code.Program program.now options.now)
+        (G.said_of program.now) G.flush_visits_of (G.state start.guest) start.made
+        (O.taken trace.old) (O.taken trace.new) (P.taken printed.old) (P.taken printed.new)
+        visits.old visits.new) }
     ensures write { CountsWrite (is_write_fault result)
         (O.faults trace.old) (O.faults trace.new) (P.faults printed.old) (P.faults printed.new) }
     ensures never_falls { O.faults trace.old ≤ O.faults trace.new }

@@ -9,6 +9,7 @@ ghost use Rattle.et_text.specs.Ranges.{header_version};
 ghost use Rattle.et_binary.specs.Formats.{lines_written_in};
 ghost use Rattle.et_loop.specs.Options.{guest_setting};
 ghost use Rattle.et_loop.specs.Naming.{HasClasses};
+ghost use Rattle.et_loop.specs.Going.{IsReady, MayFlush};
 ghost use Rattle.et_loop.specs.Pace.{IsNextFlush, IsRota};
 ghost use Rattle.et_loop.specs.Quiet.{IsStep, IsBrokenStep, IsTurn, IsBrokenTurn};
 ghost use Rattle.et_loop.specs.Run.{end_after};
@@ -130,17 +131,11 @@ fn step<G: Guest, L: Ledger>(
     visits: &mut Steps<L>,
 ) -> Result<Progress, NoMemory>
     requires options { AreOptions options.now }
-    requires limit { e ≤ options.now.limit }
-    requires clock { G.clock_of (G.state guest.old) ≡ e }
-    requires sound { G.is_sound program.now (G.state guest.old) }
+    requires ready { IsReady G.Guest G.Code.Program program.now options.now e (G.state guest.old)
+        tracer.old.stamps tracer.old.numbering tracer.old.format tracer.old.rota tracer.old.room }
     requires made { AreMade (G.graph_of (G.state guest.old)) }
-    requires stamps { HasStamps (G.graph_of (G.state guest.old)) tracer.old.stamps }
-    requires room { G.has_places tracer.old.room (G.graph_of (G.state guest.old)).made }
-    requires classes { HasClasses (G.Code.names program.now) tracer.old.numbering }
-    requires format { tracer.old.format ≡ options.now.format }
     requires due { due ≡ is_flush_point options.now.interval e }
     requires next_flush { IsNextFlush options.now.interval (e + 1) tracer.old.next_flush.event }
-    requires rota { IsRota options.now.schedule e tracer.old.rota }
     ensures step { IfOk result (λ progress. IsStep
         (guest_setting G.Guest G.Code.Program program.now options.now) (G.said_of program.now)
         e (G.state guest.old) tracer.old.stamps visits.old visits.new tracer.old.numbering
@@ -149,21 +144,16 @@ fn step<G: Guest, L: Ledger>(
     ensures broken { OnErr result (IsBrokenStep
         (guest_setting G.Guest G.Code.Program program.now options.now) (G.said_of program.now)
         e (G.state guest.old) tracer.old.stamps visits.old visits.new) }
-    ensures stamps { OnOk result (HasStamps (G.graph_of (G.state guest.new)) tracer.new.stamps) }
-    ensures room { OnOk result
-        (G.has_places tracer.new.room (G.graph_of (G.state guest.new)).made) }
-    ensures classes { OnOk result (HasClasses (G.Code.names program.now) tracer.new.numbering) }
+    ensures flush { OnOk result (MayFlush G.Guest program.now (G.state guest.new)
+        tracer.new.stamps tracer.new.room) }
     ensures format { OnOk result (tracer.new.format ≡ options.now.format) }
-    ensures sound { OnOk result (G.is_sound program.now (G.state guest.new)) }
     ensures within { IfOk result (λ progress. e + progress.quiet ≤ options.now.limit) }
-    ensures limit { IfOk result
-        (λ progress. IfNone progress.end (e + progress.quiet < options.now.limit)) }
-    ensures clock { IfOk result (λ progress. IfNone progress.end
-        (G.clock_of (G.state guest.new) ≡ e + progress.quiet + 1)) }
+    ensures ready { IfOk result (λ progress. IfNone progress.end
+        (IsReady G.Guest G.Code.Program program.now options.now (e + progress.quiet + 1)
+        (G.state guest.new) tracer.new.stamps tracer.new.numbering
+        tracer.new.format tracer.new.rota tracer.new.room)) }
     ensures next_flush { IfOk result (λ progress. IfNone progress.end
         (IsNextFlush options.now.interval (e + progress.quiet + 1) tracer.new.next_flush.event)) }
-    ensures rota { IfOk result (λ progress. IfNone progress.end
-        (IsRota options.now.schedule (e + progress.quiet + 1) tracer.new.rota)) }
 {
     tracer.output.clear();
     let count = guest.unended();
@@ -268,16 +258,10 @@ pub fn turn<G: Guest, O: Sink, L: Ledger>(
     visits: &mut Steps<L>,
 ) -> Result<Progress, RunFault>
     requires options { AreOptions options.now }
-    requires limit { e ≤ options.now.limit }
-    requires clock { G.clock_of (G.state guest.old) ≡ e }
-    requires sound { G.is_sound program.now (G.state guest.old) }
+    requires ready { IsReady G.Guest G.Code.Program program.now options.now e (G.state guest.old)
+        tracer.old.stamps tracer.old.numbering tracer.old.format tracer.old.rota tracer.old.room }
     requires made { AreMade (G.graph_of (G.state guest.old)) }
-    requires stamps { HasStamps (G.graph_of (G.state guest.old)) tracer.old.stamps }
-    requires room { G.has_places tracer.old.room (G.graph_of (G.state guest.old)).made }
-    requires classes { HasClasses (G.Code.names program.now) tracer.old.numbering }
-    requires format { tracer.old.format ≡ options.now.format }
     requires next_flush { IsNextFlush options.now.interval e tracer.old.next_flush.event }
-    requires rota { IsRota options.now.schedule e tracer.old.rota }
     ensures turn { IfOk result (λ progress. IsTurn
         (guest_setting G.Guest G.Code.Program program.now options.now) (G.said_of program.now)
         e (G.state guest.old) tracer.old.stamps visits.old visits.new G.flush_visits_of
@@ -290,25 +274,13 @@ pub fn turn<G: Guest, O: Sink, L: Ledger>(
         (O.taken sink.old) (O.taken sink.new) tracer.old.buffer.items) }
     ensures write { O.faults sink.new ≡ count_after (is_write_fault result) (O.faults sink.old) }
     ensures never_falls { O.faults sink.old ≤ O.faults sink.new }
-    ensures stamps { IfOk result (λ progress. IfNone progress.end
-        (HasStamps (G.graph_of (G.state guest.new)) tracer.new.stamps)) }
-    ensures room { IfOk result (λ progress. IfNone progress.end
-        (G.has_places tracer.new.room (G.graph_of (G.state guest.new)).made)) }
-    ensures classes { IfOk result (λ progress. IfNone progress.end
-        (HasClasses (G.Code.names program.now) tracer.new.numbering)) }
-    ensures format { IfOk result (λ progress. IfNone progress.end
-        (tracer.new.format ≡ options.now.format)) }
-    ensures sound { IfOk result (λ progress. IfNone progress.end
-        (G.is_sound program.now (G.state guest.new))) }
     ensures within { IfOk result (λ progress. e + progress.quiet ≤ options.now.limit) }
-    ensures limit { IfOk result
-        (λ progress. IfNone progress.end (e + progress.quiet < options.now.limit)) }
-    ensures clock { IfOk result (λ progress. IfNone progress.end
-        (G.clock_of (G.state guest.new) ≡ e + progress.quiet + 1)) }
+    ensures ready { IfOk result (λ progress. IfNone progress.end
+        (IsReady G.Guest G.Code.Program program.now options.now (e + progress.quiet + 1)
+        (G.state guest.new) tracer.new.stamps tracer.new.numbering
+        tracer.new.format tracer.new.rota tracer.new.room)) }
     ensures next_flush { IfOk result (λ progress. IfNone progress.end
         (IsNextFlush options.now.interval (e + progress.quiet + 1) tracer.new.next_flush.event)) }
-    ensures rota { IfOk result (λ progress. IfNone progress.end
-        (IsRota options.now.schedule (e + progress.quiet + 1) tracer.new.rota)) }
 {
     let due = tracer.next_flush.pass(options.interval, e);
     settle(program, due, e, guest, tracer, sink, visits)?;

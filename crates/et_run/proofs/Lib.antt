@@ -8,7 +8,6 @@ mod LiftedLoop
 mod Soundly
 mod QuietFrames
 mod Starting
-mod Running
 mod Stretching
 mod TextTurns
 mod Waiting

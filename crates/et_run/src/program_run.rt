@@ -1,18 +1,14 @@
 //! The run of a linked program.
-ghost use Rattle.std.specs.Prelude.{◌≡◌, ℕ, Bool, ◌+◌, ◌≤◌, IfOk, OnErr};
-ghost use Rattle.et_event.specs.Sound.{IsSoundFor};
+ghost use Rattle.std.specs.Prelude.{◌≡◌, ℕ, Bool, ◌≤◌, IfOk, OnErr};
 ghost use Rattle.et_state.specs.Start.{start};
 ghost use Rattle.et_event.specs.Start.{start_records};
 ghost use Rattle.et_graph.specs.Graph.{Graph, Decides};
-ghost use Rattle.et_history.specs.Settings.{flush_visits_of, said_by, setting};
+ghost use Rattle.et_history.specs.Settings.{said_by};
 ghost use Rattle.et_history.specs.Whole.{whole_setting, whole_start, whole_visits_of, whole_said};
 ghost use Rattle.et_io.specs.Faults.{is_write_fault};
-ghost use Rattle.et_loop.specs.Visits.{allowed_visits, IsCut};
-ghost use Rattle.et_loop.specs.Said.{Says, SaysPrefix, IsCutSaid, CountsWrite};
-ghost use Rattle.et_program.specs.Tables.{IsTabled};
-ghost use Rattle.et_loop.specs.Traced.{WritesTrace, WritesPrefix};
+ghost use Rattle.et_loop.specs.Ends.{IsOver, IsCutOff};
+ghost use Rattle.et_loop.specs.Said.{CountsWrite};
 ghost use Rattle.et_state.specs.Options.{AreOptions};
-ghost use Rattle.et_event.specs.Runnable.{IsRunnable};
 ghost use Rattle.et_run.specs.WithTexts.{state_of};
 
 use crate::first::start_lines;
@@ -42,62 +38,6 @@ fn first<'a>(alloc: Global, program: &'a Program) -> Result<Started<ProgramGuest
     Ok(Started { guest, made })
 }
 
-/// The run of a machine that is in the first state of the program, with the records of that. Its history is over what the
-/// machine keeps.
-fn run_from<'a, O: Sink, P: Sink, L: Ledger>(
-    alloc: Global,
-    program: &'a Program,
-    options: &Options,
-    first: Started<ProgramGuest<'a>>,
-    trace: &mut O,
-    printed: &mut P,
-    visits: &mut Steps<L>,
-) -> Result<Ran, RunFault>
-    requires options { AreOptions options.now }
-    requires runnable { IsRunnable program.now }
-    requires sound { IsSoundFor program.now (start program.now) }
-    requires tabled { IsTabled program.now }
-    requires state { state_of first.guest ≡ start program.now }
-    requires records { first.made ≡ start_records program.now }
-    ensures trace { (reached : Graph → ℕ → Bool) →
-        Decides reached → IfOk result (λ ran. WritesTrace reached (setting program.now options.now)
-        (start program.now) (start_records program.now)
-        ran (O.taken trace.old) (O.taken trace.new)) }
-    ensures prefix { (reached : Graph → ℕ → Bool) →
-        Decides reached → OnErr result (WritesPrefix reached (setting program.now options.now)
-        (start program.now) (start_records program.now) (O.taken trace.old) (O.taken trace.new)) }
-    ensures visits { (reached : Graph → ℕ → Bool) →
-        Decides reached → IfOk result (λ ran. visits.new ≤ visits.old + allowed_visits reached
-        (setting program.now options.now) flush_visits_of
-        (start program.now) (start_records program.now) ran.event) }
-    ensures cut { (reached : Graph → ℕ → Bool) → Decides reached → OnErr result
-        (IsCut reached (setting program.now options.now) flush_visits_of
-        (start program.now) (start_records program.now)
-        (O.taken trace.old) (O.taken trace.new) visits.old visits.new) }
-    ensures said { (reached : Graph → ℕ → Bool) → Decides reached → IfOk result (λ ran.
-        Says reached (setting program.now options.now) (said_by program.now)
-        (start program.now) (start_records program.now)
-        ran (P.taken printed.old) (P.taken printed.new)) }
-    ensures said_prefix { (reached : Graph → ℕ → Bool) → Decides reached → OnErr result
-        (SaysPrefix reached (setting program.now options.now) (said_by program.now)
-        (start program.now) (start_records program.now)
-        (P.taken printed.old) (P.taken printed.new)) }
-    ensures said_cut { (reached : Graph → ℕ → Bool) → Decides reached → OnErr result
-        (IsCutSaid reached (setting program.now options.now) (said_by program.now)
-        (start program.now) (start_records program.now) flush_visits_of
-        (P.taken printed.old) (P.taken printed.new) visits.old visits.new) }
-    ensures write { CountsWrite (is_write_fault result)
-        (O.faults trace.old) (O.faults trace.new) (P.faults printed.old) (P.faults printed.new) }
-    ensures never_falls { O.faults trace.old ≤ O.faults trace.new }
-    ensures printed_never_falls { P.faults printed.old ≤ P.faults printed.new }
-{
-    // Laws: they tell the prover, and do nothing.
-    program.is_linked();
-    linked_programs_run_soundly();
-    let named = NamedProgram::of(program);
-    run_guest(alloc, &named, options, first, trace, printed, visits)
-}
-
 /// Runs a linked program from its first state, and writes the trace of its history to the one sink, and what its events print to
 /// the other. That history frees nothing, but the machine keeps only what was not reported. It has a stamp for each object,
 /// and searches nothing but at a flush: the visits of objects are at most those of the history's flushes, eight for each event,
@@ -115,35 +55,16 @@ pub fn run<O: Sink, P: Sink, L: Ledger>(
     visits: &mut Steps<L>,
 ) -> Result<Ran, RunFault>
     requires options { AreOptions options.now }
-    ensures trace { (reached : Graph → ℕ → Bool) → Decides reached → IfOk result
-        (λ ran. WritesTrace reached (whole_setting program.now options.now)
-        (whole_start program.now) (start_records program.now)
-        ran (O.taken trace.old) (O.taken trace.new)) }
-    ensures prefix { (reached : Graph → ℕ → Bool) → Decides reached → OnErr result
-        (WritesPrefix reached (whole_setting program.now options.now)
-        (whole_start program.now) (start_records program.now)
-        (O.taken trace.old) (O.taken trace.new)) }
-    ensures visits { (reached : Graph → ℕ → Bool) → Decides reached → IfOk result
-        (λ ran. visits.new ≤ visits.old + allowed_visits reached
-        (whole_setting program.now options.now) whole_visits_of
-        (whole_start program.now) (start_records program.now) ran.event) }
-    ensures cut { (reached : Graph → ℕ → Bool) → Decides reached → OnErr result
-        (IsCut reached (whole_setting program.now options.now) whole_visits_of
-        (whole_start program.now) (start_records program.now)
-        (O.taken trace.old) (O.taken trace.new) visits.old visits.new) }
-    ensures said { (reached : Graph → ℕ → Bool) → Decides reached → IfOk result (λ ran.
-        Says reached (whole_setting program.now options.now) (whole_said (said_by program.now))
-        (whole_start program.now) (start_records program.now)
-        ran (P.taken printed.old) (P.taken printed.new)) }
-    ensures said_prefix { (reached : Graph → ℕ → Bool) → Decides reached → OnErr result
-        (SaysPrefix reached (whole_setting program.now options.now)
-        (whole_said (said_by program.now)) (whole_start program.now) (start_records program.now)
-        (P.taken printed.old) (P.taken printed.new)) }
-    ensures said_cut { (reached : Graph → ℕ → Bool) → Decides reached → OnErr result
-        (IsCutSaid reached (whole_setting program.now options.now)
-        (whole_said (said_by program.now)) (whole_start program.now)
-        (start_records program.now) whole_visits_of
-        (P.taken printed.old) (P.taken printed.new) visits.old visits.new) }
+    ensures over { (reached : Graph → ℕ → Bool) → Decides reached → IfOk result (λ ran.
+        IsOver reached (whole_setting program.now options.now) (whole_said (said_by program.now))
+        whole_visits_of (whole_start program.now) (start_records program.now)
+        (O.taken trace.old) (O.taken trace.new) (P.taken printed.old) (P.taken printed.new)
+        visits.old visits.new ran) }
+    ensures cut_off { (reached : Graph → ℕ → Bool) → Decides reached → OnErr result
+        (IsCutOff reached (whole_setting program.now options.now) (whole_said (said_by program.now))
+        whole_visits_of (whole_start program.now) (start_records program.now)
+        (O.taken trace.old) (O.taken trace.new) (P.taken printed.old) (P.taken printed.new)
+        visits.old visits.new) }
     ensures write { CountsWrite (is_write_fault result)
         (O.faults trace.old) (O.faults trace.new) (P.faults printed.old) (P.faults printed.new) }
     ensures never_falls { O.faults trace.old ≤ O.faults trace.new }
@@ -154,8 +75,9 @@ pub fn run<O: Sink, P: Sink, L: Ledger>(
     linked_programs_run_soundly();
     traces_are_the_same();
     histories_say_the_same();
-    match first(alloc, program) {
-        Ok(first) => run_from(alloc, program, options, first, trace, printed, visits),
-        Err(_) => Err(RunFault::NoMemory),
-    }
+    let Ok(first) = first(alloc, program) else {
+        return Err(RunFault::NoMemory);
+    };
+    let named = NamedProgram::of(program);
+    run_guest(alloc, &named, options, first, trace, printed, visits)
 }

@@ -1,51 +1,23 @@
-use Rattle.std.proofs.Common.{◌≡◌, ℕ, ◌+◌, ◌<◌, refl, ◌∙◌, sym, subst, inl, inr, arith, rules}
+use Rattle.std.proofs.Common.{◌≡◌, ℕ, refl, ◌∙◌, sym, subst, inl, inr, arith, rules}
 use Rattle.et_io.specs.Faults.{count_after, is_write_fault}
 use Rattle.et_graph.proofs.Walks.{is_reached, is_reached_decides}
-use Rattle.et_loop.proofs.RunLemmas.{at_none, front_start, front_nothing, on_any}
+use Rattle.et_loop.proofs.RunLemmas.{at_none, front_start, on_any}
 use Rattle.et_loop.proofs.Quiets.{told_there}
 use Rattle.et_loop.proofs.Standing.{stands_first}
-use Rattle.et_loop.proofs.Talking.{say_nothing}
-use Rattle.et_loop.proofs.Going.{broken_off, cut_in_lines, cut_in_print, run_over, run_goes}
+use Rattle.et_loop.proofs.Going.{broken_off, cut_at_start, cut_in_lines, cut_in_print, nothing_done, run_over, run_goes}
 use Rattle.et_loop.proofs.run.run_guest.Goals as goal
 
 -- NOTHING WAS PUT BUT A PREFIX OF THE FIRST LINES
 
-pub returns-in-Err-clause-prefix : goal.returns-in-Err-clause-prefix
-returns-in-Err-clause-prefix g c reached decides = front_nothing reached _ _ _ _
+pub returns-in-Err-clause-cut_off : goal.returns-in-Err-clause-cut_off
+returns-in-Err-clause-cut_off g c reached decides = nothing_done
 
-pub returns-in-Err-clause-cut : goal.returns-in-Err-clause-cut
-returns-in-Err-clause-cut g c reached decides = inl refl
+pub returns-in-Err-begin-clause-cut_off : goal.returns-in-Err-begin-clause-cut_off
+returns-in-Err-begin-clause-cut_off g c reached decides = nothing_done
 
-pub returns-in-Err-clause-said_prefix : goal.returns-in-Err-clause-said_prefix
-returns-in-Err-clause-said_prefix g c reached decides = say_nothing reached _ _ _ _ _
-
-pub returns-in-Err-clause-said_cut : goal.returns-in-Err-clause-said_cut
-returns-in-Err-clause-said_cut g c reached decides = inl (refl, refl)
-
-pub returns-in-Err-begin-clause-prefix : goal.returns-in-Err-begin-clause-prefix
-returns-in-Err-begin-clause-prefix g c reached decides = front_nothing reached _ _ _ _
-
-pub returns-in-Err-begin-clause-cut : goal.returns-in-Err-begin-clause-cut
-returns-in-Err-begin-clause-cut g c reached decides = inl refl
-
-pub returns-in-Err-begin-clause-said_prefix : goal.returns-in-Err-begin-clause-said_prefix
-returns-in-Err-begin-clause-said_prefix g c reached decides = say_nothing reached _ _ _ _ _
-
-pub returns-in-Err-begin-clause-said_cut : goal.returns-in-Err-begin-clause-said_cut
-returns-in-Err-begin-clause-said_cut g c reached decides = inl (refl, refl)
-
-pub returns-in_err-put_all-clause-prefix : goal.returns-in_err-put_all-clause-prefix
-returns-in_err-put_all-clause-prefix g c reached decides =
-    on_any c.from_residual.result (front_start reached _ _ _ _ _ _ (c.deref.ensures.value ∙ c.in-Ok-begin.ensures.lines) c.in_err-put_all.ensures.err)
-
-pub returns-in_err-put_all-clause-cut : goal.returns-in_err-put_all-clause-cut
-returns-in_err-put_all-clause-cut g c reached decides = on_any c.from_residual.result (inl refl)
-
-pub returns-in_err-put_all-clause-said_prefix : goal.returns-in_err-put_all-clause-said_prefix
-returns-in_err-put_all-clause-said_prefix g c reached decides = on_any c.from_residual.result (say_nothing reached _ _ _ _ _)
-
-pub returns-in_err-put_all-clause-said_cut : goal.returns-in_err-put_all-clause-said_cut
-returns-in_err-put_all-clause-said_cut g c reached decides = on_any c.from_residual.result (inl (refl, refl))
+pub returns-in_err-put_all-clause-cut_off : goal.returns-in_err-put_all-clause-cut_off
+returns-in_err-put_all-clause-cut_off g c reached decides =
+    on_any c.from_residual.result (cut_at_start (front_start reached _ _ _ _ _ _ (c.deref.ensures.value ∙ c.in-Ok-begin.ensures.lines) c.in_err-put_all.ensures.err))
 
 -- THE LOOP
 
@@ -55,18 +27,19 @@ events-init g c =
     let made : (G.graph_of (G.state c.args.start.guest)).made ≡ c.made-objects.result = sym c.made-objects.ensures in
     record {
       stands = λ reached decides. stands_first c.requires.first c.in-Ok-begin.ensures.mentions (c.deref.ensures.value ∙ c.in-Ok-begin.ensures.lines) c.in_ok-put_all.ensures.ok c.in-Ok-begin.ensures.stamps;
-      stamps = record {
-        few = omega (arith, made);
-        places = omega (arith, made, c.in-Ok-begin.ensures.places);
+      ready = record {
+        flush = record {
+          sound = c.requires.sound;
+          stamps = record { few = omega (arith, made); places = omega (arith, made, c.in-Ok-begin.ensures.places) };
+          room = subst (λ x. G.has_places x (G.graph_of (G.state c.args.start.guest)).made) (sym c.in-Ok-begin.ensures.room) (subst (λ (n : ℕ). G.has_places c.in-Ok.room n) c.made-objects.ensures c.in-Ok.ensures);
+        };
+        limit = search rules;
+        clock = c.requires.clock;
+        classes = c.in-Ok-begin.ensures.classes;
+        format = c.in-Ok-begin.ensures.format;
+        rota = c.in-Ok-begin.ensures.rota;
       };
-      room = subst (λ x. G.has_places x (G.graph_of (G.state c.args.start.guest)).made) (sym c.in-Ok-begin.ensures.room) (subst (λ (n : ℕ). G.has_places c.in-Ok.room n) c.made-objects.ensures c.in-Ok.ensures);
-      classes = c.in-Ok-begin.ensures.classes;
-      format = c.in-Ok-begin.ensures.format;
       next_flush = c.in-Ok-begin.ensures.next_flush;
-      rota = c.in-Ok-begin.ensures.rota;
-      limit = search rules;
-      clock = c.requires.clock;
-      sound = c.requires.sound;
       faults = c.in_ok-put_all.ensures.write;
       printed_faults = refl;
     }
@@ -78,39 +51,19 @@ pub events-preserved : goal.events-preserved
 events-preserved g c =
     let end = c.in_ok-progress.progress.end in
     let turn = c.in_ok-progress.ensures in
-    let limit : c.events.e + c.in_ok-progress.progress.quiet < c.args.options.now.limit = at_none end c.in-None.is turn.limit in
     record {
       stands = λ reached decides. run_goes (c.events.invariant.stands reached decides) c.clear.ensures.items turn.turn c.deref-in-events.ensures.value c.in_ok-put_all-2.ensures.ok c.deref-in-events-2.ensures.value c.in_ok-put_all-3.ensures.ok c.in-None.is;
-      stamps = at_none end c.in-None.is turn.stamps;
-      room = at_none end c.in-None.is turn.room;
-      classes = at_none end c.in-None.is turn.classes;
-      format = at_none end c.in-None.is turn.format;
+      ready = at_none end c.in-None.is turn.ready;
       next_flush = at_none end c.in-None.is turn.next_flush;
-      rota = at_none end c.in-None.is turn.rota;
-      limit = omega arith;
-      clock = at_none end c.in-None.is turn.clock;
-      sound = at_none end c.in-None.is turn.sound;
       faults = c.in_ok-put_all-2.ensures.write ∙ (turn.write ∙ c.events.invariant.faults);
       printed_faults = c.in_ok-put_all-3.ensures.write ∙ c.events.invariant.printed_faults;
     }
 
 -- THE TURN WAS BROKEN OFF
 
-pub returns-in_err-progress-clause-prefix : goal.returns-in_err-progress-clause-prefix
-returns-in_err-progress-clause-prefix g c reached decides =
-    on_any c.from_residual-in_err-progress.result (broken_off (c.events.invariant.stands reached decides) c.clear.ensures.items c.in_err-progress.ensures.broken).prefix
-
-pub returns-in_err-progress-clause-cut : goal.returns-in_err-progress-clause-cut
-returns-in_err-progress-clause-cut g c reached decides =
-    on_any c.from_residual-in_err-progress.result (broken_off (c.events.invariant.stands reached decides) c.clear.ensures.items c.in_err-progress.ensures.broken).cut
-
-pub returns-in_err-progress-clause-said_prefix : goal.returns-in_err-progress-clause-said_prefix
-returns-in_err-progress-clause-said_prefix g c reached decides =
-    on_any c.from_residual-in_err-progress.result (broken_off (c.events.invariant.stands reached decides) c.clear.ensures.items c.in_err-progress.ensures.broken).said_prefix
-
-pub returns-in_err-progress-clause-said_cut : goal.returns-in_err-progress-clause-said_cut
-returns-in_err-progress-clause-said_cut g c reached decides =
-    on_any c.from_residual-in_err-progress.result (broken_off (c.events.invariant.stands reached decides) c.clear.ensures.items c.in_err-progress.ensures.broken).said_cut
+pub returns-in_err-progress-clause-cut_off : goal.returns-in_err-progress-clause-cut_off
+returns-in_err-progress-clause-cut_off g c reached decides =
+    on_any c.from_residual-in_err-progress.result (broken_off (c.events.invariant.stands reached decides) c.clear.ensures.items c.in_err-progress.ensures.broken)
 
 pub returns-in_err-progress-clause-write : goal.returns-in_err-progress-clause-write
 returns-in_err-progress-clause-write g c =
@@ -122,21 +75,9 @@ returns-in_err-progress-clause-printed_never_falls g c = omega (arith, c.events.
 
 -- A PUT OF ITS LINES FAILED
 
-pub returns-in_err-put_all-2-clause-prefix : goal.returns-in_err-put_all-2-clause-prefix
-returns-in_err-put_all-2-clause-prefix g c reached decides =
-    on_any c.from_residual-in_err-put_all-2.result (cut_in_lines (c.events.invariant.stands reached decides) c.clear.ensures.items c.in_ok-progress.ensures.turn c.deref-in-events.ensures.value c.in_err-put_all-2.ensures.err).prefix
-
-pub returns-in_err-put_all-2-clause-cut : goal.returns-in_err-put_all-2-clause-cut
-returns-in_err-put_all-2-clause-cut g c reached decides =
-    on_any c.from_residual-in_err-put_all-2.result (cut_in_lines (c.events.invariant.stands reached decides) c.clear.ensures.items c.in_ok-progress.ensures.turn c.deref-in-events.ensures.value c.in_err-put_all-2.ensures.err).cut
-
-pub returns-in_err-put_all-2-clause-said_prefix : goal.returns-in_err-put_all-2-clause-said_prefix
-returns-in_err-put_all-2-clause-said_prefix g c reached decides =
-    on_any c.from_residual-in_err-put_all-2.result (cut_in_lines (c.events.invariant.stands reached decides) c.clear.ensures.items c.in_ok-progress.ensures.turn c.deref-in-events.ensures.value c.in_err-put_all-2.ensures.err).said_prefix
-
-pub returns-in_err-put_all-2-clause-said_cut : goal.returns-in_err-put_all-2-clause-said_cut
-returns-in_err-put_all-2-clause-said_cut g c reached decides =
-    on_any c.from_residual-in_err-put_all-2.result (cut_in_lines (c.events.invariant.stands reached decides) c.clear.ensures.items c.in_ok-progress.ensures.turn c.deref-in-events.ensures.value c.in_err-put_all-2.ensures.err).said_cut
+pub returns-in_err-put_all-2-clause-cut_off : goal.returns-in_err-put_all-2-clause-cut_off
+returns-in_err-put_all-2-clause-cut_off g c reached decides =
+    on_any c.from_residual-in_err-put_all-2.result (cut_in_lines (c.events.invariant.stands reached decides) c.clear.ensures.items c.in_ok-progress.ensures.turn c.deref-in-events.ensures.value c.in_err-put_all-2.ensures.err)
 
 pub returns-in_err-put_all-2-clause-write : goal.returns-in_err-put_all-2-clause-write
 returns-in_err-put_all-2-clause-write g c =
@@ -150,25 +91,10 @@ returns-in_err-put_all-2-clause-printed_never_falls g c = omega (arith, c.events
 
 -- .. or a put of what it prints
 
-pub returns-in_err-put_all-3-clause-prefix : goal.returns-in_err-put_all-3-clause-prefix
-returns-in_err-put_all-3-clause-prefix g c reached decides =
+pub returns-in_err-put_all-3-clause-cut_off : goal.returns-in_err-put_all-3-clause-cut_off
+returns-in_err-put_all-3-clause-cut_off g c reached decides =
     on_any c.from_residual-in_err-put_all-3.result
-    (cut_in_print (c.events.invariant.stands reached decides) c.clear.ensures.items c.in_ok-progress.ensures.turn c.deref-in-events.ensures.value c.in_ok-put_all-2.ensures.ok c.deref-in-events-2.ensures.value c.in_err-put_all-3.ensures.err).prefix
-
-pub returns-in_err-put_all-3-clause-cut : goal.returns-in_err-put_all-3-clause-cut
-returns-in_err-put_all-3-clause-cut g c reached decides =
-    on_any c.from_residual-in_err-put_all-3.result
-    (cut_in_print (c.events.invariant.stands reached decides) c.clear.ensures.items c.in_ok-progress.ensures.turn c.deref-in-events.ensures.value c.in_ok-put_all-2.ensures.ok c.deref-in-events-2.ensures.value c.in_err-put_all-3.ensures.err).cut
-
-pub returns-in_err-put_all-3-clause-said_prefix : goal.returns-in_err-put_all-3-clause-said_prefix
-returns-in_err-put_all-3-clause-said_prefix g c reached decides =
-    on_any c.from_residual-in_err-put_all-3.result
-    (cut_in_print (c.events.invariant.stands reached decides) c.clear.ensures.items c.in_ok-progress.ensures.turn c.deref-in-events.ensures.value c.in_ok-put_all-2.ensures.ok c.deref-in-events-2.ensures.value c.in_err-put_all-3.ensures.err).said_prefix
-
-pub returns-in_err-put_all-3-clause-said_cut : goal.returns-in_err-put_all-3-clause-said_cut
-returns-in_err-put_all-3-clause-said_cut g c reached decides =
-    on_any c.from_residual-in_err-put_all-3.result
-    (cut_in_print (c.events.invariant.stands reached decides) c.clear.ensures.items c.in_ok-progress.ensures.turn c.deref-in-events.ensures.value c.in_ok-put_all-2.ensures.ok c.deref-in-events-2.ensures.value c.in_err-put_all-3.ensures.err).said_cut
+    (cut_in_print (c.events.invariant.stands reached decides) c.clear.ensures.items c.in_ok-progress.ensures.turn c.deref-in-events.ensures.value c.in_ok-put_all-2.ensures.ok c.deref-in-events-2.ensures.value c.in_err-put_all-3.ensures.err)
 
 pub returns-in_err-put_all-3-clause-write : goal.returns-in_err-put_all-3-clause-write
 returns-in_err-put_all-3-clause-write g c =
@@ -180,17 +106,9 @@ returns-in_err-put_all-3-clause-printed_never_falls g c = omega (arith, c.events
 
 -- THE RUN IS OVER
 
-pub returns-in-Some-clause-trace : goal.returns-in-Some-clause-trace
-returns-in-Some-clause-trace g c reached decides =
-    (run_over (c.events.invariant.stands reached decides) c.clear.ensures.items c.in_ok-progress.ensures.turn c.deref-in-events.ensures.value c.in_ok-put_all-2.ensures.ok c.deref-in-events-2.ensures.value c.in_ok-put_all-3.ensures.ok c.in-Some.is).trace
-
-pub returns-in-Some-clause-visits : goal.returns-in-Some-clause-visits
-returns-in-Some-clause-visits g c reached decides =
-    (run_over (c.events.invariant.stands reached decides) c.clear.ensures.items c.in_ok-progress.ensures.turn c.deref-in-events.ensures.value c.in_ok-put_all-2.ensures.ok c.deref-in-events-2.ensures.value c.in_ok-put_all-3.ensures.ok c.in-Some.is).allowed
-
-pub returns-in-Some-clause-said : goal.returns-in-Some-clause-said
-returns-in-Some-clause-said g c reached decides =
-    (run_over (c.events.invariant.stands reached decides) c.clear.ensures.items c.in_ok-progress.ensures.turn c.deref-in-events.ensures.value c.in_ok-put_all-2.ensures.ok c.deref-in-events-2.ensures.value c.in_ok-put_all-3.ensures.ok c.in-Some.is).says
+pub returns-in-Some-clause-over : goal.returns-in-Some-clause-over
+returns-in-Some-clause-over g c reached decides =
+    run_over (c.events.invariant.stands reached decides) c.clear.ensures.items c.in_ok-progress.ensures.turn c.deref-in-events.ensures.value c.in_ok-put_all-2.ensures.ok c.deref-in-events-2.ensures.value c.in_ok-put_all-3.ensures.ok c.in-Some.is
 
 pub returns-in-Some-clause-write : goal.returns-in-Some-clause-write
 returns-in-Some-clause-write g c =

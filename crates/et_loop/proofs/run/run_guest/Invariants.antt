@@ -1,9 +1,8 @@
-use Rattle.std.proofs.Common.{◌≡◌, ℕ, Bool, ◌+◌, ◌-◌, ◌≤◌}
+use Rattle.std.proofs.Common.{◌≡◌, ℕ, Bool, ◌+◌, ◌-◌}
 use Rattle.et_graph.specs.Graph.{Graph, Decides}
 use Rattle.et_loop.specs.Options.{guest_setting}
-use Rattle.et_loop.specs.Naming.{HasClasses}
-use Rattle.et_loop.specs.Stamping.{HasStamps}
-use Rattle.et_loop.specs.Pace.{IsNextFlush, IsRota}
+use Rattle.et_loop.specs.Going.{IsReady}
+use Rattle.et_loop.specs.Pace.{IsNextFlush}
 use Rattle.et_loop.proofs.Standing.{Stands}
 use Rattle.et_loop.proofs.run.run_guest.Given as goal
 
@@ -14,15 +13,8 @@ invariant-events g l =
       stands : (reached : Graph → ℕ → Bool) → (decides : Decides reached)
           → Stands reached decides (guest_setting G g.G.Code.Program l.program l.options) (G.said_of l.program) G.flush_visits_of (G.state l.fn.start.guest) l.fn.start.made l.tracer.numbering
           (g.O.Sink.taken l.fn.trace) (g.O.Sink.taken l.trace) (g.P.Sink.taken l.fn.printed) (g.P.Sink.taken l.printed) l.fn.visits l.e (G.state l.guest) l.tracer.stamps l.visits;
-      stamps : HasStamps (G.graph_of (G.state l.guest)) l.tracer.stamps;
-      room : G.has_places l.tracer.room (G.graph_of (G.state l.guest)).made;
-      classes : HasClasses (g.G.Code.Program.names l.program) l.tracer.numbering;
-      format : l.tracer.format ≡ l.options.format;
+      ready : IsReady G g.G.Code.Program l.program l.options l.e (G.state l.guest) l.tracer.stamps l.tracer.numbering l.tracer.format l.tracer.rota l.tracer.room;
       next_flush : IsNextFlush l.options.interval l.e l.tracer.next_flush.event;
-      rota : IsRota l.options.schedule l.e l.tracer.rota;
-      limit : l.e ≤ l.options.limit;
-      clock : G.clock_of (G.state l.guest) ≡ l.e;
-      sound : G.is_sound l.program (G.state l.guest);
       faults : g.O.Sink.faults l.trace ≡ g.O.Sink.faults l.fn.trace;
       printed_faults : g.P.Sink.faults l.printed ≡ g.P.Sink.faults l.fn.printed;
     }

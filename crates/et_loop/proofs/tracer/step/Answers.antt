@@ -1,5 +1,6 @@
 use Rattle.std.proofs.Common.{ℕ, ◌+◌, None, refl, sym, ◌∙◌, ap, subst, arith}
 use Rattle.std.specs.Prelude.{slice_index}
+use Rattle.et_loop.specs.Going.{MayFlush}
 use Rattle.et_loop.specs.Options.{guest_setting}
 use Rattle.et_loop.specs.Pace.{IsNextFlush, IsRota}
 use Rattle.et_loop.specs.Quiet.{IsStretch, IsBrokenOff, IsStep}
@@ -12,7 +13,7 @@ use Rattle.et_loop.proofs.Quiets.{ending_finished, ending_limit, step_over, tick
 use Rattle.et_loop.proofs.RunLemmas.{on_any}
 use Rattle.et_loop.proofs.Stretches.{IsSliced, stretch_kept, as_long, broken_step, stretch_stops, stretch_goes, stretch_lost, stretch_grows, not_native}
 use Rattle.et_loop.proofs.tracer.step.Given.{Over}
-use Rattle.et_loop.proofs.tracer.step.Goals.{After-events, In_ok-stretch}
+use Rattle.et_loop.proofs.tracer.step.Goals.{After-events, In_ok-stretch, In_ok-tell-in-None}
 use Rattle.et_loop.proofs.tracer.step.Goals as goal
 
 -- the history ends before any event
@@ -31,7 +32,7 @@ returns-then-e-options-clause-step g c =
 
 -- THE EVENTS OF A SLICE
 pub events-requires-clause-clock : goal.events-requires-clause-clock
-events-requires-clause-clock g c = omega (arith, c.requires.clock, c.next_slice-slice.ensures.slice.limit, c.requires.options.limit)
+events-requires-clause-clock g c = omega (arith, c.requires.ready.clock, c.next_slice-slice.ensures.slice.limit, c.requires.options.limit)
 
 -- the slice is one of threads that have not ended
 sliced : (g : Over) (c : After-events g) → IsSliced (g.G.Guest.event_of c.args.program.now) g.G.Guest.unended_of g.G.Guest.graph_of g.G.Guest.flushed_of (g.G.Code.Program.names c.args.program.now) c.args.options.now c.args.e c.unended-count.result c.next_slice-slice.result (g.G.Guest.state c.args.guest.now)
@@ -44,14 +45,14 @@ done : (g : Over) (c : In_ok-stretch g)
 done g c =
     let G = g.G.Guest in
     subst (λ (n : ℕ). IsStretch (G.event_of c.args.program.now) (G.said_of c.args.program.now) G.unended_of G.graph_of c.next_slice-slice.result.place c.next_slice-slice.result.events n (G.state c.args.guest.now) c.args.tracer.now.stamps c.events.new.stamps c.args.visits.now c.events.new.visits (G.state c.events.new.self)
-    c.events.new.out.records c.events.new.out.said.items (G.lost_of c.events.new.self) c.in_ok-stretch.stretch) c.requires.clock c.in_ok-stretch.ensures.stretch
+    c.events.new.out.records c.events.new.out.said.items (G.lost_of c.events.new.self) c.in_ok-stretch.stretch) c.requires.ready.clock c.in_ok-stretch.ensures.stretch
 
 pub returns-in_err-stretch-clause-broken : goal.returns-in_err-stretch-clause-broken
 returns-in_err-stretch-clause-broken g c =
     let G = g.G.Guest in
     on_any c.from_residual.result
     (broken_step (sliced g (goal.at.returns-in_err-stretch-clause-broken g c).After-events)
-    (subst (λ (n : ℕ). IsBrokenOff (G.event_of c.args.program.now) (G.said_of c.args.program.now) G.unended_of G.graph_of c.next_slice-slice.result.place c.next_slice-slice.result.events n (G.state c.args.guest.now) c.args.tracer.now.stamps c.events.new.stamps c.args.visits.now c.events.new.visits) c.requires.clock c.in_err-stretch.ensures.broken))
+    (subst (λ (n : ℕ). IsBrokenOff (G.event_of c.args.program.now) (G.said_of c.args.program.now) G.unended_of G.graph_of c.next_slice-slice.result.place c.next_slice-slice.result.events n (G.state c.args.guest.now) c.args.tracer.now.stamps c.events.new.stamps c.args.visits.now c.events.new.visits) c.requires.ready.clock c.in_err-stretch.ensures.broken))
 
 pub end_after-requires : goal.end_after-requires
 end_after-requires g c = not_native (sliced g (goal.at.end_after-requires g c).After-events) (done g (goal.at.end_after-requires g c).In_ok-stretch)
@@ -75,10 +76,10 @@ pub tell-requires-clause-stamps : goal.tell-requires-clause-stamps
 tell-requires-clause-stamps g c =
     let at = goal.at.tell-requires-clause-stamps g c in
     let long = as_long (sliced g at.After-events) (done g at.In_ok-stretch) in
-    omega (arith, long, c.requires.stamps.places, c.made-before.ensures)
+    omega (arith, long, c.requires.ready.flush.stamps.places, c.made-before.ensures)
 
 pub tell-requires-clause-room : goal.tell-requires-clause-room
-tell-requires-clause-room g c = subst (λ (n : ℕ). g.G.Guest.has_places c.args.tracer.now.room n) (sym c.made-before.ensures) c.requires.room
+tell-requires-clause-room g c = subst (λ (n : ℕ). g.G.Guest.has_places c.args.tracer.now.room n) (sym c.made-before.ensures) c.requires.ready.flush.room
 
 pub returns-in_err-tell-in-None-clause-broken : goal.returns-in_err-tell-in-None-clause-broken
 returns-in_err-tell-in-None-clause-broken g c =
@@ -102,16 +103,28 @@ returns-in_ok-tell-in-None-clause-within g c = omega (arith, c.in_ok-stretch.ens
 pub returns-in-Some-clause-within : goal.returns-in-Some-clause-within
 returns-in-Some-clause-within g c = omega (arith, c.in_ok-stretch.ensures.stretch.comes.few, c.next_slice-slice.ensures.slice.limit)
 
-pub returns-in_ok-tell-in-None-clause-limit : goal.returns-in_ok-tell-in-None-clause-limit
-returns-in_ok-tell-in-None-clause-limit g c = omega (arith, c.in_ok-stretch.ensures.stretch.comes.few, c.next_slice-slice.ensures.slice.limit)
+-- the last event was done, and a flush may come
+told : (g : Over) (c : In_ok-tell-in-None g) → MayFlush g.G.Guest c.args.program.now (g.G.Guest.state c.events.new.self) c.tell.new.tracer.stamps c.tell.new.tracer.room
+told g c = record { sound = c.in_ok-stretch.ensures.sound; stamps = c.in_ok-tell-in-None.ensures.places; room = c.in_ok-tell-in-None.ensures.room }
 
-pub returns-in_ok-tell-in-None-clause-clock : goal.returns-in_ok-tell-in-None-clause-clock
-returns-in_ok-tell-in-None-clause-clock g c =
+pub returns-in_ok-tell-in-None-clause-flush : goal.returns-in_ok-tell-in-None-clause-flush
+returns-in_ok-tell-in-None-clause-flush g c = told g (goal.at.returns-in_ok-tell-in-None-clause-flush g c).In_ok-tell-in-None
+
+pub returns-in_ok-tell-in-None-clause-ready : goal.returns-in_ok-tell-in-None-clause-ready
+returns-in_ok-tell-in-None-clause-ready g c =
     let G = g.G.Guest in
-    let at = goal.at.returns-in_ok-tell-in-None-clause-clock g c in
+    let at = goal.at.returns-in_ok-tell-in-None-clause-ready g c in
     let native = not_native (sliced g at.After-events) (done g at.In_ok-stretch) in
     let ticked = tick_done c.unended_at-thread.result c.in_ok-stretch.stretch.end (G.clock_of (G.state c.args.guest.now) + c.in_ok-stretch.stretch.quiet) (G.clock_of (G.state c.events.new.self)) native (sym c.end_after.ensures ∙ c.in-None.is) c.in_ok-stretch.ensures.clock in
-    omega (arith, ticked, c.requires.clock)
+    record {
+      flush = told g at.In_ok-tell-in-None;
+      limit = omega (arith, c.in_ok-stretch.ensures.stretch.comes.few, c.next_slice-slice.ensures.slice.limit);
+      clock = omega (arith, ticked, c.requires.ready.clock);
+      classes = c.in_ok-tell-in-None.ensures.classes;
+      format = c.in_ok-tell-in-None.ensures.format ∙ c.requires.ready.format;
+      rota = subst (λ (r : Rota). IsRota c.args.options.now.schedule (c.args.e + c.in_ok-stretch.stretch.quiet + 1) r) (sym c.in_ok-tell-in-None.ensures.rota)
+          (rota_on c.args.options.now.schedule (c.args.e + 1) (c.args.e + c.in_ok-stretch.stretch.quiet + 1) c.next_slice-slice.new.rota c.next_slice-slice.ensures.rota (omega arith));
+    }
 
 pub returns-in_ok-tell-in-None-clause-next_flush : goal.returns-in_ok-tell-in-None-clause-next_flush
 returns-in_ok-tell-in-None-clause-next_flush g c =
@@ -120,25 +133,18 @@ returns-in_ok-tell-in-None-clause-next_flush g c =
     (next_flush_on c.args.options.now.interval (c.args.e + 1) (c.args.e + c.in_ok-stretch.stretch.quiet + 1) c.args.tracer.now.next_flush.event c.requires.next_flush (omega arith)
     (λ some. let before = c.next_slice-slice.ensures.next_flush some in omega (arith, before, few)))
 
-pub returns-in_ok-tell-in-None-clause-rota : goal.returns-in_ok-tell-in-None-clause-rota
-returns-in_ok-tell-in-None-clause-rota g c =
-    subst (λ (r : Rota). IsRota c.args.options.now.schedule (c.args.e + c.in_ok-stretch.stretch.quiet + 1) r) (sym c.in_ok-tell-in-None.ensures.rota)
-    (rota_on c.args.options.now.schedule (c.args.e + 1) (c.args.e + c.in_ok-stretch.stretch.quiet + 1) c.next_slice-slice.new.rota c.next_slice-slice.ensures.rota (omega arith))
-
 pub returns-in-Some-clause-step : goal.returns-in-Some-clause-step
 returns-in-Some-clause-step g c =
     let at = goal.at.returns-in-Some-clause-step g c in
     stretch_stops (sliced g at.After-events) (done g at.In_ok-stretch) c.unended_at-thread.result c.unended_at-thread.ensures c.args.tracer.now.numbering c.args.tracer.now.numbering c.args.tracer.now.buffer.items c.args.tracer.now.buffer.items c.in-Some.end (sym c.end_after.ensures ∙ c.in-Some.is) refl refl
 
-pub returns-in-Some-clause-stamps : goal.returns-in-Some-clause-stamps
-returns-in-Some-clause-stamps g c =
-    let at = goal.at.returns-in-Some-clause-stamps g c in
+pub returns-in-Some-clause-flush : goal.returns-in-Some-clause-flush
+returns-in-Some-clause-flush g c =
+    let at = goal.at.returns-in-Some-clause-flush g c in
     let kept = stretch_kept (sliced g at.After-events) (done g at.In_ok-stretch) c.unended_at-thread.result c.in-Some.end c.unended_at-thread.ensures (sym c.end_after.ensures ∙ c.in-Some.is) in
     let long = as_long (sliced g at.After-events) (done g at.In_ok-stretch) in
-    record { few = omega (arith, kept, c.requires.stamps.few); places = omega (arith, kept, long, c.requires.stamps.places) }
-
-pub returns-in-Some-clause-room : goal.returns-in-Some-clause-room
-returns-in-Some-clause-room g c =
-    let at = goal.at.returns-in-Some-clause-room g c in
-    let kept = stretch_kept (sliced g at.After-events) (done g at.In_ok-stretch) c.unended_at-thread.result c.in-Some.end c.unended_at-thread.ensures (sym c.end_after.ensures ∙ c.in-Some.is) in
-    subst (λ (n : ℕ). g.G.Guest.has_places c.args.tracer.now.room n) (sym kept) c.requires.room
+    record {
+      sound = c.in_ok-stretch.ensures.sound;
+      stamps = record { few = omega (arith, kept, c.requires.ready.flush.stamps.few); places = omega (arith, kept, long, c.requires.ready.flush.stamps.places) };
+      room = subst (λ (n : ℕ). g.G.Guest.has_places c.args.tracer.now.room n) (sym kept) c.requires.ready.flush.room;
+    }

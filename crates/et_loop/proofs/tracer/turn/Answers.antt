@@ -1,10 +1,11 @@
-use Rattle.std.proofs.Common.{ℕ, ◌+◌, ◌++◌, List, sym, subst}
+use Rattle.std.proofs.Common.{ℕ, ◌+◌, ◌++◌, ◌∙◌, List, sym, subst}
 use Rattle.et_base.specs.declared.format.Format.{Format}
 use Rattle.et_binary.specs.Formats.{lines_written_in}
 use Rattle.et_state.specs.History.{flush_lines}
 use Rattle.et_state.specs.Naming.{Mentions}
 use Rattle.et_loop.specs.Naming.{HasClasses}
 use Rattle.et_loop.specs.Options.{guest_setting}
+use Rattle.et_loop.specs.Stamping.{HasStamps}
 use Rattle.et_io.specs.Sink.{TakesPrefix}
 use Rattle.et_loop.specs.Run.{due_lines, last_lines, PutsFlush, PutsLast}
 use Rattle.et_loop.specs.declared.schedule.Rota.{Rota}
@@ -12,7 +13,7 @@ use Rattle.et_loop.specs.Pace.{IsRota}
 use Rattle.et_loop.specs.Quiet.{IsStep, IsBrokenStep, IsTurn}
 use Rattle.et_state.specs.declared.records.output.Output.{Output}
 use Rattle.et_loop.proofs.Flushed.{IsSettled, broken_at_flush, broken_turn, turn_goes, turn_ends, turn_broken}
-use Rattle.et_loop.proofs.Quiets.{settled_there}
+use Rattle.et_loop.proofs.Quiets.{settled_stamps, settled_there}
 use Rattle.et_loop.proofs.RunLemmas.{on_any}
 use Rattle.et_loop.proofs.tracer.turn.Given.{Over}
 use Rattle.et_loop.proofs.tracer.turn.Goals.{In_ok-settle, In-Ok}
@@ -23,13 +24,23 @@ step-requires-clause-made g c =
     let G = g.G.Guest in
     settled_there c.pass-due.result (G.graph_of (G.state c.args.guest.now)) (G.graph_of (G.state c.settle.new.guest)) c.in_ok-settle.ensures.graph c.requires.made
 
-pub step-requires-clause-rota : goal.step-requires-clause-rota
-step-requires-clause-rota g c =
-    subst (λ (r : Rota). IsRota c.args.options.now.schedule c.args.e r) (sym c.in_ok-settle.ensures.rota) c.requires.rota
-
-pub step-requires-clause-classes : goal.step-requires-clause-classes
-step-requires-clause-classes g c =
-    subst (λ (m : Mentions). HasClasses (g.G.Code.Program.names c.args.program.now) m) (sym c.in_ok-settle.ensures.numbering) c.requires.classes
+pub step-requires-clause-ready : goal.step-requires-clause-ready
+step-requires-clause-ready g c =
+    let G = g.G.Guest in
+    let before = c.requires.ready in
+    let stamps = settled_stamps c.pass-due.result (G.graph_of (G.state c.args.guest.now)) (G.graph_of (G.state c.settle.new.guest)) c.args.tracer.now.stamps c.in_ok-settle.ensures.graph before.flush.stamps in
+    record {
+      flush = record {
+        sound = c.in_ok-settle.ensures.sound;
+        stamps = subst (λ (xs : List ℕ). HasStamps (G.graph_of (G.state c.settle.new.guest)) xs) (sym c.in_ok-settle.ensures.stamps) stamps;
+        room = c.in_ok-settle.ensures.room;
+      };
+      limit = before.limit;
+      clock = c.in_ok-settle.ensures.clock ∙ before.clock;
+      classes = subst (λ (m : Mentions). HasClasses (g.G.Code.Program.names c.args.program.now) m) (sym c.in_ok-settle.ensures.numbering) before.classes;
+      format = c.in_ok-settle.ensures.format ∙ before.format;
+      rota = subst (λ (r : Rota). IsRota c.args.options.now.schedule c.args.e r) (sym c.in_ok-settle.ensures.rota) before.rota;
+    }
 
 -- the flush was made, where it was due
 settled : (g : Over) (c : In_ok-settle g)
@@ -39,7 +50,7 @@ settled g c = record {
   at = c.pass-due.ensures.due;
   state = c.in_ok-settle.ensures.state;
   graphs = c.in_ok-settle.ensures.graph;
-  puts = subst (λ (f : Format). PutsFlush (g.G.Guest.graph_of (g.G.Guest.state c.args.guest.now)) c.args.tracer.now.stamps f c.pass-due.result c.args.e (g.O.Sink.taken c.args.sink.now) (g.O.Sink.taken c.settle.new.sink) c.args.tracer.now.buffer.items c.settle.new.tracer.buffer.items) c.requires.format c.in_ok-settle.ensures.lines;
+  puts = subst (λ (f : Format). PutsFlush (g.G.Guest.graph_of (g.G.Guest.state c.args.guest.now)) c.args.tracer.now.stamps f c.pass-due.result c.args.e (g.O.Sink.taken c.args.sink.now) (g.O.Sink.taken c.settle.new.sink) c.args.tracer.now.buffer.items c.settle.new.tracer.buffer.items) c.requires.ready.format c.in_ok-settle.ensures.lines;
   few = c.in_ok-settle.ensures.visits;
 }
 
@@ -62,7 +73,7 @@ returns-in_err-settle-clause-broken g c =
     on_any c.from_residual.result
     (broken_at_flush given (G.said_of c.args.program.now) G.flush_visits_of c.args.e (G.state c.args.guest.now) c.pass-due.result c.args.tracer.now.stamps c.args.visits.now c.settle.new.visits c.pass-due.ensures.due c.in_err-settle.ensures.visits
     (taken c.args.sink.now) (taken c.settle.new.sink) c.args.tracer.now.buffer.items
-    (λ deaths listed. subst (λ (f : Format). TakesPrefix (taken c.args.sink.now) (taken c.settle.new.sink) (c.args.tracer.now.buffer.items ++ lines_written_in f (due_lines c.pass-due.result (flush_lines c.args.e deaths)))) c.requires.format (c.in_err-settle.ensures.err deaths listed)))
+    (λ deaths listed. subst (λ (f : Format). TakesPrefix (taken c.args.sink.now) (taken c.settle.new.sink) (c.args.tracer.now.buffer.items ++ lines_written_in f (due_lines c.pass-due.result (flush_lines c.args.e deaths)))) c.requires.ready.format (c.in_err-settle.ensures.err deaths listed)))
 
 -- .. want of memory in an event
 pub returns-in_default-clause-broken : goal.returns-in_default-clause-broken
