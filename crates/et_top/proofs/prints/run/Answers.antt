@@ -9,11 +9,11 @@ use Rattle.et_top.proofs.prints.run.Goals as goal
 
 pub returns-in-Ok-clause-gives : goal.returns-in-Ok-clause-gives
 returns-in-Ok-clause-gives g c reached decides =
-    print_gives reached (g.O.Sink.taken c.args.out.now) (g.O.Sink.taken c.run.new.printed) c.args.visits.now c.run.new.visits ⊥ (Rose (g.O.Sink.faults c.args.out.now) (g.O.Sink.faults c.run.new.printed)) c.args.program.now c.args.options.now c.in-Ok.ran c.answer_end.result c.answer_end.ensures.status (c.in-Ok.ensures.said reached decides) (c.in-Ok.ensures.visits reached decides)
+    print_gives reached (g.O.Sink.taken c.args.out.now) (g.O.Sink.taken c.run.new.printed) c.args.visits.now c.run.new.visits ⊥ (Rose (g.O.Sink.faults c.args.out.now) (g.O.Sink.faults c.run.new.printed)) c.args.program.now c.args.options.now c.in-Ok.ran c.answer_end.result c.answer_end.ensures.status (c.in-Ok.ensures.over reached decides).said (c.in-Ok.ensures.over reached decides).visits
 
 pub returns-in-Err-clause-gives : goal.returns-in-Err-clause-gives
 returns-in-Err-clause-gives g c reached decides =
-    print_front reached (g.O.Sink.taken c.args.out.now) (g.O.Sink.taken c.run.new.printed) c.args.visits.now c.run.new.visits ⊥ (Rose (g.O.Sink.faults c.args.out.now) (g.O.Sink.faults c.run.new.printed)) c.args.program.now c.args.options.now c.in-Err.fault c.answer_fault.result c.answer_fault.ensures.status (c.in-Err.ensures.said_prefix reached decides) (c.in-Err.ensures.said_cut reached decides) (rose_fault Ran c.in-Err.fault _ _ (counted_beside (is_write_fault {A = Ran} (Err c.in-Err.fault)) _ _ c.in-Err.ensures.write))
+    print_front reached (g.O.Sink.taken c.args.out.now) (g.O.Sink.taken c.run.new.printed) c.args.visits.now c.run.new.visits ⊥ (Rose (g.O.Sink.faults c.args.out.now) (g.O.Sink.faults c.run.new.printed)) c.args.program.now c.args.options.now c.in-Err.fault c.answer_fault.result c.answer_fault.ensures.status (c.in-Err.ensures.cut_off reached decides).said_prefix (c.in-Err.ensures.cut_off reached decides).said_cut (rose_fault Ran c.in-Err.fault _ _ (counted_beside (is_write_fault {A = Ran} (Err c.in-Err.fault)) _ _ c.in-Err.ensures.write))
 
 pub returns-in-Ok-clause-write_fault : goal.returns-in-Ok-clause-write_fault
 returns-in-Ok-clause-write_fault g c = same_count (is_write_status c.answer_end.result) _ _ (counted_beside false _ _ c.in-Ok.ensures.write) c.answer_end.ensures.no_write
