@@ -22,26 +22,14 @@ use Rattle.et_history.specs.soundness.WellFormed.{IsWellFormed, IsThere}
 use Rattle.et_history.proofs.soundness.Growing.{Grows, objects_grow, monitors_grow, classes_grow, free_is_sound}
 use Rattle.et_history.proofs.soundness.Objects.{object_well, object_is_sound}
 use Rattle.et_history.proofs.soundness.Slots.{set_all, monitor_sound, fits_still}
-use Rattle.et_history.proofs.soundness.Threads.{guest_now, object_still}
+use Rattle.et_history.proofs.soundness.Threads.{beside_threads, guest_now, object_still}
 
 -- A GUEST with the same threads and static slots, and the same states of classes
 
 same_guest : (p : Linked) (s : Kept) (monitors : List Monitor) (strings : List (List ℕ × ℕ)) → IsWellFormed p s → length monitors ≡ length p.classes → All (IsSoundMonitor s.guest) monitors
     → IsWellFormed p (guest_now s (record s.guest { class_monitors = monitors; interned = strings }))
 same_guest p s monitors strings h n each =
-    let g : GuestState = record s.guest { class_monitors = monitors; interned = strings } in
-    let w : Grows s.guest g = record { clock = omega arith; threads = omega arith } in
-    record {
-      clock = h.clock;
-      objects = objects_grow p s g w h;
-      threads = λ t le. let was = h.threads t le in record { frames = was.frames; few_frames = was.few_frames; object = λ some unended. object_still p s g _ (was.object some unended) };
-      thread_objects = h.thread_objects;
-      few_threads = h.few_threads;
-      entry = h.entry;
-      classes = (h.classes.0, classes_grow s.guest g s.guest.classes w h.classes.1);
-      class_monitors = (n, monitors_grow s.guest g monitors w each);
-      statics = (h.statics.0, λ i le. let was = h.statics.1 i le in record { value = was.value; untouched = was.untouched });
-    }
+    beside_threads p s s.guest.classes monitors s.guest.statics strings h h.classes (n, each) (h.statics.0, λ i le. let was = h.statics.1 i le in record { value = was.value; untouched = was.untouched })
 
 -- a string is interned
 pub string_well : (p : Linked) (s : Kept) (bytes : List ℕ) (o : ℕ) → IsWellFormed p s → IsWellFormed p (guest_now s (with_string s.guest bytes o))
@@ -116,21 +104,9 @@ untouched_before g c k x lt touched u =
 pub class_well : (p : Linked) (c : ℕ) (x : ClassState) (d : Doing) → IsWellFormed p d.state → c < length p.classes → IsSoundClassState d.state.guest x → (x ≡ Untouched → ⊥) → IsWellFormed p (with_state c x d).state
 class_well p c x d h lt sound touched =
     let s : Kept = d.state in
-    let g : GuestState = with_class_state s.guest c x in
-    let w : Grows s.guest g = record { clock = omega arith; threads = omega arith } in
-    let n : length s.guest.classes ≡ length p.classes = h.classes.0 in
-    let inside : c < length s.guest.classes = omega arith in
-    record {
-      clock = h.clock;
-      objects = objects_grow p s g w h;
-      threads = λ t le. let was = h.threads t le in record { frames = was.frames; few_frames = was.few_frames; object = λ some unended. object_still p s g _ (was.object some unended) };
-      thread_objects = h.thread_objects;
-      few_threads = h.few_threads;
-      entry = h.entry;
-      classes = (length-set s.guest.classes c x ∙ n, classes_grow s.guest g (set s.guest.classes c x) w (set_all (IsSoundClassState s.guest) s.guest.classes c x h.classes.1 sound));
-      class_monitors = (h.class_monitors.0, monitors_grow s.guest g s.guest.class_monitors w h.class_monitors.1);
-      statics = (h.statics.0, λ i le. let was = h.statics.1 i le in record { value = was.value; untouched = λ u. was.untouched (untouched_before s.guest c (field_at p (slice_index_or p.statics i 0)).class x inside touched u) });
-    }
+    let inside : c < length s.guest.classes = omega (arith, h.classes.0) in
+    beside_threads p s (set s.guest.classes c x) s.guest.class_monitors s.guest.statics s.guest.interned h (length-set s.guest.classes c x ∙ h.classes.0, set_all (IsSoundClassState s.guest) s.guest.classes c x h.classes.1 sound) h.class_monitors
+    (h.statics.0, λ i le. let was = h.statics.1 i le in record { value = was.value; untouched = λ u. was.untouched (untouched_before s.guest c (field_at p (slice_index_or p.statics i 0)).class x inside touched u) })
 
 -- A THREAD is started
 

@@ -23,9 +23,8 @@ use Rattle.et_event.specs.BuiltIns.{with_referent_of, with_queue_of, with_refere
 use Rattle.et_event.specs.Sound.{is_of_kind, kind_of_element, HasField, IsSoundObject, IsSoundStatic}
 use Rattle.et_history.specs.soundness.WellFormed.{IsWellFormed}
 use Rattle.et_event.specs.Programs.{MayHold}
-use Rattle.et_history.proofs.soundness.Growing.{Grows, objects_grow, monitors_grow, classes_grow}
 use Rattle.et_history.proofs.soundness.Objects.{heap_now, object_well, object_is_sound, found_there}
-use Rattle.et_history.proofs.soundness.Threads.{guest_now, object_still}
+use Rattle.et_history.proofs.soundness.Threads.{beside_threads, guest_now}
 use Rattle.et_heap.specs.Queues.{with_waits, without_first_waiting, take_first}
 use Rattle.et_base.proofs.Lists.{Contains-here}
 use Rattle.et_event.proofs.Values.{updated_state}
@@ -187,20 +186,8 @@ static_now p g i j v lt kind touched h =
 pub with_static_well : (p : Linked) (s : Kept) (i : ℕ) (v : Value) → IsWellFormed p s → i < length p.statics → is_of_kind (operand_kind (field_at p (slice_index_or p.statics i 0)).descriptor) v ≡ true → (class_state_at s.guest (field_at p (slice_index_or p.statics i 0)).class ≡ Untouched → ⊥)
     → IsWellFormed p (guest_now s (with_static s.guest i v))
 with_static_well p s i v h lt kind touched =
-    let g : GuestState = with_static s.guest i v in
-    let w : Grows s.guest g = record { clock = omega arith; threads = omega arith } in
     let n : length s.guest.statics ≡ length p.statics = h.statics.0 in
-    record {
-      clock = h.clock;
-      objects = objects_grow p s g w h;
-      threads = λ t le. let was = h.threads t le in record { frames = was.frames; few_frames = was.few_frames; object = λ some unended. object_still p s g _ (was.object some unended) };
-      thread_objects = h.thread_objects;
-      few_threads = h.few_threads;
-      entry = h.entry;
-      classes = (h.classes.0, classes_grow s.guest g s.guest.classes w h.classes.1);
-      class_monitors = (h.class_monitors.0, monitors_grow s.guest g s.guest.class_monitors w h.class_monitors.1);
-      statics = (length-set s.guest.statics i v ∙ n, λ j le. static_now p s.guest i j v (omega arith) kind touched (h.statics.1 j le));
-    }
+    beside_threads p s s.guest.classes s.guest.class_monitors (set s.guest.statics i v) s.guest.interned h h.classes h.class_monitors (length-set s.guest.statics i v ∙ n, λ j le. static_now p s.guest i j v (omega arith) kind touched (h.statics.1 j le))
 
 pub static_well : (p : Linked) (e : Moment) (i : ℕ) (v : Value) (d : Doing) → IsWellFormed p d.state → i < length p.statics → is_of_kind (operand_kind (field_at p (slice_index_or p.statics i 0)).descriptor) v ≡ true
     → (class_state_at d.state.guest (field_at p (slice_index_or p.statics i 0)).class ≡ Untouched → ⊥) → IsWellFormed p (static_written e i v d).state

@@ -1,13 +1,16 @@
 -- A thread becomes another one.
 use Rattle.std.proofs.Common.{◌≡◌, ℕ, ◌<◌, ◌≤◌, false, List, length, set, get_or, Option, Some, None, sym, subst, inl, inr, arith, get_or-set_same}
-use Rattle.std.specs.Prelude.{IsSome}
+use Rattle.std.specs.Prelude.{All, IsSome}
 use Rattle.std.proofs.lemmas.Bool.{cases_eq}
 use Rattle.std.proofs.lemmas.List.{length-set, get_or-set_other}
+use Rattle.et_base.specs.declared.value.Value.{Value}
+use Rattle.et_heap.specs.declared.monitor.Monitor.{Monitor}
 use Rattle.et_program.specs.Entries.{Linked}
+use Rattle.et_state.specs.declared.class_state.ClassState.{ClassState}
 use Rattle.et_state.specs.Threads.{FrameState, ThreadState, no_thread, most_threads, most_frames, with_pending, as_entered, as_ended}
 use Rattle.et_state.specs.State.{GuestState, Kept}
 use Rattle.et_state.specs.Words.{thread_at, with_thread}
-use Rattle.et_event.specs.Sound.{AreSoundFrames, HasThreadObject, IsSoundThread}
+use Rattle.et_event.specs.Sound.{AreSoundFrames, HasThreadObject, IsSoundClassState, IsSoundMonitor, IsSoundStatic, IsSoundThread}
 use Rattle.et_history.specs.soundness.WellFormed.{IsWellFormed, MayBeThread}
 use Rattle.et_history.proofs.soundness.Growing.{Grows, objects_grow, monitors_grow, classes_grow}
 
@@ -19,6 +22,26 @@ guest_now s g = record { heap = s.heap; guest = g }
 pub object_still : (p : Linked) (s : Kept) (g : GuestState) (object : Option ℕ) → HasThreadObject p s object → HasThreadObject p (guest_now s g) object
 object_still p s g None h = h
 object_still p s g (Some o) h = h
+
+-- .. with the same threads: what it keeps beside them is sound again
+pub beside_threads : (p : Linked) (s : Kept) (classes : List ClassState) (monitors : List Monitor) (statics : List Value) (strings : List (List ℕ × ℕ))
+    → let g : GuestState = record s.guest { classes = classes; class_monitors = monitors; statics = statics; interned = strings } in
+    IsWellFormed p s → (length classes ≡ length p.classes) × All (IsSoundClassState s.guest) classes → (length monitors ≡ length p.classes) × All (IsSoundMonitor s.guest) monitors → (length statics ≡ length p.statics) × ((i : ℕ) → i < length p.statics → IsSoundStatic p g i)
+    → IsWellFormed p (guest_now s g)
+beside_threads p s classes monitors statics strings h of_classes of_monitors of_statics =
+    let g : GuestState = record s.guest { classes = classes; class_monitors = monitors; statics = statics; interned = strings } in
+    let w : Grows s.guest g = record { clock = omega arith; threads = omega arith } in
+    record {
+      clock = h.clock;
+      objects = objects_grow p s g w h;
+      threads = λ t le. let was = h.threads t le in record { frames = was.frames; few_frames = was.few_frames; object = λ some unended. object_still p s g _ (was.object some unended) };
+      thread_objects = h.thread_objects;
+      few_threads = h.few_threads;
+      entry = h.entry;
+      classes = (of_classes.0, classes_grow s.guest g classes w of_classes.1);
+      class_monitors = (of_monitors.0, monitors_grow s.guest g monitors w of_monitors.1);
+      statics = of_statics;
+    }
 
 -- EACH THREAD
 
