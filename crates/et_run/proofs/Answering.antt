@@ -14,16 +14,13 @@ use Rattle.et_state.specs.Naming.{IsNamed}
 use Rattle.et_state.specs.Outcome.{Outcome}
 use Rattle.et_state.specs.Outcome as outcome
 use Rattle.et_event.specs.Answered.{TextAnswers}
-use Rattle.et_event.specs.Sound.{IsSoundFor}
-use Rattle.et_event.specs.SoundTexts.{HasSoundTexts}
-use Rattle.et_history.specs.texts.Texts.{LeadsToSoundTexts}
 use Rattle.et_loop.specs.Kept.{IsStepTo}
 use Rattle.et_loop.specs.Stamping.{StepsWhereDone}
 use Rattle.et_state.specs.Moves.{Led}
 use Rattle.et_state.specs.Spoken.{spoken, silent}
 use Rattle.et_state.specs.Texts.{Texts}
 use Rattle.et_history.specs.steps.Telling.{IsToldOf, names_of_program}
-use Rattle.et_history.specs.steps.Changing.{LeadsToSound}
+use Rattle.et_history.specs.steps.Changing.{LeadsTo}
 
 -- the state of a machine and its texts, where both are those of a state
 stands : (next : Kept) (m : MachineState) (x : Texts) → kept_of m ≡ silent next → x ≡ next.guest.texts → spoken x (kept_of m) ≡ next
@@ -68,20 +65,12 @@ named p outcome.ObjectLimit ends.ObjectLimit m m' x x' out out' told h before = 
 named p _ _ m m' x x' out out' told h before = absurd h
 
 -- what is left is sound, where the outcome is
-pub sound_after : (p : Linked) (o : Outcome Kept) (end : EventEnd) (m m' : MachineState) (x x' : Texts) (out out' : List Record) → IsSoundFor p (spoken x (kept_of m)) → LeadsToSound p o → TextAnswers o end m m' x x' out out' → IsSoundFor p (spoken x' (kept_of m'))
-sound_after p (outcome.Goes next records) ends.Done m m' x x' out out' before leads h = subst (λ (k : Kept). IsSoundFor p k) (sym (stands next m' x' h.0.kept h.1)) leads
-sound_after p (outcome.Waits next) ends.Waited m m' x x' out out' before leads h = subst (λ (k : Kept). IsSoundFor p k) (sym (stands next m' x' h.0.kept h.1)) leads
-sound_after p (outcome.IllTyped method pc) (ends.IllTyped named at) m m' x x' out out' before leads h = subst (λ (k : Kept). IsSoundFor p k) (sym (still m m' x x' h.2 h.3)) before
-sound_after p outcome.ObjectLimit ends.ObjectLimit m m' x x' out out' before leads h = subst (λ (k : Kept). IsSoundFor p k) (sym (still m m' x x' h.0 h.1)) before
-sound_after p _ _ m m' x x' out out' before leads h = absurd h
-
--- .. and so are its texts
-pub texts_after : (p : Linked) (o : Outcome Kept) (end : EventEnd) (m m' : MachineState) (x x' : Texts) (out out' : List Record) → HasSoundTexts p (spoken x (kept_of m)) → LeadsToSoundTexts p o → TextAnswers o end m m' x x' out out' → HasSoundTexts p (spoken x' (kept_of m'))
-texts_after p (outcome.Goes next records) ends.Done m m' x x' out out' before leads h = subst (λ (k : Kept). HasSoundTexts p k) (sym (stands next m' x' h.0.kept h.1)) leads
-texts_after p (outcome.Waits next) ends.Waited m m' x x' out out' before leads h = subst (λ (k : Kept). HasSoundTexts p k) (sym (stands next m' x' h.0.kept h.1)) leads
-texts_after p (outcome.IllTyped method pc) (ends.IllTyped named at) m m' x x' out out' before leads h = subst (λ (k : Kept). HasSoundTexts p k) (sym (still m m' x x' h.2 h.3)) before
-texts_after p outcome.ObjectLimit ends.ObjectLimit m m' x x' out out' before leads h = subst (λ (k : Kept). HasSoundTexts p k) (sym (still m m' x x' h.0 h.1)) before
-texts_after p _ _ m m' x x' out out' before leads h = absurd h
+pub leads_after : (P : Kept → Type 0) (o : Outcome Kept) (end : EventEnd) (m m' : MachineState) (x x' : Texts) (out out' : List Record) → P (spoken x (kept_of m)) → LeadsTo P o → TextAnswers o end m m' x x' out out' → P (spoken x' (kept_of m'))
+leads_after P (outcome.Goes next records) ends.Done m m' x x' out out' before leads h = subst P (sym (stands next m' x' h.0.kept h.1)) leads
+leads_after P (outcome.Waits next) ends.Waited m m' x x' out out' before leads h = subst P (sym (stands next m' x' h.0.kept h.1)) leads
+leads_after P (outcome.IllTyped method pc) (ends.IllTyped named at) m m' x x' out out' before leads h = subst P (sym (still m m' x x' h.2 h.3)) before
+leads_after P outcome.ObjectLimit ends.ObjectLimit m m' x x' out out' before leads h = subst P (sym (still m m' x x' h.0 h.1)) before
+leads_after P _ _ m m' x x' out out' before leads h = absurd h
 
 -- texts end no thread
 pub unended_with : (guest : GuestState) (x : Texts) (t : ℕ) → IsUnended guest t → IsUnended (record guest { texts = x }) t

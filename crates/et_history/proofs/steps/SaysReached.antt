@@ -29,7 +29,7 @@ use Rattle.et_history.proofs.steps.Recording.{Told}
 use Rattle.et_history.proofs.steps.SaysRecords.{records_come, under}
 use Rattle.et_history.proofs.steps.Turns.{event_leads}
 use Rattle.et_history.specs.steps.Steps.{AllObjects, Begins, BeginsClass, Catches, ClassBecomes, Comes, CountsEntered, Drops, Ends, EntersClinit, EntersCode, EntersMonitor, GoesOn, Interns, IsUnder, Leads, LeavesMonitor, Level, MakesArray, MakesInstance, MayWrite, Pends, Phase, Polls, Returns, SetsQueue, SetsReferent, Starts, Unwinds, UnwindsClinit, WritesSlot, WritesStatic, own_lock}
-use Rattle.et_history.specs.steps.Writes.{IsAtHand, IsBesideOut, IsOfReached, TellsBesideOut, WritesToReached, is_out_slot}
+use Rattle.et_history.specs.steps.Writes.{EachRecord, IsAtHand, IsBesideOut, IsOfReached, TellsBesideOut, WritesToReached, is_out_slot}
 use Rattle.std.proofs.Common.{List, None, Option, Some, [], false, inl, inr, refl, subst, ℕ, ◌∷◌, ◌≡◌, ◌⊎◌}
 use Rattle.std.proofs.lemmas.List.Elements.{All-append, All-cons, All-nil, All-weaker}
 use Rattle.std.specs.Prelude.{All, codes, is_some, unwrap_or}
@@ -174,23 +174,18 @@ module _ (e : Moment) (ready : Ready e) where
   reached_come ph d (SetsQueue o q x h a) = record { all = (reached_come Level x h).all }
   reached_come ph d (Polls q x h a) = record { all = (reached_come Level x h).all }
 
-  pub by_reached : (o : Outcome Kept) → Leads e o → WritesToReached e.before o
-  by_reached (outcome.Goes next records) h =
+  by_each : (P : Record → Type 0) → ((r : Record) → IsOfSome e r → P r) → (o : Outcome Kept) → Leads e o → EachRecord P o
+  by_each P each (outcome.Goes next records) h =
       let d : Doing = record { state = next; records = records } in
       let made : MadeOf e ready d = comes_so e ready d h in
-      All-weaker (IsOfSome e) (IsOfReached e.before) (λ r is. of_reached e r is) records (reached_come made.phase d made.comes).all
-  by_reached (outcome.Waits next) h = tt
-  by_reached (outcome.IllTyped method pc) h = tt
-  by_reached outcome.ObjectLimit h = tt
+      All-weaker (IsOfSome e) P each records (reached_come made.phase d made.comes).all
+  by_each P each other h = tt
+
+  pub by_reached : (o : Outcome Kept) → Leads e o → WritesToReached e.before o
+  by_reached = by_each (IsOfReached e.before) (of_reached e)
 
   pub by_others : (o : Outcome Kept) → Leads e o → TellsBesideOut e.program o
-  by_others (outcome.Goes next records) h =
-      let d : Doing = record { state = next; records = records } in
-      let made : MadeOf e ready d = comes_so e ready d h in
-      All-weaker (IsOfSome e) (IsBesideOut e.program) (λ r is. beside_out e r is) records (reached_come made.phase d made.comes).all
-  by_others (outcome.Waits next) h = tt
-  by_others (outcome.IllTyped method pc) h = tt
-  by_others outcome.ObjectLimit h = tt
+  by_others = by_each (IsBesideOut e.program) (beside_out e)
 
 module _ (p : Linked) (s : Kept) (t : ℕ) (sound : IsSoundFor p s) (unended : IsUnended s.guest t) (may : IsRunnable p) where
   abbrev now : Moment

@@ -53,9 +53,13 @@ KeepsMonitors e (outcome.Waits after) = after ≡ later e.before
 KeepsMonitors e (outcome.IllTyped method pc) = Unit {0}
 KeepsMonitors e outcome.ObjectLimit = Unit {0}
 
--- SOUND STATES: where the event is done, or the thread waits, the next state is one
+-- what holds of the next state, where the event is done, or the thread waits
+abbrev pub LeadsTo : (Kept → Type 0) → Outcome Kept → Type 0
+LeadsTo P (outcome.Goes next records) = P next
+LeadsTo P (outcome.Waits next) = P next
+LeadsTo P (outcome.IllTyped method pc) = Unit {0}
+LeadsTo P outcome.ObjectLimit = Unit {0}
+
+-- it is a sound one
 abbrev pub LeadsToSound : Linked → Outcome Kept → Type 0
-LeadsToSound p (outcome.Goes next records) = IsSoundFor p next
-LeadsToSound p (outcome.Waits next) = IsSoundFor p next
-LeadsToSound p (outcome.IllTyped method pc) = Unit {0}
-LeadsToSound p outcome.ObjectLimit = Unit {0}
+LeadsToSound p o = LeadsTo (IsSoundFor p) o

@@ -44,6 +44,13 @@ TellsWrites s outcome.ObjectLimit = Unit {0}
 
 -- WHAT IS WRITTEN TO
 
+-- what holds of each record of an event that is done
+abbrev pub EachRecord : (Record → Type 0) → Outcome Kept → Type 0
+EachRecord P (outcome.Goes next records) = All P records
+EachRecord P (outcome.Waits next) = Unit {0}
+EachRecord P (outcome.IllTyped method pc) = Unit {0}
+EachRecord P outcome.ObjectLimit = Unit {0}
+
 -- an object that is reached in the state before an event, or that the event makes
 abbrev pub IsAtHand : Kept → ℕ → Type 0
 IsAtHand s o = IsReached (graph_of s) o ⊎ (length s.heap ≤ o)
@@ -54,10 +61,7 @@ IsOfReached s (Update event thread object slot old new) = (object ≡ 0) ⊎ IsA
 IsOfReached s other = Unit {0}
 
 abbrev pub WritesToReached : Kept → Outcome Kept → Type 0
-WritesToReached s (outcome.Goes next records) = All (IsOfReached s) records
-WritesToReached s (outcome.Waits next) = Unit {0}
-WritesToReached s (outcome.IllTyped method pc) = Unit {0}
-WritesToReached s outcome.ObjectLimit = Unit {0}
+WritesToReached s o = EachRecord (IsOfReached s) o
 
 -- THE STATIC OF System.out, of which no U record tells
 
@@ -70,10 +74,7 @@ IsBesideOut p (Update event thread object slot old new) = object ≡ 0 → is_ou
 IsBesideOut p other = Unit {0}
 
 abbrev pub TellsBesideOut : Linked → Outcome Kept → Type 0
-TellsBesideOut p (outcome.Goes next records) = All (IsBesideOut p) records
-TellsBesideOut p (outcome.Waits next) = Unit {0}
-TellsBesideOut p (outcome.IllTyped method pc) = Unit {0}
-TellsBesideOut p outcome.ObjectLimit = Unit {0}
+TellsBesideOut p o = EachRecord (IsBesideOut p) o
 
 -- an ExceptionInInitializerError has a slot for its cause
 abbrev pub HasCause : Linked → Type 0

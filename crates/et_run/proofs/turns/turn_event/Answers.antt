@@ -8,12 +8,13 @@ use Rattle.et_state.specs.State.{Kept, MachineState, kept_of}
 use Rattle.et_event.specs.Answered.{EventAnswers, TextAnswers}
 use Rattle.et_event.specs.Beginning.{BeginsEvent}
 use Rattle.et_event.specs.Event.{event}
+use Rattle.et_event.specs.Sound.{IsSoundFor}
 use Rattle.et_event.specs.SoundTexts.{HasSoundTexts}
 use Rattle.et_event.specs.Out.{out_turn}
 use Rattle.et_event.specs.Selected.{text_call}
 use Rattle.et_event.specs.Told.{event_with_texts, said_by}
 use Rattle.et_run.specs.WithTexts.{state_of, text_turn}
-use Rattle.et_run.proofs.Answering.{on_ok, sound_after, texts_after, unended_with}
+use Rattle.et_run.proofs.Answering.{leads_after, on_ok, unended_with}
 use Rattle.et_run.proofs.Flushing.{machine_sound}
 use Rattle.et_run.proofs.TextTurns.{left, not_left, of_texts, tabled, tabled_grown, tabled_unsaid}
 use Rattle.et_run.proofs.turns.turn_event.Given as given
@@ -102,7 +103,7 @@ returns-in-Native-clause-sound g c =
     let p = c.args.program.now in
     let s : Kept = state_of c.args.running.now in
     on_ok c.strings_event.result _ _ (text_answers g c) (λ end h.
-    sound_after p (event_with_texts p s c.args.thread) end c.args.running.now.machine c.strings_event.new.machine c.args.running.now.texts c.strings_event.new.texts c.args.out.now.records c.strings_event.new.out.records c.requires.sound
+    leads_after (IsSoundFor p) (event_with_texts p s c.args.thread) end c.args.running.now.machine c.strings_event.new.machine c.args.running.now.texts c.strings_event.new.texts c.args.out.now.records c.strings_event.new.out.records c.requires.sound
     (c.events_lead_to_sound_states.ensures p s c.args.thread c.requires.sound c.requires.clock (unended_with c.args.running.now.machine.guest c.args.running.now.texts c.args.thread c.requires.thread) c.requires.program) h)
 
 pub returns-in-Native-clause-sound_texts : goal.returns-in-Native-clause-sound_texts
@@ -110,7 +111,7 @@ returns-in-Native-clause-sound_texts g c =
     let p = c.args.program.now in
     let s : Kept = state_of c.args.running.now in
     on_ok c.strings_event.result _ _ (text_answers g c) (λ end h.
-    texts_after p (event_with_texts p s c.args.thread) end c.args.running.now.machine c.strings_event.new.machine c.args.running.now.texts c.strings_event.new.texts c.args.out.now.records c.strings_event.new.out.records c.requires.texts
+    leads_after (HasSoundTexts p) (event_with_texts p s c.args.thread) end c.args.running.now.machine c.strings_event.new.machine c.args.running.now.texts c.strings_event.new.texts c.args.out.now.records c.strings_event.new.out.records c.requires.texts
     (c.texts_stay_sound.ensures p s c.args.thread c.requires.sound c.requires.texts (unended_with c.args.running.now.machine.guest c.args.running.now.texts c.args.thread c.requires.thread) c.requires.program) h)
 
 -- what the table answers
@@ -149,12 +150,12 @@ pub returns-in_default-clause-sound : goal.returns-in_default-clause-sound
 returns-in_default-clause-sound g c =
     let p = c.args.program.now in
     let s : Kept = state_of c.args.running.now in
-    sound_after p (event_with_texts p s c.args.thread) c.in_ok-end.end c.args.running.now.machine c.event_by_family.new.machine c.args.running.now.texts c.args.running.now.texts c.args.out.now.records c.event_by_family.new.out c.requires.sound
+    leads_after (IsSoundFor p) (event_with_texts p s c.args.thread) c.in_ok-end.end c.args.running.now.machine c.event_by_family.new.machine c.args.running.now.texts c.args.running.now.texts c.args.out.now.records c.event_by_family.new.out c.requires.sound
     (c.events_lead_to_sound_states.ensures p s c.args.thread c.requires.sound c.requires.clock (unended_with c.args.running.now.machine.guest c.args.running.now.texts c.args.thread c.requires.thread) c.requires.program) (table_answers g c)
 
 pub returns-in_default-clause-sound_texts : goal.returns-in_default-clause-sound_texts
 returns-in_default-clause-sound_texts g c =
     let p = c.args.program.now in
     let s : Kept = state_of c.args.running.now in
-    texts_after p (event_with_texts p s c.args.thread) c.in_ok-end.end c.args.running.now.machine c.event_by_family.new.machine c.args.running.now.texts c.args.running.now.texts c.args.out.now.records c.event_by_family.new.out c.requires.texts
+    leads_after (HasSoundTexts p) (event_with_texts p s c.args.thread) c.in_ok-end.end c.args.running.now.machine c.event_by_family.new.machine c.args.running.now.texts c.args.running.now.texts c.args.out.now.records c.event_by_family.new.out c.requires.texts
     (c.texts_stay_sound.ensures p s c.args.thread c.requires.sound c.requires.texts (unended_with c.args.running.now.machine.guest c.args.running.now.texts c.args.thread c.requires.thread) c.requires.program) (table_answers g c)
