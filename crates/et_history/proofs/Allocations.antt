@@ -26,12 +26,11 @@ use Rattle.et_state.proofs.Enqueued.{length-flushed, joined_now}
 use Rattle.et_program.specs.Entries.{Linked, class_at}
 use Rattle.et_program.specs.declared.info.Element.{Element}
 use Rattle.et_program.specs.declared.info.Element.TheVariants.{NoArray, Base, Class}
-use Rattle.et_event.specs.Told.{event_with_texts}
 use Rattle.et_event.specs.Kinds.{is_array_element}
 use Rattle.et_event.specs.Moments.{array_size, element_width}
 use Rattle.et_event.specs.Start.{start_records}
 use Rattle.et_history.specs.Allocations.{object_in, next_number, IsMadeAt, TellsOf, next_behind, AreAllocations, HasArguments}
-use Rattle.et_history.specs.Histories.{picked, whole_picked, whole_at, whole_settled_at, IsHistory, HistoryComesTo, WholeComesTo}
+use Rattle.et_history.specs.Histories.{picked, whole_picked, whole_at, IsHistory, HistoryComesTo, WholeComesTo}
 use Rattle.et_history.specs.steps.Records.{size_by, size_of, IsAlike, next_after, IsAllocationOf, AreRecordsOf, HasPlainStrings, TellsObjects}
 use Rattle.et_history.specs.Same.{IsHere}
 use Rattle.et_history.specs.Settings.{unended_threads}
@@ -43,6 +42,7 @@ use Rattle.et_history.proofs.steps.Records.{alike_itself, alike_then, same_size}
 use Rattle.et_history.proofs.texts.Events.{event_tells_objects as event_tells}
 use Rattle.et_history.proofs.soundness.Outcomes.{if_case}
 use Rattle.et_history.proofs.Freed.{past_at, settled_here, next_here}
+use Rattle.et_history.proofs.HistoryWords.{history_words}
 
 -- LINES
 
@@ -232,17 +232,7 @@ module _ (reached : Graph → ℕ → Bool) (p : Linked) (options : Options) (pi
   abbrev Before : ℕ → Type 0
   Before e = HistoryComesTo reached p options pick e
 
-  abbrev now : ℕ → State
-  now e = whole_at reached p options pick e
-
-  abbrev settled : ℕ → State
-  settled e = whole_settled_at reached p options pick e
-
-  abbrev turn : ℕ → ℕ
-  turn e = history.picked_turn (picked p options pick) (suc e) (settled e).kept
-
-  abbrev step : ℕ → Outcome Kept
-  step e = event_with_texts p (settled e).kept (turn e)
+  open history_words reached p options pick use {now, settled, turn, step}
 
   fewer : (e : ℕ) → Before (suc e) → Before e
   fewer e goes k lt = goes k (omega (arith, lt))

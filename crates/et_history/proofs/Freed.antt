@@ -16,13 +16,14 @@ use Rattle.et_state.specs.declared.options.Options.{Options}
 use Rattle.et_program.specs.Entries.{Linked}
 use Rattle.et_event.specs.Told.{event_with_texts}
 use Rattle.et_history.specs.steps.Changing.{KeepsMonitors}
-use Rattle.et_history.specs.Histories.{picked, whole_at, whole_settled_at, IsHistory, HistoryComesTo, WholeComesTo}
+use Rattle.et_history.specs.Histories.{picked, IsHistory, HistoryComesTo, WholeComesTo}
 use Rattle.et_history.specs.Same.{IsHere, IsReportedAs}
 use Rattle.et_history.specs.Settings.{unended_threads}
 use Rattle.et_history.specs.Whole.{beside, cleared, whole_flushed}
 use Rattle.et_history.proofs.Alike.{is_open}
 use Rattle.et_history.proofs.Wholes.{all_match, settled_match, go_on, keeps_at, flushed_here, reported_gone}
 use Rattle.et_history.proofs.soundness.Outcomes.{if_case}
+use Rattle.et_history.proofs.HistoryWords.{history_words}
 
 -- WHAT WAS REPORTED, after a flush
 
@@ -101,11 +102,7 @@ module _ (reached : Graph → ℕ → Bool) (p : Linked) (options : Options) (pi
   abbrev Before : ℕ → Type 0
   Before e = HistoryComesTo reached p options pick e
 
-  abbrev now : ℕ → State
-  now e = whole_at reached p options pick e
-
-  abbrev settled : ℕ → State
-  settled e = whole_settled_at reached p options pick e
+  open history_words reached p options pick use {now, settled}
 
   pub past_at : (e : ℕ) → Before e → IsPast (now e).kept.heap (now e).reported
   past_at e goes = (all_match reached p options pick runs e goes).1.past

@@ -2,6 +2,7 @@ pub mod Unended
 mod Agreeing
 pub mod Alike
 pub mod Wholes
+mod HistoryWords
 mod Freed
 pub mod Reporting
 mod Deaths

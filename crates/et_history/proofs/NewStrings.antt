@@ -1,7 +1,7 @@
 -- What an event has made so far are the objects of strings, on its way to its end. Each word keeps that but those that make
 -- an instance or an array, and what they make the event puts into a root place.
 use Rattle.std.proofs.Common.{◌≡◌, ℕ, ◌+◌, ◌<◌, ◌≤◌, false, List, [], ◌∷◌, ◌++◌, length, set, Option, Some, None, Contains, sym, subst, inl, inr, arith}
-use Rattle.std.specs.Prelude.{codes, is_some, fold}
+use Rattle.std.specs.Prelude.{is_some, fold}
 use Rattle.std.proofs.lemmas.Bool.{cases_lt}
 use Rattle.std.proofs.lemmas.List.{length-set, length-append, length_push, map-append}
 use Rattle.std.proofs.lemmas.List.Elements.{Contains-append_left, Contains-append_right}
@@ -11,22 +11,22 @@ use Rattle.et_base.proofs.Lists.{Contains-here}
 use Rattle.et_program.specs.Entries.{class_at, field_at}
 use Rattle.et_program.specs.declared.info.FieldInfo.{FieldInfo}
 use Rattle.et_heap.specs.declared.monitor.Monitor.{Monitor}
-use Rattle.et_heap.specs.Objects.{ObjectState, new_object, object_at, slot_of, with_slot, with_referent, with_monitor, with_object_at, with_queue}
+use Rattle.et_heap.specs.Objects.{ObjectState, object_at, slot_of, with_slot, with_referent, with_monitor, with_object_at, with_queue}
 use Rattle.et_state.specs.Threads.{FrameState, ThreadState, new_thread, with_top_of}
 use Rattle.et_state.specs.declared.class_state.ClassState.{ClassState}
 use Rattle.et_state.specs.declared.class_state.ClassState.TheVariants.{Untouched, Begun, Done, Failed}
 use Rattle.et_state.specs.Interned.{object_of, interned_objects}
 use Rattle.et_state.specs.State.{Kept}
-use Rattle.et_state.specs.Words.{thread_at, static_at, with_static, with_string}
+use Rattle.et_state.specs.Words.{thread_at, static_at, with_static}
 use Rattle.et_event.specs.BuiltIns.{with_referent_of, with_thread_for, with_reference_made, with_first_taken}
-use Rattle.et_event.specs.Errors.{class_called}
 use Rattle.et_event.specs.Initialization.{with_state, constant_set, field_set, constants_set, class_done, quietly_done, quietly_if_untouched, prepared, state_of}
 use Rattle.et_event.specs.Kinds.{narrowed}
-use Rattle.et_event.specs.Moments.{Moment, Doing, begins, doing_with_guest, with_thread_state, with_frame, next_object, instance_made, slot_written, static_written}
+use Rattle.et_event.specs.Moments.{Moment, Doing, begins, doing_with_guest, with_thread_state, with_frame, next_object, slot_written, static_written}
 use Rattle.et_event.specs.Monitors.{Lock, OfObject, OfClass, with_monitor_of}
 use Rattle.et_event.specs.Sites.{LoadedConstant, AnInt, ALong, AString, constant_at, pool_of_class}
 use Rattle.et_event.specs.Strings.{interned, string_object}
 use Rattle.et_history.proofs.steps.Heaps.{newest}
+use Rattle.et_history.proofs.steps.Words.{string_made, string_state}
 use Rattle.et_heap.specs.Queues.{with_waits, without_first_waiting, take_first}
 use Rattle.et_event.proofs.Values.{updated_state}
 use Rattle.et_history.proofs.soundness.Outcomes.{if_case}
@@ -106,32 +106,23 @@ monitor_strings e (OfClass c) m d h = record { thread = h.thread; strings = h.st
 -- STRINGS OF CONSTANTS
 
 pub interned_strings : (e : Moment) (bytes : List ℕ) (d : Doing) → OfStrings e d.state → OfStrings e (interned e bytes d).state
-interned_strings e bytes d h = if_case (λ (u : Doing). OfStrings e u.state) (is_some (object_of d.state.guest.interned bytes)) d x h made
+interned_strings e bytes d h = if_case (λ (u : Doing). OfStrings e u.state) (is_some (object_of d.state.guest.interned bytes)) d (string_made e bytes d) h made
   where
-    y : Doing
-    y = instance_made e (class_called e.program (codes "java/lang/String")) d
-
     n : ℕ
     n = next_object d
-
-    x : Doing
-    x = doing_with_guest (with_string y.state.guest bytes n) y
-
-    object : ObjectState
-    object = new_object (class_called e.program (codes "java/lang/String")) 0 (class_at e.program (class_called e.program (codes "java/lang/String"))).info.slots
 
     objects : interned_objects (d.state.guest.interned ++ (bytes, n) ∷ []) ≡ interned_objects d.state.guest.interned ++ n ∷ []
     objects = map-append (λ p. p.1) d.state.guest.interned ((bytes, n) ∷ [])
 
-    all : (o : ℕ) → length e.before.heap ≤ o → o < length (d.state.heap ++ Some object ∷ []) → Contains (interned_objects d.state.guest.interned ++ n ∷ []) o
+    all : (o : ℕ) → length e.before.heap ≤ o → o < length (d.state.heap ++ Some (string_state e) ∷ []) → Contains (interned_objects d.state.guest.interned ++ n ∷ []) o
     all o le lt = elim (cases_lt o (length d.state.heap)) [
       | inl old ↦ Contains-append_left (interned_objects d.state.guest.interned) (n ∷ []) o (h.strings o le old)
       | inr new ↦
-          subst (λ (k : ℕ). Contains (interned_objects d.state.guest.interned ++ n ∷ []) k) (newest (length_push d.state.heap (Some object)) new lt)
+          subst (λ (k : ℕ). Contains (interned_objects d.state.guest.interned ++ n ∷ []) k) (newest (length_push d.state.heap (Some (string_state e))) new lt)
           (Contains-append_right (interned_objects d.state.guest.interned) (n ∷ []) n (Contains-here n []))
     ]
 
-    made : OfStrings e x.state
+    made : OfStrings e (string_made e bytes d).state
     made = record { thread = h.thread; strings = λ o le lt. subst (λ (os : List ℕ). Contains os o) (sym objects) (all o le lt) }
 
 -- INITIALIZATION

@@ -4,7 +4,7 @@ use Rattle.std.specs.Prelude.{ℤ, option_to_list}
 use Rattle.std.proofs.lemmas.Bool.{cases_lt}
 use Rattle.std.proofs.lemmas.List.{length-set, length_push}
 use Rattle.et_base.specs.declared.value.Value.{Value}
-use Rattle.et_base.specs.declared.value.Value.TheVariants.{Unset, Int, Long, LongHigh, Null, Ref}
+use Rattle.et_base.specs.declared.value.Value.TheVariants.{Int, Long, LongHigh, Null, Ref}
 use Rattle.et_base.proofs.Lists.{Contains-here}
 use Rattle.et_graph.specs.Graph.{IsReached}
 use Rattle.et_program.specs.Entries.{class_at}
@@ -140,40 +140,21 @@ initialized_new e d c go h g = needed_new e d c (state_of d c) go h g
 
 module _ (e : Moment) (refused : Outcome Kept) (ill : New e refused) where
   pub each_int : (ops : List Value) (go : ℤ → List Value → Outcome Kept) → ((n : ℤ) (below : List Value) → New e (go n below)) → New e (with_int refused ops go)
-  each_int [] go h = ill
-  each_int (Unset ∷ below) go h = ill
   each_int (Int n ∷ below) go h = h n below
-  each_int (Long n ∷ below) go h = ill
-  each_int (LongHigh ∷ below) go h = ill
-  each_int (Null ∷ below) go h = ill
-  each_int (Ref o ∷ below) go h = ill
+  each_int other go h = ill
 
   each_high : (ops : List Value) (go : ℤ → List Value → Outcome Kept) → ((n : ℤ) (below : List Value) → New e (go n below)) → New e (with_long refused (LongHigh ∷ ops) go)
-  each_high [] go h = ill
-  each_high (Unset ∷ below) go h = ill
-  each_high (Int n ∷ below) go h = ill
   each_high (Long n ∷ below) go h = h n below
-  each_high (LongHigh ∷ below) go h = ill
-  each_high (Null ∷ below) go h = ill
-  each_high (Ref o ∷ below) go h = ill
+  each_high other go h = ill
 
   pub each_long : (ops : List Value) (go : ℤ → List Value → Outcome Kept) → ((n : ℤ) (below : List Value) → New e (go n below)) → New e (with_long refused ops go)
-  each_long [] go h = ill
-  each_long (Unset ∷ below) go h = ill
-  each_long (Int n ∷ below) go h = ill
-  each_long (Long n ∷ below) go h = ill
   each_long (LongHigh ∷ below) go h = each_high below go h
-  each_long (Null ∷ below) go h = ill
-  each_long (Ref o ∷ below) go h = ill
+  each_long other go h = ill
 
   pub each_reference : (ops : List Value) (go : Reference → List Value → Outcome Kept) → ((r : Reference) (below : List Value) → New e (go r below)) → New e (with_reference refused ops go)
-  each_reference [] go h = ill
-  each_reference (Unset ∷ below) go h = ill
-  each_reference (Int n ∷ below) go h = ill
-  each_reference (Long n ∷ below) go h = ill
-  each_reference (LongHigh ∷ below) go h = ill
   each_reference (Null ∷ below) go h = h None below
   each_reference (Ref o ∷ below) go h = h (Some o) below
+  each_reference other go h = ill
 
   pub each_value : (kind : Option Operand) (ops : List Value) (go : Value → List Value → Outcome Kept) → ((v : Value) (below : List Value) → New e (go v below)) → New e (with_value kind refused ops go)
   each_value None ops go h = ill

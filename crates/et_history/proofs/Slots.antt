@@ -24,7 +24,6 @@ use Rattle.et_state.specs.declared.records.Record.{Record}
 use Rattle.et_state.specs.declared.records.Record.TheVariants.{Alloc, Update, Enter, Exit, Unwind}
 use Rattle.et_state.proofs.Enqueued.{length-flushed, flushed_held, flushed_same}
 use Rattle.et_state.proofs.UnderWay.{sound_graph}
-use Rattle.et_event.specs.Told.{event_with_texts}
 use Rattle.et_event.specs.Moments.{number_of_value}
 use Rattle.et_event.specs.Sound.{IsSoundFor}
 use Rattle.et_event.specs.Start.{start_records}
@@ -34,7 +33,7 @@ use Rattle.et_history.specs.steps.Writes.{HasCause, IsAtHand, IsOfReached, TellW
 use Rattle.et_history.specs.texts.Writing.{TellsOtherWrites, reference_told}
 use Rattle.et_history.proofs.texts.Events.{event_tells_objects as event_tells, event_writes_to_what_is_reached as event_writes_to_reached}
 use Rattle.et_history.proofs.texts.Writing.{event_tells_other_writes, told_is, told_there}
-use Rattle.et_history.specs.Histories.{picked, whole_at, whole_picked, whole_settled_at, IsHistory, WholeComesTo}
+use Rattle.et_history.specs.Histories.{whole_picked, IsHistory, WholeComesTo}
 use Rattle.et_history.specs.Settings.{unended_threads}
 use Rattle.et_history.specs.Slots.{IsOfEvent, after_records, told_by}
 use Rattle.et_history.specs.Whole.{beside, whole_flushed, whole_start}
@@ -44,6 +43,7 @@ use Rattle.et_history.proofs.Wholes.{Stands, go_on, keeps_at, picked_unended, re
 use Rattle.et_history.proofs.NewArrays.{unset_at}
 use Rattle.et_history.proofs.soundness.Outcomes.{if_case}
 use Rattle.et_history.proofs.steps.WaitingLists.{beyond}
+use Rattle.et_history.proofs.HistoryWords.{history_words}
 
 -- RECORDS
 
@@ -191,17 +191,7 @@ module _ (reached : Graph → ℕ → Bool) (p : Linked) (options : Options) (pi
   abbrev Before : ℕ → Type 0
   Before e = WholeComesTo reached p options pick e
 
-  abbrev now : ℕ → State
-  now e = whole_at reached p options pick e
-
-  abbrev settled : ℕ → State
-  settled e = whole_settled_at reached p options pick e
-
-  abbrev turn : ℕ → ℕ
-  turn e = history.picked_turn (picked p options pick) (suc e) (settled e).kept
-
-  abbrev step : ℕ → Outcome Kept
-  step e = event_with_texts p (settled e).kept (turn e)
+  open history_words reached p options pick use {now, settled, turn, step}
 
   abbrev told : ℕ → (object slot : ℕ) → ℕ
   told e = told_by reached (whole_picked p options pick) (whole_start p) (start_records p) e

@@ -1,24 +1,19 @@
 -- What the rules on the fields of class files say.
-use Rattle.std.proofs.Common.{◌≡◌, ℕ, ◌+◌, Bool, true, false, not, ◌&&◌, ◌||◌, ◌==◌, List, [], ◌++◌, length, map, Option, refl, sym}
+use Rattle.std.proofs.Common.{◌≡◌, ℕ, ◌+◌, Bool, true, false, not, ◌&&◌, ◌||◌, ◌==◌, List, [], map, Option, refl, sym}
 use mathlib.Core.Logic.{⊎_elim}
 use Rattle.std.specs.Prelude.{All, if◌then◌else◌}
 use Rattle.std.specs.List.{list_any, find}
 use Rattle.std.proofs.lemmas.Bool.{and_parts, or_cases, not-true, both_ways, false≢true}
 use Rattle.std.proofs.lemmas.List.Elements.{All-map}
-use Rattle.et_base.specs.Marks.{Mark}
 use Rattle.et_pool.specs.Entries.{Item}
-use Rattle.et_pool.specs.Looks.{end_of}
 use Rattle.et_class.specs.declared.flags.TheConstants.{STATIC, INTERFACE}
 use Rattle.et_class.specs.Names.{has}
-use Rattle.et_class.specs.Layout.{ClassOf, MemberOf, AttributeOf, member_bytes, attribute_bytes, u2, counted_bytes}
-use Rattle.et_class.specs.Along.{along}
-use Rattle.et_class.specs.Fields.{field_marks, field_attribute_marks, is_field_flags, is_field_attribute, is_value_well, is_constant_value, is_constant, index_in, attribute_marks}
-use Rattle.et_class.specs.Rules.{pool_marks, header_marks, header_of}
-use Rattle.et_class.specs.Methods.{method_marks}
+use Rattle.et_class.specs.Layout.{ClassOf, MemberOf, AttributeOf, member_bytes, attribute_bytes}
+use Rattle.et_class.specs.Fields.{field_marks, field_attribute_marks, is_field_flags, is_field_attribute, is_value_well, is_constant_value, is_constant, index_in}
 use Rattle.et_class.specs.Classes.{IsClassFile}
 use Rattle.et_program.specs.Loaded.{LoadedMember, loaded_class, loaded_field}
 use Rattle.et_history.specs.programs.Fields.{HasStaticFields, HasStaticConstants}
-use Rattle.et_history.proofs.programs.Marks.{AreWell, well_before, well_behind, well_first, well_rest, along_each}
+use Rattle.et_history.proofs.programs.Marks.{AreWell, along_each, fields_place, well_first, well_members, well_rest}
 
 -- the rules on a field
 pub record IsWellField (slots : List (Option Item)) (interface : Bool) (m : MemberOf) : Type 0 where
@@ -49,14 +44,7 @@ well_field slots interface before place m h = record {
 pub well_fields : (bytes : List ℕ) (c : ClassOf) → IsClassFile bytes c → All (IsWellField c.slots (has c.flags INTERFACE)) c.fields
 well_fields bytes c is =
     let face : Bool = has c.flags INTERFACE in
-    let place : ℕ = end_of 8 c.slots + 6 + length (counted_bytes u2 c.interfaces) in
-    let header : List Mark = header_marks c.slots (end_of 8 c.slots) (header_of c) in
-    let fields : List Mark = along member_bytes (field_marks c.slots face) [] (place + 2) c.fields in
-    let methods : List Mark = along member_bytes (method_marks c.slots) [] (place + length (counted_bytes member_bytes c.fields) + 2) c.methods in
-    let others : List Mark = along attribute_bytes (attribute_marks c.slots) [] (place + length (counted_bytes member_bytes c.fields) + length (counted_bytes member_bytes c.methods) + 2) c.attributes in
-    let behind : AreWell (header ++ (fields ++ (methods ++ others))) = well_behind (pool_marks c.slots) (header ++ (fields ++ (methods ++ others))) (record { none = is.rules }) in
-    along_each (IsWellField c.slots face) member_bytes (field_marks c.slots face) (λ before at m w. well_field c.slots face before at m w) [] (place + 2) c.fields
-    (well_before fields (methods ++ others) (well_behind header (fields ++ (methods ++ others)) behind))
+    along_each (IsWellField c.slots face) member_bytes (field_marks c.slots face) (λ before at m w. well_field c.slots face before at m w) [] (fields_place c) c.fields (well_members bytes c is).fields
 
 -- those of an interface are static
 static_by : (face : Bool) (flags : ℕ) → is_field_flags face flags ≡ true → face ≡ true → has flags STATIC ≡ true

@@ -43,7 +43,7 @@ use Rattle.et_history.proofs.programs.Lists.{all_pass}
 use Rattle.et_history.proofs.programs.Chains.{chain_above, apart}
 use Rattle.et_history.proofs.programs.Making.{numbered_all, named_in}
 use Rattle.et_history.proofs.programs.Places.{at_map, one_of}
-use Rattle.et_history.proofs.programs.Slotted.{has_slots, field_is, is_placed, low as field_low, class_below, slots_are, no_array, below_is, in_lineage}
+use Rattle.et_history.proofs.programs.Slotted.{layout, has_slots, field_is, is_placed, low as field_low, class_below, slots_are, no_array, below_is, in_lineage}
 use Rattle.et_history.specs.programs.Fields.{HasStaticFields}
 use Rattle.et_history.proofs.programs.Above.{interface_is, knows_interfaces}
 use Rattle.et_history.proofs.programs.Classes.{length_all, array_in}
@@ -138,17 +138,7 @@ others_in files =
 -- A PROGRAM
 
 module _ (files : List LoadedClass) (rows : List Ancestry) (pools : List Constants) (is : IsAncestry (links (set_of files)) rows) where
-  abbrev p : Linked
-  p = program_with files rows pools
-
-  abbrev declared : ℕ → FieldInfo
-  declared f = slice_index_or (fields_of files) f no_field
-
-  abbrev own : ℕ → ℕ
-  own q = own_slots (fields_of files) q
-
-  abbrev above : ℕ → ℕ
-  above q = slots_above (fields_of files) rows q
+  open layout files rows pools use {p, declared, own, above}
 
   abbrev supers : ℕ → List ℕ
   supers k = (ancestry_at rows k).supers

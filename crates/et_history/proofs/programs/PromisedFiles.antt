@@ -1,5 +1,5 @@
 -- What the rules on the methods of class files say.
-use Rattle.std.proofs.Common.{◌≡◌, ℕ, ◌+◌, ◌≤◌, Bool, true, false, not, ◌||◌, ◌==◌, cond, List, [], ◌∷◌, ◌++◌, length, map, Option, None, Some, is_some, Result, Ok, Err, refl, sym, ◌∙◌, ap, subst, inl, inr}
+use Rattle.std.proofs.Common.{◌≡◌, ℕ, ◌+◌, ◌≤◌, Bool, true, false, not, ◌||◌, ◌==◌, cond, List, [], ◌∷◌, map, Option, None, Some, is_some, Result, Ok, Err, refl, sym, ◌∙◌, ap, subst, inl, inr}
 use mathlib.Core.Logic.{⊎_elim}
 use Rattle.std.specs.Prelude.{All, sum_by, nat_le, option_map, option_and_then, if◌then◌else◌}
 use Rattle.std.specs.List.{list_any, find, flat_map}
@@ -8,7 +8,7 @@ use Rattle.std.proofs.lemmas.List.Elements.{All-head, All-tail, All-map}
 use Rattle.et_base.specs.Marks.{Mark, Breaks, MarksAre, mark}
 use Rattle.et_base.specs.Numbers.{AreBytes}
 use Rattle.et_pool.specs.Entries.{Item}
-use Rattle.et_pool.specs.Looks.{end_of, utf8_at, tag_of_slot}
+use Rattle.et_pool.specs.Looks.{utf8_at, tag_of_slot}
 use Rattle.et_pool.specs.Descriptors.{MethodType, method_type, shape_of_method, width_of}
 use Rattle.et_pool.specs.declared.descriptor.MethodShape.{MethodShape}
 use Rattle.et_code.specs.declared.instr.Instr.{Instr}
@@ -18,13 +18,12 @@ use Rattle.et_code.specs.Rules.{code_marks}
 use Rattle.et_code.specs.Starts.{IsStart, starts}
 use Rattle.et_code.proofs.Starting.{starts_are_all}
 use Rattle.et_class.specs.declared.fault.TheConstants.{ATTRIBUTE}
-use Rattle.et_class.specs.declared.flags.TheConstants.{STATIC, NATIVE, ABSTRACT, INTERFACE}
+use Rattle.et_class.specs.declared.flags.TheConstants.{STATIC, NATIVE, ABSTRACT}
 use Rattle.et_class.specs.declared.names.TheConstants.{CLINIT}
 use Rattle.et_class.specs.Names.{has, is_text}
-use Rattle.et_class.specs.Layout.{ClassOf, MemberOf, AttributeOf, member_bytes, attribute_bytes, u2, counted_bytes}
+use Rattle.et_class.specs.Layout.{ClassOf, MemberOf, AttributeOf, member_bytes, attribute_bytes}
 use Rattle.et_class.specs.Along.{along}
-use Rattle.et_class.specs.Fields.{field_marks, attribute_marks}
-use Rattle.et_class.specs.Rules.{pool_marks, header_marks, header_of}
+use Rattle.et_class.specs.Fields.{attribute_marks}
 use Rattle.et_class.specs.Codes.{CodeOf, code_at, named_marks, decoding_marks, mark_moved, body_marks}
 use Rattle.et_class.specs.Methods as methods
 use Rattle.et_class.specs.Methods.{is_method_flags, is_init, shape_at, receiver_words, is_shape_well, arguments_fit_locals, is_code, code_attribute_marks, code_marks_if, method_attribute_marks_if, method_attribute_marks, is_code_well, method_marks, body_in, code_of}
@@ -35,7 +34,7 @@ use Rattle.et_event.specs.Calls.{entry_count}
 use Rattle.et_program.specs.Files.{or_empty}
 use Rattle.et_program.specs.Loaded.{LoadedMember, loaded_class, loaded_method}
 use Rattle.et_program.specs.MembersOf.{pool_text}
-use Rattle.et_history.proofs.programs.Marks.{AreWell, well_before, well_behind, well_first, well_rest, along_each}
+use Rattle.et_history.proofs.programs.Marks.{AreWell, along_each, methods_place, well_before, well_behind, well_first, well_members, well_rest}
 use Rattle.et_history.specs.programs.Rules.{is_clinit_name, KeepsNames, KeepsCode, KeepsMethodRules, KeepsCodeRules}
 
 -- A METHOD
@@ -88,16 +87,7 @@ well_method slots before place m h =
     }
 
 pub well_methods : (bytes : List ℕ) (c : ClassOf) → IsClassFile bytes c → All (IsWellMethod c.slots) c.methods
-well_methods bytes c is =
-    let face : Bool = has c.flags INTERFACE in
-    let place : ℕ = end_of 8 c.slots + 6 + length (counted_bytes u2 c.interfaces) in
-    let header : List Mark = header_marks c.slots (end_of 8 c.slots) (header_of c) in
-    let fields : List Mark = along member_bytes (field_marks c.slots face) [] (place + 2) c.fields in
-    let methods : List Mark = along member_bytes (method_marks c.slots) [] (place + length (counted_bytes member_bytes c.fields) + 2) c.methods in
-    let others : List Mark = along attribute_bytes (attribute_marks c.slots) [] (place + length (counted_bytes member_bytes c.fields) + length (counted_bytes member_bytes c.methods) + 2) c.attributes in
-    let behind : AreWell (header ++ (fields ++ (methods ++ others))) = well_behind (pool_marks c.slots) (header ++ (fields ++ (methods ++ others))) (record { none = is.rules }) in
-    along_each (IsWellMethod c.slots) member_bytes (method_marks c.slots) (λ before at m w. well_method c.slots before at m w) [] (place + length (counted_bytes member_bytes c.fields) + 2) c.methods
-    (well_before methods others (well_behind fields (methods ++ others) (well_behind header (fields ++ (methods ++ others)) behind)))
+well_methods bytes c is = along_each (IsWellMethod c.slots) member_bytes (method_marks c.slots) (λ before at m w. well_method c.slots before at m w) [] (methods_place c) c.methods (well_members bytes c is).methods
 
 -- ITS CODE
 

@@ -102,20 +102,24 @@ own_by files q false e = omega arith
 own_enough : (files : List LoadedClass) (q : ℕ) → count_by (is_instance_of q) (fields_of files) ≤ own_slots (fields_of files) q
 own_enough files q = own_by files q (nat_lt q (length boots)) refl
 
--- A PROGRAM
+-- A PROGRAM, its fields as they are declared, and by the class how many slots an object has of its own and of those above
+
+pub record Layout : Type 0 where
+  pub p : Linked
+  pub declared : ℕ → FieldInfo
+  pub own : ℕ → ℕ
+  pub above : ℕ → ℕ
+
+abbrev pub layout : List LoadedClass → List Ancestry → List Constants → Layout
+layout files rows pools = record {
+  p = program_with files rows pools;
+  declared = λ f. slice_index_or (fields_of files) f no_field;
+  own = λ q. own_slots (fields_of files) q;
+  above = λ q. slots_above (fields_of files) rows q;
+}
 
 module _ (files : List LoadedClass) (rows : List Ancestry) (pools : List Constants) (is : IsAncestry (links (set_of files)) rows) where
-  abbrev p : Linked
-  p = program_with files rows pools
-
-  abbrev declared : ℕ → FieldInfo
-  declared f = slice_index_or (fields_of files) f no_field
-
-  abbrev own : ℕ → ℕ
-  own q = own_slots (fields_of files) q
-
-  abbrev above : ℕ → ℕ
-  above q = slots_above (fields_of files) rows q
+  open layout files rows pools use {p, declared, own, above}
 
   pub field_is : (f : ℕ) → f < length p.fields → field_at p f ≡ record (declared f) { slot = slot_of_field (slots_above (fields_of files) rows) (take f (fields_of files)) (declared f) }
   field_is f lt = placed_at (slots_above (fields_of files) rows) [] (fields_of files) f (subst (λ (n : ℕ). f < n) (length-placed (slots_above (fields_of files) rows) [] (fields_of files)) lt)

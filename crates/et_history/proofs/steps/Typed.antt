@@ -15,21 +15,13 @@ use Rattle.et_history.proofs.steps.Taken.{int_given}
 
 -- an int stands there, or nothing
 int_there : (old : Value) → is_of_kind (Some operand.Int) old ≡ true → number_of_value old ≡ 0
-int_there Unset h = refl
-int_there (Int n) h = refl
-int_there (Long n) h = refl
-int_there LongHigh h = refl
-int_there Null h = refl
 int_there (Ref o) h = absurd (false≢true h)
+int_there other h = refl
 
 -- .. or a long
 long_there : (old : Value) → is_of_kind (Some operand.Long) old ≡ true → number_of_value old ≡ 0
-long_there Unset h = refl
-long_there (Int n) h = refl
-long_there (Long n) h = refl
-long_there LongHigh h = refl
-long_there Null h = refl
 long_there (Ref o) h = absurd (false≢true h)
+long_there other h = refl
 
 by_kind : (kind : Option Operand) (v old : Value) → is_of_kind kind v ≡ true → (v ≡ Unset → ⊥) → is_of_kind kind old ≡ true → IsReference v ⊎ (number_of_value old ≡ 0)
 by_kind kind Unset old is given was = absurd (given refl)
@@ -54,24 +46,16 @@ reference_or_none kind v old typed was = by_kind kind v old typed.kind typed.giv
 
 -- what a field or an element keeps of a reference is it
 narrowed_reference : (descriptor : List ℕ) (v : Value) → IsReference v → IsReference (narrowed descriptor v)
-narrowed_reference descriptor Unset is = is
 narrowed_reference descriptor (Int n) is = absurd is
-narrowed_reference descriptor (Long n) is = is
-narrowed_reference descriptor LongHigh is = is
-narrowed_reference descriptor Null is = is
-narrowed_reference descriptor (Ref o) is = is
+narrowed_reference descriptor other is = is
 
 pub narrowed_plain : (descriptor : List ℕ) (v old : Value) → IsReference v ⊎ (number_of_value old ≡ 0) → IsReference (narrowed descriptor v) ⊎ (number_of_value old ≡ 0)
 narrowed_plain descriptor v old (inl is) = inl (narrowed_reference descriptor v is)
 narrowed_plain descriptor v old (inr none) = inr none
 
 pub narrowed_given : (descriptor : List ℕ) (v : Value) → (v ≡ Unset → ⊥) → narrowed descriptor v ≡ Unset → ⊥
-narrowed_given descriptor Unset given = given
 narrowed_given descriptor (Int n) given = int_given _
-narrowed_given descriptor (Long n) given = given
-narrowed_given descriptor LongHigh given = given
-narrowed_given descriptor Null given = given
-narrowed_given descriptor (Ref o) given = given
+narrowed_given descriptor other given = given
 
 kept_null : (kind : Elements) → IsReference (kept_element kind Null)
 kept_null elements.Int = tt
@@ -90,12 +74,9 @@ kept_ref elements.Char o = tt
 kept_ref elements.Short o = tt
 
 kept_reference : (kind : Elements) (v : Value) → IsReference v → IsReference (kept_element kind v)
-kept_reference kind Unset is = absurd is
-kept_reference kind (Int n) is = absurd is
-kept_reference kind (Long n) is = absurd is
-kept_reference kind LongHigh is = absurd is
 kept_reference kind Null is = kept_null kind
 kept_reference kind (Ref o) is = kept_ref kind o
+kept_reference kind other is = absurd is
 
 pub kept_plain : (kind : Elements) (v old : Value) → IsReference v ⊎ (number_of_value old ≡ 0) → IsReference (kept_element kind v) ⊎ (number_of_value old ≡ 0)
 kept_plain kind v old (inl is) = inl (kept_reference kind v is)

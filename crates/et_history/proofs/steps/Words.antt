@@ -285,20 +285,20 @@ pub record Interned (e : Moment) (w : Way) (bytes : List ℕ) (d x : Doing) : Ty
   pub stays : (o : ℕ) → IsHeld d.state.heap o → IsHeld x.state.heap o
   pub held : IsHeld x.state.heap (string_object bytes x)
 
+-- the object of a string, where none was made yet, and what is done once it is
+abbrev pub string_state : Moment → ObjectState
+string_state e = let class = class_called e.program (codes "java/lang/String") in new_object class 0 (class_at e.program class).info.slots
+
+abbrev pub string_made : Moment → List ℕ → Doing → Doing
+string_made e bytes d =
+    let x = instance_made e (class_called e.program (codes "java/lang/String")) d in
+    doing_with_guest (with_string x.state.guest bytes (next_object d)) x
+
 pub interned_still : (e : Moment) {w : Way} (bytes : List ℕ) (d : Doing) → Still e w d.state → Interned e w bytes d (interned e bytes d)
 interned_still e {w = w} bytes d h = by (object_of d.state.guest.interned bytes) refl
   where
-    y : Doing
-    y = instance_made e (class_called e.program (codes "java/lang/String")) d
-
-    n : ℕ
-    n = next_object d
-
     x : Doing
-    x = doing_with_guest (with_string y.state.guest bytes n) y
-
-    object : ObjectState
-    object = new_object (class_called e.program (codes "java/lang/String")) 0 (class_at e.program (class_called e.program (codes "java/lang/String"))).info.slots
+    x = string_made e bytes d
 
     by : (q : Option ℕ) → object_of d.state.guest.interned bytes ≡ q → Interned e w bytes d (if is_some q then d else x)
     by (Some o) is = record {
@@ -306,11 +306,13 @@ interned_still e {w = w} bytes d h = by (object_of d.state.guest.interned bytes)
       stays = λ k held. held;
       held = subst (λ (r : Option ℕ). IsHeld d.state.heap (unwrap_or r 0)) (sym is) (h.changes.sound.roots o (string_root d.state.guest o (object_in d.state.guest.interned bytes o is)));
     }
-    by None is = record {
-      still = string_still e bytes n y.state (instance_still e (class_called e.program (codes "java/lang/String")) d h) (newest_held d.state.heap object);
-      stays = λ k held. made_held d.state.heap object k refl held;
-      held = subst (λ (r : Option ℕ). IsHeld x.state.heap (unwrap_or r 0)) (sym (object_pushed d.state.guest.interned bytes n is)) (newest_held d.state.heap object);
-    }
+    by None is =
+        let y : Doing = instance_made e (class_called e.program (codes "java/lang/String")) d in
+        record {
+          still = string_still e bytes (next_object d) y.state (instance_still e (class_called e.program (codes "java/lang/String")) d h) (newest_held d.state.heap (string_state e));
+          stays = λ k held. made_held d.state.heap (string_state e) k refl held;
+          held = subst (λ (r : Option ℕ). IsHeld x.state.heap (unwrap_or r 0)) (sym (object_pushed d.state.guest.interned bytes (next_object d) is)) (newest_held d.state.heap (string_state e));
+        }
 
 -- EXCEPTIONS
 

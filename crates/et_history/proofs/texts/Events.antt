@@ -232,8 +232,7 @@ module _ (p : Linked) (s : Kept) (t : ℕ) (sound : IsSoundFor p s) (unended : I
   monitors_beside : (o : Outcome Kept) → KeepsMonitors (moment p (silent s) t) o → KeepsMonitors now (keeping own o)
   monitors_beside (outcome.Goes next records) h = moves_spoken p (silent s) t own own _ _ next h
   monitors_beside (outcome.Waits next) h = ap (λ (k : Kept). spoken own k) h
-  monitors_beside (outcome.IllTyped method pc) h = tt
-  monitors_beside outcome.ObjectLimit h = tt
+  monitors_beside other h = tt
 
   pub event_with_texts_keeps_monitors : KeepsMonitors now (event_with_texts p s t)
   event_with_texts_keeps_monitors =
@@ -245,8 +244,7 @@ module _ (p : Linked) (s : Kept) (t : ℕ) (sound : IsSoundFor p s) (unended : I
   lists_beside : (o : Outcome Kept) → LeadsLined (moment p (silent s) t) o → LeadsLined now (keeping own o)
   lists_beside (outcome.Goes next records) h = h
   lists_beside (outcome.Waits next) h = ap (λ (k : Kept). spoken own k) h
-  lists_beside (outcome.IllTyped method pc) h = tt
-  lists_beside outcome.ObjectLimit h = tt
+  lists_beside other h = tt
 
   pub event_with_texts_keeps_lists : LeadsLined now (event_with_texts p s t)
   event_with_texts_keeps_lists =
@@ -258,8 +256,7 @@ module _ (p : Linked) (s : Kept) (t : ℕ) (sound : IsSoundFor p s) (unended : I
   sound_beside : (o : Outcome Kept) → LeadsToSound p o → LeadsToSound p (keeping own o)
   sound_beside (outcome.Goes next records) h = sound-spoken p next own h
   sound_beside (outcome.Waits next) h = sound-spoken p next own h
-  sound_beside (outcome.IllTyped method pc) h = tt
-  sound_beside outcome.ObjectLimit h = tt
+  sound_beside other h = tt
 
   stands : s.guest.clock < 2 ^ 40 → turn_of (thread_of now) ≡ Instruction → (x : Instr × ℕ) (at : Site) → decoded_at p (current_frame now) ≡ Ok x → at ≡ site_of p (current_frame now) x → StandsAt now at
   stands few turn x at is same = subst (λ (z : Site). StandsAt now z) (sym same) (stands_at now (record { sound = sound; clock = few; unended = unended }) turn x is)
