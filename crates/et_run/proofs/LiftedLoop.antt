@@ -44,7 +44,7 @@ so_far_none p was heap e most first below now old before here same under = recor
   visits = omega arith;
 }
 
-module _ (p : Linked) (was heap : Objects) (e most count : ℕ) (first : FrameState) (below : List FrameState) (now : RunningState) (old between : List ℕ) (before visits : ℕ) (so : SoFar p was heap e most count first below now old between before visits) where
+module _ {p : Linked} {was heap : Objects} {e most count : ℕ} {first : FrameState} {below : List FrameState} {now : RunningState} {old between : List ℕ} {before visits : ℕ} (so : SoFar p was heap e most count first below now old between before visits) where
   pub method_now : (m : MethodInfo) → m ≡ running_method p first → m ≡ running_method p now.frame
   method_now m is = is ∙ sym (same_method p first now.frame so.stays)
 

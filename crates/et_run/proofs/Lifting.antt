@@ -96,23 +96,14 @@ few_visits (suc k) before visited after so few unread = omega (arith, so, few)
 -- A NUMBER OF THE POOL, OR A DIVISION
 
 -- no plain instruction calls a method of texts, or reads System.out
-no_text : (e : Moment) (at : Site) (row : Row) → is_plain row ≡ true → text_call_at e at row ≡ None
-no_text e at (rows.Frame r) h = refl
-no_text e at rows.PoolConstant h = refl
-no_text e at (rows.Divide n o) h = refl
-no_text e at (rows.Heap r) h = cc
-no_text e at (rows.Call r) h = cc
-no_text e at rows.Throw h = cc
-no_text e at (rows.Monitor r) h = cc
-
-no_out : (e : Moment) (at : Site) (row : Row) → is_plain row ≡ true → out_at e at row ≡ None
-no_out e at (rows.Frame r) h = refl
-no_out e at rows.PoolConstant h = refl
-no_out e at (rows.Divide n o) h = refl
-no_out e at (rows.Heap r) h = cc
-no_out e at (rows.Call r) h = cc
-no_out e at rows.Throw h = cc
-no_out e at (rows.Monitor r) h = cc
+untold : (e : Moment) (at : Site) (row : Row) → is_plain row ≡ true → (text_call_at e at row ≡ None) × (out_at e at row ≡ None)
+untold e at (rows.Frame r) h = (refl, refl)
+untold e at rows.PoolConstant h = (refl, refl)
+untold e at (rows.Divide n o) h = (refl, refl)
+untold e at (rows.Heap r) h = absurd (cc)
+untold e at (rows.Call r) h = absurd (cc)
+untold e at rows.Throw h = absurd (cc)
+untold e at (rows.Monitor r) h = absurd (cc)
 
 all_stays : (f f' : FrameState) → KeepsLocals f f' → Stays f f'
 all_stays f f' keeps = keeps ∙ ap (λ (vs : List Value). record f { pc = f'.pc; locals = vs; operands = f'.operands }) (sym (ap (λ (x : FrameState). x.locals) keeps))
@@ -137,10 +128,10 @@ module _ (p : Linked) (heap : Objects) (f : FrameState) (x : Instr × ℕ) (row 
       let at : Site = site_of p (top g t) x in (
         ap (λ (y : Turn). text_call_in e y) i.turn
             ∙ (ap (λ (d : Result (Instr × ℕ) CodeFault). text_call_by e d) (decoded_there g t i.frame)
-            ∙ (ap (λ (r : Option Row). option_and_then (text_call_at e at) r) at_row ∙ no_text e at row plain)),
+            ∙ (ap (λ (r : Option Row). option_and_then (text_call_at e at) r) at_row ∙ (untold e at row plain).0)),
         out_at_turn p (over heap g) t Instruction i.turn
             ∙ (ap (λ (d : Result (Instr × ℕ) CodeFault). out_by e d) (decoded_there g t i.frame)
-            ∙ (ap (λ (r : Option Row). option_and_then (out_at e at) r) at_row ∙ no_out e at row plain)),
+            ∙ (ap (λ (r : Option Row). option_and_then (out_at e at) r) at_row ∙ (untold e at row plain).1)),
       )
 
   plain_over : (f' : FrameState) (lost : List ℕ) → ChangesFrame (site_of p f x) row f (Some f') → MovesInFrame f f' lost → KeepsLocals f f' → IsStepOver p heap heap f f' lost

@@ -1,7 +1,6 @@
 //! Events of a machine that one thread does at once.
 ghost use Rattle.std.specs.Prelude.{◌≡◌, ℕ, ◌+◌, ◌*◌, ◌<◌, ◌≤◌, ◌^◌, [], None, All, Contains, IfOk, IsTrue, OnErr, OnOk, length, slice_index};
 ghost use Rattle.et_event.specs.Told.{event_with_texts, said_by};
-ghost use Rattle.et_heap.specs.Objects.{made_count};
 ghost use Rattle.et_history.specs.Settings.{IsSoundRun, unended_threads};
 ghost use Rattle.et_history.specs.steps.Telling.{names_of_program};
 ghost use Rattle.et_loop.specs.Quiet.{AreQuiet, IsStretch, IsBrokenOff};
@@ -10,8 +9,8 @@ ghost use Rattle.et_loop.specs.Stamping.{AreMade, HasStamps};
 ghost use Rattle.et_state.specs.Answers.{TicksWhereDone};
 ghost use Rattle.et_state.specs.Naming.{IsNamed};
 ghost use Rattle.et_state.specs.Roots.{graph_of};
+ghost use Rattle.et_run.specs.Standing.{IsAsItStood};
 ghost use Rattle.et_run.specs.WithTexts.{state_of};
-ghost use Rattle.et_state.specs.Threads.{unended_of};
 
 use crate::lifted::lifted_events;
 use crate::steps::running_event;
@@ -49,12 +48,7 @@ fn is_done(end: &EventEnd) -> bool
 #[inline(always)]
 fn stands(machine: &Machine, standing: &Standing) -> bool
     requires { standing.now.place < standing.now.threads }
-    ensures objects { IsTrue result → made_count machine.now.heap ≡ standing.now.objects }
-    ensures threads { IsTrue result →
-        length (unended_of machine.now.guest.threads) ≡ standing.now.threads }
-    ensures thread { IsTrue result →
-        slice_index (unended_of machine.now.guest.threads) standing.now.place
-        ≡ standing.now.thread }
+    ensures { IsTrue result → IsAsItStood machine.now standing.now }
 {
     if machine.heap.count() != standing.objects || machine.unended_count() != standing.threads {
         return false;
@@ -69,12 +63,7 @@ fn is_quiet(machine: &Machine, standing: &Standing, end: &EventEnd, out: &Output
     ensures done { IsTrue result → end_after 0 end.now ≡ None }
     ensures told { IsTrue result → out.now.records ≡ [] }
     ensures unsaid { IsTrue result → out.now.said.items ≡ [] }
-    ensures objects { IsTrue result → made_count machine.now.heap ≡ standing.now.objects }
-    ensures threads { IsTrue result →
-        length (unended_of machine.now.guest.threads) ≡ standing.now.threads }
-    ensures thread { IsTrue result →
-        slice_index (unended_of machine.now.guest.threads) standing.now.place
-        ≡ standing.now.thread }
+    ensures stands { IsTrue result → IsAsItStood machine.now standing.now }
 {
     is_done(end)
         && out.records.records().is_empty()

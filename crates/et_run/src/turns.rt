@@ -1,6 +1,6 @@
 //! The event of a thread that has the turn.
 ghost use Rattle.std.specs.Prelude.{◌≡◌, ◌+◌, ◌-◌, ◌<◌, ◌≤◌, ◌^◌, IfOk, IsSome, OnOk, length};
-ghost use Rattle.et_event.specs.Answered.{DefersOrAnswers, TextAnswers};
+ghost use Rattle.et_event.specs.Answered.{TextAnswers};
 ghost use Rattle.et_event.specs.Beginning.{BeginsEvent};
 ghost use Rattle.et_event.specs.Event.{event};
 ghost use Rattle.et_event.specs.Families.{family_of as family};
@@ -9,7 +9,7 @@ ghost use Rattle.et_event.specs.Runnable.{IsRunnable};
 ghost use Rattle.et_event.specs.Sound.{IsSoundFor};
 ghost use Rattle.et_event.specs.SoundTexts.{HasSoundTexts};
 ghost use Rattle.et_event.specs.Told.{event_with_texts, said_by};
-ghost use Rattle.et_run.specs.WithTexts.{state_of, text_turn};
+ghost use Rattle.et_run.specs.WithTexts.{TurnAnswers, state_of, text_turn};
 ghost use Rattle.et_state.specs.Answers.{SaysWhereDone};
 ghost use Rattle.et_state.specs.Outcome.{state_after};
 ghost use Rattle.et_state.specs.State.{kept_of};
@@ -43,9 +43,8 @@ fn call_turn_event<L: Ledger>(
 ) -> Result<EventEnd, NoMemory>
     requires begins { BeginsEvent program.now machine.old thread }
     requires family { family program.now (kept_of machine.old) thread ≡ families.Calls }
-    ensures event { IfOk result (λ end.
-        DefersOrAnswers (text_turn program.now (kept_of machine.old) thread) (event program.now
-        (kept_of machine.old) thread) end machine.old machine.new out.old out.new) }
+    ensures event { IfOk result (λ end. TurnAnswers program.now thread end
+        machine.old machine.new out.old out.new) }
     ensures visits { visits.new ≤ visits.old + 7 }
     ensures deferred { IsSome (text_turn program.now (kept_of machine.old) thread) →
         visits.new ≤ visits.old + 2 }
@@ -71,9 +70,8 @@ fn event_by_family<L: Ledger>(
     visits: &mut Steps<L>,
 ) -> Result<EventEnd, NoMemory>
     requires begins { BeginsEvent program.now machine.old thread }
-    ensures event { IfOk result (λ end.
-        DefersOrAnswers (text_turn program.now (kept_of machine.old) thread) (event program.now
-        (kept_of machine.old) thread) end machine.old machine.new out.old out.new) }
+    ensures event { IfOk result (λ end. TurnAnswers program.now thread end
+        machine.old machine.new out.old out.new) }
     ensures visits { visits.new ≤ visits.old + 8 + (length (state_after (kept_of machine.old)
         (event program.now (kept_of machine.old) thread)).heap - length machine.old.heap) }
     ensures deferred { IsSome (text_turn program.now (kept_of machine.old) thread) →

@@ -12,8 +12,9 @@ use Rattle.et_refs.proofs.Lifting.{few_below}
 use Rattle.et_run.specs.Lifted.{AreStampedSteps}
 use Rattle.et_run.proofs.Lifting.{few_visits, ran_over, still_there, stopped}
 use Rattle.et_run.proofs.LiftedLoop.{SoFar, frame_places, lost_places, method_now, readable_now, so_far_frames, so_far_more, so_far_none}
+use Rattle.et_run.proofs.lifted.lifted_events.Given.{Over}
+use Rattle.et_run.proofs.lifted.lifted_events.Goals.{After-lost, After-run_frame-count, then-count-most, else-count-most+then-not-further_step}
 use Rattle.et_run.proofs.lifted.lifted_events.Goals as goal
-use Rattle.et_run.proofs.lifted.lifted_events.Goals.{then-count-most, else-count-most+then-not-further_step}
 
 pub steps-init : goal.steps-init
 steps-init g c =
@@ -25,65 +26,38 @@ steps-init g c =
 
 pub run_frame-count-requires-clause-places : goal.run_frame-count-requires-clause-places
 run_frame-count-requires-clause-places g c =
-    let p = c.args.program.now in
-    let m : MachineState = c.args.machine.now in
-    let t : ℕ = c.args.thread in
-    frame_places p m.heap c.steps.heap c.clock-e.result c.args.most c.steps.count (top m.guest t) (rest_of (thread_at m.guest t).frames) c.steps.running c.args.stamps.now c.steps.stamps c.args.visits.now c.steps.visits c.steps.invariant
-    m t c.requires.sound c.requires.runnable c.requires.thread c.requires.turn c.events_lead_to_sound_states.ensures refl refl c.clock-e.ensures c.requires.clock c.requires.places
+    frame_places c.steps.invariant c.args.machine.now c.args.thread c.requires.sound c.requires.runnable c.requires.thread c.requires.turn c.events_lead_to_sound_states.ensures refl refl c.clock-e.ensures c.requires.clock c.requires.places
+
+-- behind the instructions of the frame alone
+behind_frames : (g : Over) (c : After-run_frame-count g)
+    → SoFar c.args.program.now c.args.machine.now.heap c.steps.heap c.clock-e.result c.args.most (c.steps.count + c.run_frame-count.result) (top c.args.machine.now.guest c.args.thread) (rest_of (thread_at c.args.machine.now.guest c.args.thread).frames) c.run_frame-count.new.running
+    c.args.stamps.now c.run_frame-count.new.stamps c.args.visits.now c.steps.visits
+behind_frames g c =
+    so_far_frames c.steps.invariant c.method_of-method.result.now c.code_of-code.result.now c.run_frame-count.result c.run_frame-count.new.running c.run_frame-count.new.stamps c.method_of-method.ensures.method c.code_of-code.ensures.bytes c.run_frame-count.ensures.few c.run_frame-count.ensures.below c.run_frame-count.ensures.steps
 
 pub further_step-requires-clause-method : goal.further_step-requires-clause-method
 further_step-requires-clause-method g c =
-    let p = c.args.program.now in
-    let m : MachineState = c.args.machine.now in
-    let t : ℕ = c.args.thread in
-    let r : RunningState = c.run_frame-count.new.running in
-    let count : ℕ = c.steps.count + c.run_frame-count.result in
-    let so : SoFar p m.heap c.steps.heap c.clock-e.result c.args.most count (top m.guest t) (rest_of (thread_at m.guest t).frames) r c.args.stamps.now c.run_frame-count.new.stamps c.args.visits.now c.steps.visits =
-    so_far_frames p m.heap c.steps.heap c.clock-e.result c.args.most c.steps.count (top m.guest t) (rest_of (thread_at m.guest t).frames) c.steps.running c.args.stamps.now c.steps.stamps c.args.visits.now c.steps.visits c.steps.invariant
-    c.method_of-method.result.now c.code_of-code.result.now c.run_frame-count.result r c.run_frame-count.new.stamps c.method_of-method.ensures.method c.code_of-code.ensures.bytes c.run_frame-count.ensures.few c.run_frame-count.ensures.below c.run_frame-count.ensures.steps in
-    method_now p m.heap c.steps.heap c.clock-e.result c.args.most count (top m.guest t) (rest_of (thread_at m.guest t).frames) r c.args.stamps.now c.run_frame-count.new.stamps c.args.visits.now c.steps.visits so c.method_of-method.result.now c.method_of-method.ensures.method
+    method_now (behind_frames g (goal.at.further_step-requires-clause-method g c).After-run_frame-count) c.method_of-method.result.now c.method_of-method.ensures.method
 
 pub further_step-requires-clause-sound : goal.further_step-requires-clause-sound
 further_step-requires-clause-sound g c =
-    let p = c.args.program.now in
-    let m : MachineState = c.args.machine.now in
-    let t : ℕ = c.args.thread in
-    let r : RunningState = c.run_frame-count.new.running in
-    let count : ℕ = c.steps.count + c.run_frame-count.result in
-    let so : SoFar p m.heap c.steps.heap c.clock-e.result c.args.most count (top m.guest t) (rest_of (thread_at m.guest t).frames) r c.args.stamps.now c.run_frame-count.new.stamps c.args.visits.now c.steps.visits =
-    so_far_frames p m.heap c.steps.heap c.clock-e.result c.args.most c.steps.count (top m.guest t) (rest_of (thread_at m.guest t).frames) c.steps.running c.args.stamps.now c.steps.stamps c.args.visits.now c.steps.visits c.steps.invariant
-    c.method_of-method.result.now c.code_of-code.result.now c.run_frame-count.result r c.run_frame-count.new.stamps c.method_of-method.ensures.method c.code_of-code.ensures.bytes c.run_frame-count.ensures.few c.run_frame-count.ensures.below c.run_frame-count.ensures.steps in
-    readable_now p m.heap c.steps.heap c.clock-e.result c.args.most count (top m.guest t) (rest_of (thread_at m.guest t).frames) r c.args.stamps.now c.run_frame-count.new.stamps c.args.visits.now c.steps.visits so
-    m t c.requires.sound c.requires.runnable c.requires.thread c.requires.turn c.events_lead_to_sound_states.ensures refl refl c.clock-e.ensures c.requires.clock
+    readable_now (behind_frames g (goal.at.further_step-requires-clause-sound g c).After-run_frame-count) c.args.machine.now c.args.thread c.requires.sound c.requires.runnable c.requires.thread c.requires.turn c.events_lead_to_sound_states.ensures refl refl c.clock-e.ensures c.requires.clock
+
+-- one more was done
+done : (g : Over) (c : After-lost g) → StepsOver c.args.program.now c.steps.heap c.further_step.new.heap true c.run_frame-count.new.running c.further_step.new.running
+done g c = subst (λ (b : Bool). StepsOver c.args.program.now c.steps.heap c.further_step.new.heap b c.run_frame-count.new.running c.further_step.new.running) c.if-not-further_step.false c.further_step.ensures.steps
 
 pub stamp_each-requires-clause-places : goal.stamp_each-requires-clause-places
 stamp_each-requires-clause-places g c = λ o h.
-    let p = c.args.program.now in
-    let m : MachineState = c.args.machine.now in
-    let t : ℕ = c.args.thread in
-    let r : RunningState = c.run_frame-count.new.running in
-    let count : ℕ = c.steps.count + c.run_frame-count.result in
-    let so : SoFar p m.heap c.steps.heap c.clock-e.result c.args.most count (top m.guest t) (rest_of (thread_at m.guest t).frames) r c.args.stamps.now c.run_frame-count.new.stamps c.args.visits.now c.steps.visits =
-    so_far_frames p m.heap c.steps.heap c.clock-e.result c.args.most c.steps.count (top m.guest t) (rest_of (thread_at m.guest t).frames) c.steps.running c.args.stamps.now c.steps.stamps c.args.visits.now c.steps.visits c.steps.invariant
-    c.method_of-method.result.now c.code_of-code.result.now c.run_frame-count.result r c.run_frame-count.new.stamps c.method_of-method.ensures.method c.code_of-code.ensures.bytes c.run_frame-count.ensures.few c.run_frame-count.ensures.below c.run_frame-count.ensures.steps in
-    let done : StepsOver p c.steps.heap c.further_step.new.heap true r c.further_step.new.running = subst (λ (b : Bool). StepsOver p c.steps.heap c.further_step.new.heap b r c.further_step.new.running) c.if-not-further_step.false c.further_step.ensures.steps in
-    lost_places p m.heap c.steps.heap c.clock-e.result c.args.most count (top m.guest t) (rest_of (thread_at m.guest t).frames) r c.args.stamps.now c.run_frame-count.new.stamps c.args.visits.now c.steps.visits so
-    m t c.requires.sound c.requires.runnable c.requires.thread c.requires.turn c.events_lead_to_sound_states.ensures refl refl c.clock-e.ensures c.requires.clock c.requires.places c.further_step.new.heap c.further_step.new.running done o (subst (λ (os : List ℕ). Contains os o) c.lost.ensures.value h)
+    let at = goal.at.stamp_each-requires-clause-places g c in
+    lost_places (behind_frames g at.After-run_frame-count) c.args.machine.now c.args.thread c.requires.sound c.requires.runnable c.requires.thread c.requires.turn c.events_lead_to_sound_states.ensures refl refl c.clock-e.ensures c.requires.clock c.requires.places c.further_step.new.heap c.further_step.new.running (done g at.After-lost) o (subst (λ (os : List ℕ). Contains os o) c.lost.ensures.value h)
 
 pub steps-preserved : goal.steps-preserved
 steps-preserved g c =
-    let p = c.args.program.now in
-    let m : MachineState = c.args.machine.now in
-    let t : ℕ = c.args.thread in
-    let r : RunningState = c.run_frame-count.new.running in
-    let count : ℕ = c.steps.count + c.run_frame-count.result in
-    let so : SoFar p m.heap c.steps.heap c.clock-e.result c.args.most count (top m.guest t) (rest_of (thread_at m.guest t).frames) r c.args.stamps.now c.run_frame-count.new.stamps c.args.visits.now c.steps.visits =
-    so_far_frames p m.heap c.steps.heap c.clock-e.result c.args.most c.steps.count (top m.guest t) (rest_of (thread_at m.guest t).frames) c.steps.running c.args.stamps.now c.steps.stamps c.args.visits.now c.steps.visits c.steps.invariant
-    c.method_of-method.result.now c.code_of-code.result.now c.run_frame-count.result r c.run_frame-count.new.stamps c.method_of-method.ensures.method c.code_of-code.ensures.bytes c.run_frame-count.ensures.few c.run_frame-count.ensures.below c.run_frame-count.ensures.steps in
-    let done : StepsOver p c.steps.heap c.further_step.new.heap true r c.further_step.new.running = subst (λ (b : Bool). StepsOver p c.steps.heap c.further_step.new.heap b r c.further_step.new.running) c.if-not-further_step.false c.further_step.ensures.steps in
+    let at = goal.at.steps-preserved g c in
+    let so = behind_frames g at.After-run_frame-count in
     let listed : c.lost.result.now ≡ c.further_step.new.running.lost = c.lost.ensures.value in
-    so_far_more p m.heap c.steps.heap c.clock-e.result c.args.most count (top m.guest t) (rest_of (thread_at m.guest t).frames) r c.args.stamps.now c.run_frame-count.new.stamps c.args.visits.now c.steps.visits so
-    c.further_step.new.heap c.further_step.new.running c.stamp_each.new.stamps c.further_step.new.visits done (omega (arith, so.few, c.if-count-most.false))
+    so_far_more so c.further_step.new.heap c.further_step.new.running c.stamp_each.new.stamps c.further_step.new.visits (done g at.After-lost) (omega (arith, so.few, c.if-count-most.false))
     (λ o h. c.stamp_each.ensures.each o (subst (λ (os : List ℕ). Contains os o) (sym listed) h))
     (λ o out. c.stamp_each.ensures.others o (λ h. out (subst (λ (os : List ℕ). Contains os o) listed h)))
     c.stamp_each.ensures.long c.further_step.ensures.visits
@@ -117,9 +91,7 @@ returns-clause-runs g c =
     let t : ℕ = c.args.thread in
     let r : RunningState = c.run_frame-count.new.running in
     let count : ℕ = c.steps.count + c.run_frame-count.result in
-    let so : SoFar p m.heap c.steps.heap c.clock-e.result c.args.most count (top m.guest t) (rest_of (thread_at m.guest t).frames) r c.args.stamps.now c.run_frame-count.new.stamps c.args.visits.now c.steps.visits =
-    so_far_frames p m.heap c.steps.heap c.clock-e.result c.args.most c.steps.count (top m.guest t) (rest_of (thread_at m.guest t).frames) c.steps.running c.args.stamps.now c.steps.stamps c.args.visits.now c.steps.visits c.steps.invariant
-    c.method_of-method.result.now c.code_of-code.result.now c.run_frame-count.result r c.run_frame-count.new.stamps c.method_of-method.ensures.method c.code_of-code.ensures.bytes c.run_frame-count.ensures.few c.run_frame-count.ensures.below c.run_frame-count.ensures.steps in
+    let so = behind_frames g (goal.at.returns-clause-runs g c).After-run_frame-count in
     let lifted_is : machine_in c.machine.inside ≡ lifted m t = c.machine.view_is ∙ c.lift-running.ensures.new in
     let changed : MachineState = record (lifted m t) { heap = c.steps.heap } in
     let there : machine_in c.if-count-most.machine-inside ≡ changed = elim c.if-count-most.branch [

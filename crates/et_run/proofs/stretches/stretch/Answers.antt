@@ -78,7 +78,7 @@ stamp_each-requires-clause-places g c = λ o h.
     let going = quietly g (goal.at.stamp_each-requires-clause-places g c).After-frame_stretch-quiet in
     let yes : IsTrue c.is_quiet.result = search rules in
     lost_there going c.in_ok-end.end (state_of c.running_event.new.running) c.running_event.new.out.records c.running_event.new.out.said.items c.running_event.new.running.machine.lost c.running_event.new.visits
-    c.in_ok-end.ensures.answers c.in_ok-end.ensures.says c.in_ok-end.ensures.step (c.is_quiet.ensures.done yes) (c.is_quiet.ensures.objects yes) o (subst (λ (os : List ℕ). Contains os o) c.lost.ensures h)
+    c.in_ok-end.ensures.answers c.in_ok-end.ensures.says c.in_ok-end.ensures.step (c.is_quiet.ensures.done yes) (c.is_quiet.ensures.stands yes).objects o (subst (λ (os : List ℕ). Contains os o) c.lost.ensures h)
 
 -- .. and behind the one after them, which is quiet too
 quiet_too : (g : Over) (c : After-stamp_each g)
@@ -96,7 +96,7 @@ quiet_too g c =
     let native = going_native going c.in_ok-end.end (state_of c.running_event.new.running) c.running_event.new.out.records c.running_event.new.out.said.items c.running_event.new.running.machine.lost c.running_event.new.visits end.answers in
     let ticked = ticks_where c.in_ok-end.end c.frame_stretch-quiet.new.running.machine.guest.clock c.running_event.new.running.machine.guest.clock (quiet.done yes) native end.clock in
     going_on going c.in_ok-end.end (state_of c.running_event.new.running) c.running_event.new.out.records c.running_event.new.out.said.items c.running_event.new.running.machine.lost c.running_event.new.visits
-    end.answers end.says end.step (quiet.done yes) c.stamp_each.new.stamps (omega arith) (quiet.told yes) (quiet.unsaid yes) (quiet.objects yes) (quiet.threads yes) (quiet.thread yes)
+    end.answers end.says end.step (quiet.done yes) c.stamp_each.new.stamps (omega arith) (quiet.told yes) (quiet.unsaid yes) (quiet.stands yes).objects (quiet.stands yes).threads (quiet.stands yes).thread
     c.stamp_each.ensures.long (λ o h. c.stamp_each.ensures.each o (there o h) ∙ at) (λ o out. c.stamp_each.ensures.others o (λ h. out (back o h))) (omega (arith, ticked, going.clock)) end.sound end.visits
 
 pub waiting_events-quiet-requires-clause-clock : goal.waiting_events-quiet-requires-clause-clock
