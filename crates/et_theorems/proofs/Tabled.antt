@@ -36,23 +36,20 @@ few_members c file =
     let few_methods = spelled.can_be.methods.few in
     record { fields = omega (arith, fields, few_fields); methods = omega (arith, methods, few_methods) }
 
+-- what is numbered of files, where each file has few
+few_numbered : {Y : Type 0} (of : ℕ → LoadedClass → List Y) → ((k : ℕ) (c : LoadedClass) → HasFewMembers c → length (of k c) ≤ 65535) → (k : ℕ) (files : List LoadedClass) → All HasFewMembers files → length (numbered of k files) ≤ 65535 * length files
+few_numbered of each k [] few = omega arith
+few_numbered of each k (c ∷ files) few =
+    let both = length-append (of k c) (numbered of (k + 1) files) in
+    let first = each k c (All-head HasFewMembers c files few) in
+    let rest = few_numbered of each (k + 1) files (All-tail HasFewMembers c files few) in
+    omega (arith, both, first, rest)
+
 field_count : (k : ℕ) (files : List LoadedClass) → All HasFewMembers files → length (numbered file_fields k files) ≤ 65535 * length files
-field_count k [] few = omega arith
-field_count k (c ∷ files) few =
-    let both = length-append (file_fields k c) (numbered file_fields (k + 1) files) in
-    let own = length-map c.fields (file_field c.pool.slots k) in
-    let first = (All-head HasFewMembers c files few).fields in
-    let rest = field_count (k + 1) files (All-tail HasFewMembers c files few) in
-    omega (arith, both, own, first, rest)
+field_count k files few = few_numbered file_fields (λ j c own. let n = length-map c.fields (file_field c.pool.slots j) in omega (arith, n, own.fields)) k files few
 
 method_count : (k : ℕ) (files : List LoadedClass) → All HasFewMembers files → length (numbered file_methods k files) ≤ 65535 * length files
-method_count k [] few = omega arith
-method_count k (c ∷ files) few =
-    let both = length-append (file_methods k c) (numbered file_methods (k + 1) files) in
-    let own = length-map c.methods (file_method c.pool.slots k) in
-    let first = (All-head HasFewMembers c files few).methods in
-    let rest = method_count (k + 1) files (All-tail HasFewMembers c files few) in
-    omega (arith, both, own, first, rest)
+method_count k files few = few_numbered file_methods (λ j c own. let n = length-map c.methods (file_method c.pool.slots j) in omega (arith, n, own.methods)) k files few
 
 -- the fields of the built-in classes that are not static, and those that are
 boot_field_count : (static : Bool) → length (numbered (boot_fields static) 0 boots) < 2 ^ 16

@@ -60,20 +60,11 @@ module _ (lines : List TraceLine) (e : ℕ) where
 
     pub shows_up : (next end : ℕ) (ls : List TraceLine) → 0 < next → AreAllocations P next ls end → Shows next end ls
     shows_up next end [] some h = record { count = 0; end_is = omega (arith, h); shown_is = refl }
-    shows_up next end (line.Header version interval ∷ ls) some h = shows_other next end (line.Header version interval) ls refl (shows_up next end ls some h.1)
-    shows_up next end (line.Class number name ∷ ls) some h = shows_other next end (line.Class number name) ls refl (shows_up next end ls some h.1)
-    shows_up next end (line.Method number class name descriptor ∷ ls) some h = shows_other next end (line.Method number class name descriptor) ls refl (shows_up next end ls some h.1)
     shows_up next end (line.Alloc event thread object class size elements ∷ ls) some h =
         let same : object ≡ next = h.0.0 in
         shows_one next end (line.Alloc event thread object class size elements) ls (ap (λ (n : ℕ). Some n) same) (so event object size elements (omega (arith, same, some)) h.0.1 ∙ ap g same)
         (shows_up (next + 1) end ls (omega (arith, some)) h.1)
-    shows_up next end (line.Update event thread object slot old new ∷ ls) some h = shows_other next end (line.Update event thread object slot old new) ls refl (shows_up next end ls some h.1)
-    shows_up next end (line.Enter event thread method receiver ∷ ls) some h = shows_other next end (line.Enter event thread method receiver) ls refl (shows_up next end ls some h.1)
-    shows_up next end (line.Exit event thread method ∷ ls) some h = shows_other next end (line.Exit event thread method) ls refl (shows_up next end ls some h.1)
-    shows_up next end (line.Unwind event thread method exception ∷ ls) some h = shows_other next end (line.Unwind event thread method exception) ls refl (shows_up next end ls some h.1)
-    shows_up next end (line.Flush event deaths ∷ ls) some h = shows_other next end (line.Flush event deaths) ls refl (shows_up next end ls some h.1)
-    shows_up next end (line.Death object time ∷ ls) some h = shows_other next end (line.Death object time) ls refl (shows_up next end ls some h.1)
-    shows_up next end (line.Finish event how ∷ ls) some h = shows_other next end (line.Finish event how) ls refl (shows_up next end ls some h.1)
+    shows_up next end (other ∷ ls) some h = shows_other next end other ls refl (shows_up next end ls some h.1)
 
   -- LINES OF LATER EVENTS make none that is live at this one
   early : (born : ℕ) (dies : Bool) → e < born → (nat_le born e && not dies) ≡ false
@@ -82,19 +73,10 @@ module _ (lines : List TraceLine) (e : ℕ) where
   module _ (P : (event object size elements : ℕ) → Type 0) (from : ℕ)
       (late : (born object size elements : ℕ) → from ≤ object → P born object size elements → e < born) where
     not_live : (next : ℕ) (l : TraceLine) → from ≤ next → TellsOf P next l → makes_live lines e l ≡ false
-    not_live next (line.Header version interval) le h = refl
-    not_live next (line.Class number name) le h = refl
-    not_live next (line.Method number class name descriptor) le h = refl
     not_live next (line.Alloc event thread object class size elements) le h =
         let same : object ≡ next = h.0 in
         early event (dies_before lines e object) (late event object size elements (omega (arith, same, le)) h.1)
-    not_live next (line.Update event thread object slot old new) le h = refl
-    not_live next (line.Enter event thread method receiver) le h = refl
-    not_live next (line.Exit event thread method) le h = refl
-    not_live next (line.Unwind event thread method exception) le h = refl
-    not_live next (line.Flush event deaths) le h = refl
-    not_live next (line.Death object time) le h = refl
-    not_live next (line.Finish event how) le h = refl
+    not_live next other le h = refl
 
     pub late_shows_none : (next end : ℕ) (ls : List TraceLine) → from ≤ next → AreAllocations P next ls end → shown ls ≡ []
     late_shows_none next end [] le h = refl

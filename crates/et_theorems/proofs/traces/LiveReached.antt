@@ -32,7 +32,7 @@ use Rattle.et_history.proofs.Reached.{last_within}
 
 -- lines only come to the end
 module _ {S : Type 0} (reached : Graph → ℕ → Bool) (given : Setting S) (start : S) (made : List Record) where
-  pub more_lines : (e n : ℕ) → (rest : List TraceLine) × (lines_to reached given start made (e + n) ≡ lines_to reached given start made e ++ rest)
+  more_lines : (e n : ℕ) → (rest : List TraceLine) × (lines_to reached given start made (e + n) ≡ lines_to reached given start made e ++ rest)
   unfolding lines_to
   more_lines e zero =
       let same : e + 0 ≡ e = omega arith in
@@ -49,6 +49,26 @@ module _ {S : Type 0} (reached : Graph → ℕ → Bool) (given : Setting S) (st
             ∙ (ap (λ (ls : List TraceLine). ls ++ new) (append_assoc first old.0 flush) ∙ append_assoc first (old.0 ++ flush) new)),
       )
 
+-- THE WORDS OF A RUN: the state that event e left, how many objects were made by then, the lines up to it, the deaths of a flush
+-- there; the whole trace; and whether object o is reached at event e or one of the next n.
+pub record RunWords : Type 0 where
+  pub state : ℕ → State
+  pub made : ℕ → ℕ
+  pub lines : ℕ → List TraceLine
+  pub dead : ℕ → List (ℕ × ℕ)
+  pub trace : List TraceLine
+  pub from : ℕ → ℕ → ℕ → Bool
+
+abbrev pub run_words : (Graph → ℕ → Bool) → Linked → Options → (ℕ → ℕ) → ℕ → End → RunWords
+run_words reached p options pick last end = record {
+  state = λ e. now reached p options pick e;
+  made = λ e. made_by reached p options pick e;
+  lines = λ e. lines_to reached (whole_picked p options pick) (whole_start p) (start_records p) e;
+  dead = λ e. deaths reached (whole_picked p options pick) (whole_start p) (start_records p) e;
+  trace = trace_of reached (whole_picked p options pick) (whole_start p) (start_records p) last end;
+  from = λ o e n. is_reached_from reached (whole_picked p options pick) (whole_start p) (start_records p) o e n;
+}
+
 -- what a line adds, where it dies exactly where it is not reached any more
 chosen : (a d b : Bool) (x y : ℕ) → a ≡ true → (b ≡ true → d ≡ false) → (b ≡ false → d ≡ true) → x ≡ y → (if a && not d then x else 0) ≡ (if b then y else 0)
 chosen false d b x y early alive dead same = absurd (false≢true early)
@@ -58,29 +78,13 @@ chosen true true false x y early alive dead same = refl
 chosen true false false x y early alive dead same = absurd (false≢true (dead refl))
 
 module _ (reached : Graph → ℕ → Bool) (p : Linked) (options : Options) (pick : ℕ → ℕ) (last : ℕ) (end : End) (decides : Decides reached) (knows : Knows reached p options pick last) where
-  abbrev state : ℕ → State
-  state e = now reached p options pick e
-
-  abbrev made : ℕ → ℕ
-  made e = made_by reached p options pick e
-
-  abbrev lines : ℕ → List TraceLine
-  lines e = lines_to reached (whole_picked p options pick) (whole_start p) (start_records p) e
-
-  abbrev dead : ℕ → List (ℕ × ℕ)
-  dead e = deaths reached (whole_picked p options pick) (whole_start p) (start_records p) e
-
-  abbrev trace : List TraceLine
-  trace = trace_of reached (whole_picked p options pick) (whole_start p) (start_records p) last end
+  open run_words reached p options pick last end use {state, made, lines, dead, trace, from}
 
   abbrev IsNow : ℕ → ℕ → Bool → Type 0
   IsNow e o b = reached (graph (state e)) o ≡ b
 
   abbrev last_of : ℕ → ℕ → ℕ
   last_of o n = last_reached reached (whole_picked p options pick) (whole_start p) (start_records p) o n
-
-  abbrev from : ℕ → ℕ → ℕ → Bool
-  from o e n = is_reached_from reached (whole_picked p options pick) (whole_start p) (start_records p) o e n
 
   -- THE LAST EVENT at which an object is reached
 
@@ -226,21 +230,26 @@ module _ (reached : Graph → ℕ → Bool) (p : Linked) (options : Options) (pi
           absurd (omega (arith, below, above))
     ]
 
-    pub live_is : live trace e ≡ bytes_reached reached (whole_picked p options pick) (whole_start p) (start_records p) (object_size p) e last
-    live_is =
+    -- the lines up to event e, and those behind them
+    pub split : (rest : List TraceLine) × (lines last ≡ lines e ++ rest) × AreAllocations (IsMadeAt p state last) 1 (lines e ++ rest) (next_number (state last))
+    split =
         let m : ℕ = last - e in
         let same : e + m ≡ last = omega (arith, le) in
         let more = more_lines reached (whole_picked p options pick) (whole_start p) (start_records p) e m in
-        let split : lines last ≡ lines e ++ more.0 = ap (λ (k : ℕ). lines k) (sym same) ∙ more.1 in
+        let is : lines last ≡ lines e ++ more.0 = ap (λ (k : ℕ). lines k) (sym same) ∙ more.1 in
+        (more.0, is, subst (λ (ls : List TraceLine). AreAllocations (IsMadeAt p state last) 1 ls (next_number (state last))) is (knows.told last (omega arith)))
+
+    pub live_is : live trace e ≡ bytes_reached reached (whole_picked p options pick) (whole_start p) (start_records p) (object_size p) e last
+    live_is =
+        let more = split in
         let first = knows.told e le in
-        let all = subst (λ (ls : List TraceLine). AreAllocations (IsMadeAt p state last) 1 ls (next_number (state last))) split (knows.told last (omega arith)) in
         let sum = told_bytes trace e (IsMadeAt p state e) term one_term 1 (next_number (state e)) (lines e) (omega arith) first in
         let count = sum.1 in
-        let rest = rest_told (IsMadeAt p state last) (IsMadeAt p state e) 1 (next_number (state e)) (next_number (state last)) (lines e) more.0 first all in
+        let rest = rest_told (IsMadeAt p state last) (IsMadeAt p state e) 1 (next_number (state e)) (next_number (state last)) (lines e) more.0 first more.2 in
         let none : sum_by (live_size trace e) more.0 ≡ 0 = late_none trace e (IsMadeAt p state last) (next_number (state e)) (late (omega (arith, count))) (next_number (state e)) (next_number (state last)) more.0 (omega arith) rest in
         let whole : sum_by (live_size trace e) trace ≡ sum_by (live_size trace e) (lines last) = end_none trace e (lines last) last (dead last) (how_of end) in
         let parts : sum_by (live_size trace e) (lines last) ≡ sum_by (live_size trace e) (lines e) + sum_by (live_size trace e) more.0 =
-        ap (λ (ls : List TraceLine). sum_by (live_size trace e) ls) split ∙ sum_by-append (live_size trace e) (lines e) more.0 in
+        ap (λ (ls : List TraceLine). sum_by (live_size trace e) ls) more.1 ∙ sum_by-append (live_size trace e) (lines e) more.0 in
         let numbers : sum.0 ≡ made e = omega (arith, count) in
         let told = sum.2 in
         let total : sum_by (live_size trace e) trace ≡ sum_by term (numbers_from 1 sum.0) = omega (arith, whole, parts, none, told) in

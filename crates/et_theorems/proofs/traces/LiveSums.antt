@@ -69,20 +69,11 @@ module _ (lines : List TraceLine) (e : ℕ) where
 
     pub adds_up : (next end : ℕ) (ls : List TraceLine) → 0 < next → AreAllocations P next ls end → Adds next end ls
     adds_up next end [] some h = record { count = 0; end_is = omega (arith, h); sum_is = refl }
-    adds_up next end (line.Header version interval ∷ ls) some h = adds_other next end (line.Header version interval) ls refl (adds_up next end ls some h.1)
-    adds_up next end (line.Class number name ∷ ls) some h = adds_other next end (line.Class number name) ls refl (adds_up next end ls some h.1)
-    adds_up next end (line.Method number class name descriptor ∷ ls) some h = adds_other next end (line.Method number class name descriptor) ls refl (adds_up next end ls some h.1)
     adds_up next end (line.Alloc event thread object class size elements ∷ ls) some h =
         let same : object ≡ next = h.0.0 in
         let one : one_size event object size ≡ g object = so event object size elements (omega (arith, same, some)) h.0.1 in
         adds_one next end (line.Alloc event thread object class size elements) ls (one ∙ ap g same) (adds_up (next + 1) end ls (omega (arith, some)) h.1)
-    adds_up next end (line.Update event thread object slot old new ∷ ls) some h = adds_other next end (line.Update event thread object slot old new) ls refl (adds_up next end ls some h.1)
-    adds_up next end (line.Enter event thread method receiver ∷ ls) some h = adds_other next end (line.Enter event thread method receiver) ls refl (adds_up next end ls some h.1)
-    adds_up next end (line.Exit event thread method ∷ ls) some h = adds_other next end (line.Exit event thread method) ls refl (adds_up next end ls some h.1)
-    adds_up next end (line.Unwind event thread method exception ∷ ls) some h = adds_other next end (line.Unwind event thread method exception) ls refl (adds_up next end ls some h.1)
-    adds_up next end (line.Flush event deaths ∷ ls) some h = adds_other next end (line.Flush event deaths) ls refl (adds_up next end ls some h.1)
-    adds_up next end (line.Death object time ∷ ls) some h = adds_other next end (line.Death object time) ls refl (adds_up next end ls some h.1)
-    adds_up next end (line.Finish event how ∷ ls) some h = adds_other next end (line.Finish event how) ls refl (adds_up next end ls some h.1)
+    adds_up next end (other ∷ ls) some h = adds_other next end other ls refl (adds_up next end ls some h.1)
 
     pub told_bytes : (next end : ℕ) (ls : List TraceLine) → 0 < next → AreAllocations P next ls end → (n : ℕ) × (end ≡ next + n) × (bytes ls ≡ sum_by g (numbers_from next n))
     told_bytes next end ls some h = let a = adds_up next end ls some h in (a.count, a.end_is, a.sum_is)
@@ -97,32 +88,14 @@ module _ (lines : List TraceLine) (e : ℕ) where
     none_more l ls none rest = let both = sum_by-cons (live_size lines e) l ls in omega (arith, none, rest, both)
 
     line_none : (next : ℕ) (l : TraceLine) → from ≤ next → TellsOf P next l → live_size lines e l ≡ 0
-    line_none next (line.Header version interval) le h = refl
-    line_none next (line.Class number name) le h = refl
-    line_none next (line.Method number class name descriptor) le h = refl
     line_none next (line.Alloc event thread object class size elements) le h =
         let same : object ≡ next = h.0 in
         early event (dies_before lines e object) size (late event object size elements (omega (arith, same, le)) h.1)
-    line_none next (line.Update event thread object slot old new) le h = refl
-    line_none next (line.Enter event thread method receiver) le h = refl
-    line_none next (line.Exit event thread method) le h = refl
-    line_none next (line.Unwind event thread method exception) le h = refl
-    line_none next (line.Flush event deaths) le h = refl
-    line_none next (line.Death object time) le h = refl
-    line_none next (line.Finish event how) le h = refl
+    line_none next other le h = refl
 
     pub next_rises : (next : ℕ) (l : TraceLine) → next ≤ next_behind P next l
-    next_rises next (line.Header version interval) = omega arith
-    next_rises next (line.Class number name) = omega arith
-    next_rises next (line.Method number class name descriptor) = omega arith
     next_rises next (line.Alloc event thread object class size elements) = omega arith
-    next_rises next (line.Update event thread object slot old new) = omega arith
-    next_rises next (line.Enter event thread method receiver) = omega arith
-    next_rises next (line.Exit event thread method) = omega arith
-    next_rises next (line.Unwind event thread method exception) = omega arith
-    next_rises next (line.Flush event deaths) = omega arith
-    next_rises next (line.Death object time) = omega arith
-    next_rises next (line.Finish event how) = omega arith
+    next_rises next other = omega arith
 
     pub late_none : (next end : ℕ) (ls : List TraceLine) → from ≤ next → AreAllocations P next ls end → bytes ls ≡ 0
     late_none next end [] le h = refl

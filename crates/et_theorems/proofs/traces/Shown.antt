@@ -15,9 +15,9 @@ use Rattle.et_heap.specs.Objects.{ObjectState, IsHeld, object_at, slot_of}
 use Rattle.et_heap.specs.Refs.{refs_of, refs_of_value}
 use Rattle.et_heap.proofs.HeapLists.{held_within}
 use Rattle.et_program.specs.Entries.{Linked}
-use Rattle.et_state.specs.History.{deaths, flush_lines, how_of, lines_to, records_at, trace_of}
+use Rattle.et_state.specs.History.{flush_lines, how_of, records_at, trace_of}
 use Rattle.et_state.specs.Roots.{graph, graph_of, numbers_from, roots_of}
-use Rattle.et_state.specs.State.{GuestState, State, Kept}
+use Rattle.et_state.specs.State.{GuestState, Kept}
 use Rattle.et_state.specs.Words.{static_at}
 use Rattle.et_state.specs.declared.options.Options.{Options}
 use Rattle.et_state.specs.Interned.{interned_objects}
@@ -25,7 +25,7 @@ use Rattle.et_state.specs.ThreadRoots.{thread_roots}
 use Rattle.et_state.proofs.UnderWay.{root_is_reached, slot_is_reached, slot_pair}
 use Rattle.et_event.specs.Moments.{number_of_value}
 use Rattle.et_event.specs.Start.{start_records}
-use Rattle.et_history.specs.Allocations.{AreAllocations, IsMadeAt, next_number, object_in}
+use Rattle.et_history.specs.Allocations.{IsMadeAt, next_number, object_in}
 use Rattle.et_history.specs.Histories.{whole_picked}
 use Rattle.et_history.specs.Slots.{IsOfEvent, told_by}
 use Rattle.et_history.specs.Whole.{whole_start}
@@ -33,10 +33,9 @@ use Rattle.et_history.proofs.Reporting.{found_before}
 use Rattle.et_history.proofs.Allocations.{held_in}
 use Rattle.et_replay.specs.Curve.{dies_before}
 use Rattle.et_snapshot.specs.Snapshot.{content}
-use Rattle.et_theorems.specs.traces.LiveBytes.{is_reached_from}
 use Rattle.et_theorems.specs.traces.Snapshots.{live_objects}
 use Rattle.et_theorems.proofs.traces.LiveObjects.{shown, shown_both, flush_none, shows_up, late_shows_none}
-use Rattle.et_theorems.proofs.traces.LiveReached.{more_lines, from_seen, seen_from, here_below, made_on, dies_when, lives_when, late}
+use Rattle.et_theorems.proofs.traces.LiveReached.{run_words, split, from_seen, seen_from, here_below, made_on, dies_when, lives_when, late}
 use Rattle.et_theorems.proofs.traces.LiveSums.{rest_told}
 use Rattle.et_theorems.proofs.traces.Reported.{Knows, flushed_out, made_by, now}
 use Rattle.et_theorems.proofs.traces.SlotLines.{content_told}
@@ -114,26 +113,10 @@ module _ (reached : Graph → ℕ → Bool) (p : Linked) (options : Options) (pi
   abbrev knows : Knows reached p options pick last
   knows = facts.knows
 
-  abbrev state : ℕ → State
-  state e = now reached p options pick e
-
-  abbrev made : ℕ → ℕ
-  made e = made_by reached p options pick e
-
-  abbrev lines : ℕ → List TraceLine
-  lines e = lines_to reached (whole_picked p options pick) (whole_start p) (start_records p) e
-
-  abbrev dead : ℕ → List (ℕ × ℕ)
-  dead e = deaths reached (whole_picked p options pick) (whole_start p) (start_records p) e
-
-  abbrev trace : List TraceLine
-  trace = trace_of reached (whole_picked p options pick) (whole_start p) (start_records p) last end
+  open run_words reached p options pick last end use {state, made, lines, dead, trace, from}
 
   abbrev writes : ℕ → (object slot : ℕ) → ℕ
   writes e = told reached p options pick last e
-
-  abbrev from : ℕ → ℕ → ℕ → Bool
-  from o e n = is_reached_from reached (whole_picked p options pick) (whole_start p) (start_records p) o e n
 
   abbrev Reached : ℕ → ℕ → Type 0
   Reached e o = reached (graph (state e)) o ≡ true
@@ -174,15 +157,11 @@ module _ (reached : Graph → ℕ → Bool) (p : Linked) (options : Options) (pi
 
     pub objects_are : live_objects trace e ≡ filter lives (numbers_from 1 (made e))
     objects_are =
-        let m : ℕ = last - e in
-        let same : e + m ≡ last = omega (arith, le) in
-        let more = more_lines reached (whole_picked p options pick) (whole_start p) (start_records p) e m in
-        let split : lines last ≡ lines e ++ more.0 = ap (λ (k : ℕ). lines k) (sym same) ∙ more.1 in
+        let more = split reached p options pick last end decides knows e le in
         let first = knows.told e le in
-        let all = subst (λ (ls : List TraceLine). AreAllocations (IsMadeAt p state last) 1 ls (next_number (state last))) split (knows.told last (omega arith)) in
         let s = shows_up trace e (IsMadeAt p state e) lives one_lives 1 (next_number (state e)) (lines e) (omega arith) first in
         let count = s.end_is in
-        let rest = rest_told (IsMadeAt p state last) (IsMadeAt p state e) 1 (next_number (state e)) (next_number (state last)) (lines e) more.0 first all in
+        let rest = rest_told (IsMadeAt p state last) (IsMadeAt p state e) 1 (next_number (state e)) (next_number (state last)) (lines e) more.0 first more.2 in
         let none : shown trace e more.0 ≡ [] =
         late_shows_none trace e (IsMadeAt p state last) (next_number (state e)) (late reached p options pick last end decides knows e le (omega (arith, count))) (next_number (state e)) (next_number (state last)) more.0 (omega arith) rest in
         let tail : List TraceLine = line.Finish last (how_of end) ∷ [] in
@@ -192,7 +171,7 @@ module _ (reached : Graph → ℕ → Bool) (p : Linked) (options : Options) (pi
         ∙ (shown_both trace e (lines last) (flush_lines last (dead last))
         ∙ (ap (λ (os : List ℕ). shown trace e (lines last) ++ os) (flush_none trace e last (dead last)) ∙ append-nil (shown trace e (lines last))))) in
         let parts : shown trace e (lines last) ≡ shown trace e (lines e) =
-        ap (λ (ls : List TraceLine). shown trace e ls) split
+        ap (λ (ls : List TraceLine). shown trace e ls) more.1
         ∙ (shown_both trace e (lines e) more.0 ∙ (ap (λ (os : List ℕ). shown trace e (lines e) ++ os) none ∙ append-nil (shown trace e (lines e)))) in
         let numbers : s.count ≡ made e = omega (arith, count) in
         whole ∙ (parts ∙ (s.shown_is ∙ ap (λ (n : ℕ). filter lives (numbers_from 1 n)) numbers))

@@ -146,6 +146,15 @@ remains_so first last j x lower upper =
     let inner : gone_if is_long (j + 1 == first) x ≡ x = stays_so is_long (j + 1 == first) x (λ b t. lower (eqb-true (j + 1) first b) t) in
     ap (gone_if is_high (j == last + 1)) inner ∙ stays_so is_high (j == last + 1) x (λ b t. upper (eqb-true j (last + 1) b) t)
 
+free_kept : (first last n : ℕ) → kept_at first last n entry.Free ≡ entry.Free
+free_kept first last n = by (n + 1 == first) (n == last + 1)
+  where
+    by : (a b : Bool) → gone_if is_high b (gone_if is_long a entry.Free) ≡ entry.Free
+    by true true = refl
+    by true false = refl
+    by false true = refl
+    by false false = refl
+
 -- A STORE of one entry
 
 module _ (vs : List Value) (ts : List EntryType) (i : ℕ) (v : Value) (t : EntryType) (held : AreLocalsOf vs ts) (inside : i < length vs) (is : type_of v ≡ t) (long : t ≡ entry.Long → ⊥) (high : t ≡ entry.LongHigh → ⊥) where
@@ -166,17 +175,8 @@ module _ (vs : List Value) (ts : List EntryType) (i : ℕ) (v : Value) (t : Entr
       other : (k : ℕ) → (k ≡ i → ⊥) → type_at (one_stored i v vs) k ≡ kept_at i i k (type_at vs k)
       other k ne = elim (cases_lt k (length vs)) [
         | inl lt ↦ ap type_of (get_or-set_other (freed i vs) i k v value.Unset ne ∙ freed_at vs held.paired i k lt ne) ∙ type-value_kept i i k (get_or vs k value.Unset)
-        | inr past ↦ ap type_of (get_or_past (one_stored i v vs) k value.Unset (omega (arith, stored_long))) ∙ sym (ap (kept_at i i k) (ap type_of (get_or_past vs k value.Unset past)) ∙ kept_free k)
+        | inr past ↦ ap type_of (get_or_past (one_stored i v vs) k value.Unset (omega (arith, stored_long))) ∙ sym (ap (kept_at i i k) (ap type_of (get_or_past vs k value.Unset past)) ∙ free_kept i i k)
       ]
-        where
-          kept_free : (n : ℕ) → kept_at i i n entry.Free ≡ entry.Free
-          kept_free n = by (n + 1 == i) (n == i + 1)
-            where
-              by : (a b : Bool) → gone_if is_high b (gone_if is_long a entry.Free) ≡ entry.Free
-              by true true = refl
-              by true false = refl
-              by false true = refl
-              by false false = refl
 
   now_here : type_now i ≡ t
   now_here = ap (λ (b : Bool). if b then t else kept_at i i i (type_at vs i)) (eq-eqb i i refl)
@@ -340,15 +340,6 @@ module _ (vs : List Value) (paired : ArePaired (type_at vs)) (i : ℕ) where
 
   pub both_length : length (freed (i + 1) (freed i vs)) ≡ length vs
   both_length = length-other ws (i + 1) (get_or ws (i + 1) value.Unset) ∙ ws_long
-
-free_kept : (first last n : ℕ) → kept_at first last n entry.Free ≡ entry.Free
-free_kept first last n = by (n + 1 == first) (n == last + 1)
-  where
-    by : (a b : Bool) → gone_if is_high b (gone_if is_long a entry.Free) ≡ entry.Free
-    by true true = refl
-    by true false = refl
-    by false true = refl
-    by false false = refl
 
 module _ (vs : List Value) (ts : List EntryType) (i : ℕ) (n : ℤ) (held : AreLocalsOf vs ts) (inside : i + 1 < length vs) where
   abbrev fs : List Value
