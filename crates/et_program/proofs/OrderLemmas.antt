@@ -1,5 +1,5 @@
 -- What is looked for in a table stands at its place in the order, or nowhere.
-use Rattle.std.proofs.Common.{◌≡◌, ℕ, zero, suc, ◌+◌, ◌-◌, ◌<◌, ◌≤◌, Bool, true, false, cond, ◌==◌, ◌&&◌, ◌||◌, nat_lt, ⊎_elim, List, [], ◌∷◌, ◌++◌, length, map, get_or, take, drop, None, Some, All, refl, sym, ◌∙◌, ap, subst, arith, true≢false, Ordering, Less, Equal, Greater, nat_cmp, is_lt, is_eq}
+use Rattle.std.proofs.Common.{◌≡◌, ℕ, zero, suc, ◌+◌, ◌-◌, ◌<◌, ◌≤◌, Bool, true, false, cond, ◌==◌, ◌&&◌, ◌||◌, nat_lt, ⊎_elim, List, [], ◌∷◌, ◌++◌, length, map, get_or, take, drop, Option, None, Some, All, refl, sym, ◌∙◌, ap, subst, arith, true≢false, Ordering, Less, Equal, Greater, nat_cmp, is_lt, is_eq}
 use Rattle.std.specs.List.{position_from, position_or_len, list_any}
 use Rattle.std.specs.List.Sorted.{IsPartitionedBy, IsPartitionPoint, IsPermutation, IsSortedBy}
 use Rattle.std.specs.Ordering.{ordering_then, ordering_reverse}
@@ -16,10 +16,9 @@ use Rattle.std.proofs.lemmas.Iterator.Adapters.{position_from-zero}
 use Rattle.std.proofs.lemmas.Map.Text.{is_eq-slice_cmp}
 use Rattle.std.proofs.lemmas.Slice.Eq.{bytes_eq-Decides}
 use Rattle.et_program.specs.declared.info.MethodInfo.{MethodInfo}
-use Rattle.et_program.specs.declared.info.FieldInfo.{FieldInfo}
 use Rattle.et_program.specs.Entries.{ClassEntry}
-use Rattle.et_program.specs.Members.{is_method, is_field}
-use Rattle.et_program.specs.Order.{KeyOf, key_cmp, is_key, class_key, method_key, field_key, key_at, entry_cmp, IsOrder, is_before, place_of}
+use Rattle.et_program.specs.Members.{is_method}
+use Rattle.et_program.specs.Order.{KeyOf, key_cmp, is_key, class_key, method_key, key_at, entry_cmp, IsOrder, is_before, place_of}
 
 -- TWO KEYS
 
@@ -415,8 +414,11 @@ by_name name c = and_turned (bytes_eq c.info.name name) true ∙ nat_list_eq_equ
 pub class_by_name : (name : List ℕ) (classes : List ClassEntry) → position_from (is_key (name, [], 0)) 0 (map class_key classes) ≡ position_from (λ (c : ClassEntry). bytes_eq name c.info.name) 0 classes
 class_by_name name classes = position_map (is_key (name, [], 0)) (λ (c : ClassEntry). bytes_eq name c.info.name) class_key (by_name name) classes 0
 
+-- what is found by a key, in the table
+pub found_by_key : {T : Type 0} (key_of : T → KeyOf) (is_one : T → Bool) (sought key : KeyOf) (seen items : List T) (found : Option ℕ) → ((x : T) → is_key sought (key_of x) ≡ is_one x) → found ≡ position_from (is_key key) 0 (map key_of seen) → key ≡ sought → seen ≡ items → found ≡ position_from is_one 0 items
+found_by_key key_of is_one sought key seen items found alike is same read =
+    is ∙ (ap (λ (k : KeyOf). position_from (is_key k) 0 (map key_of seen)) same
+    ∙ (position_map (is_key sought) is_one key_of alike seen 0 ∙ ap (position_from is_one 0) read))
+
 pub method_by_key : (name descriptor : List ℕ) (c : ℕ) (methods : List MethodInfo) → position_from (is_key (name, descriptor, c)) 0 (map method_key methods) ≡ position_from (is_method name descriptor c) 0 methods
 method_by_key name descriptor c methods = position_map (is_key (name, descriptor, c)) (is_method name descriptor c) method_key (λ m. refl) methods 0
-
-pub field_by_key : (name descriptor : List ℕ) (c : ℕ) (fields : List FieldInfo) → position_from (is_key (name, descriptor, c)) 0 (map field_key fields) ≡ position_from (is_field name descriptor c) 0 fields
-field_by_key name descriptor c fields = position_map (is_key (name, descriptor, c)) (is_field name descriptor c) field_key (λ f. refl) fields 0

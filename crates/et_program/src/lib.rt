@@ -18,7 +18,7 @@ pub use et_boot::{BuiltIn, BuiltInClass, Shown, TextMethod, boot_count};
 pub use fault::LinkFaultKind;
 pub use info::{ClassInfo, Element, FieldInfo, MethodInfo};
 pub use kind::{Kind, Leaf};
-pub use lookup::referring::{MemberAt, NamedMethod, member_at};
+pub use lookup::referring::{MemberAt, NamedMethod, Referred, member_at};
 pub use program::Program;
 pub use tables::Tables;
 pub use tables::class::{Above, Class};

@@ -385,11 +385,7 @@ impl Program {
     fn method_by_key(&self, name: &[u8], descriptor: &[u8], class: ClassId) -> Option<MethodId>
         ensures { result ≡ method_in self.now name.now descriptor.now class }
     {
-        let key = Key {
-            name,
-            descriptor,
-            class: class.number(),
-        };
+        let key = Key::of_member(name, descriptor, class);
         let table = Table::Methods(self.methods.as_slice());
         let method = self.method_order.find(table, key)?;
         Some(MethodId::new(method))
@@ -426,11 +422,7 @@ impl Program {
         ensures value { result ≡ field_in self.now name.now descriptor.now class }
         ensures within { IfSome result (λ f. f < length self.now.fields) }
     {
-        let key = Key {
-            name,
-            descriptor,
-            class: class.number(),
-        };
+        let key = Key::of_member(name, descriptor, class);
         let table = Table::Fields(self.fields.as_slice());
         let field = self.field_order.find(table, key)?;
         Some(FieldId::new(field))

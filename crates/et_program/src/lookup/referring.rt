@@ -21,6 +21,9 @@ pub struct NamedMethod {
     pub method: MethodId,
 }
 
+/// What an entry of a pool refers to, or the error of its resolution; `None` where it is no such entry.
+pub type Referred<T> = Option<Result<T, LinkError>>;
+
 /// A member as an entry of a pool gives it: the class, the name and the descriptor, borrowed from the pool.
 #[derive(Clone, Copy)]
 pub struct MemberAt<'a> {
@@ -117,11 +120,7 @@ impl Program {
     }
 
     /// The class that the entry at an index of the pool of a class refers to, found by its name.
-    pub(crate) fn class_by_entry(
-        &self,
-        class: ClassId,
-        index: u16,
-    ) -> Option<Result<ClassId, LinkError>>
+    pub(crate) fn class_by_entry(&self, class: ClassId, index: u16) -> Referred<ClassId>
         requires { class < length self.now.classes }
         ensures value { result ≡ class_referred self.now class index }
         ensures within { IfSome result (λ r. IfOk r (λ c. c < length self.now.classes)) }
@@ -133,11 +132,7 @@ impl Program {
     }
 
     /// The field that the entry at an index of the pool of a class refers to, found by its names.
-    pub(crate) fn field_by_entry(
-        &self,
-        class: ClassId,
-        index: u16,
-    ) -> Option<Result<FieldId, LinkError>>
+    pub(crate) fn field_by_entry(&self, class: ClassId, index: u16) -> Referred<FieldId>
         requires { class < length self.now.classes }
         ensures value { result ≡ field_referred self.now class index }
         ensures within { IfSome result (λ r. IfOk r (λ f. f < length self.now.fields)) }
@@ -149,11 +144,7 @@ impl Program {
     }
 
     /// The method that the entry at an index of the pool of a class refers to, found by its names.
-    pub(crate) fn method_by_entry(
-        &self,
-        class: ClassId,
-        index: u16,
-    ) -> Option<Result<NamedMethod, LinkError>>
+    pub(crate) fn method_by_entry(&self, class: ClassId, index: u16) -> Referred<NamedMethod>
         requires { class < length self.now.classes }
         ensures value { result ≡ method_referred self.now class index }
         ensures within { IfSome result (λ r. IfOk r (IsNamedWithin self.now)) }

@@ -7,7 +7,7 @@ ghost use Rattle.et_program.specs.Referring.{class_referred, field_referred, is_
 ghost use Rattle.et_program.specs.Resolved.{IsResolved, IsNamedWithin, AreResolved};
 
 use crate::errors::LinkError;
-use crate::lookup::referring::NamedMethod;
+use crate::lookup::referring::{NamedMethod, Referred};
 use crate::program::Program;
 use et_base::{ClassId, FieldId, MethodId, NoMemory};
 use et_class::tags::{CLASS, FIELDREF, INTERFACE_METHODREF, METHODREF};
@@ -121,7 +121,7 @@ impl Program {
 
     /// The class that the Class entry at an index of the pool of a class refers to (JVMS 5.4.3.1), or `NoClassDefFound`;
     /// `None` where there is no such entry. It was resolved as the program was linked.
-    pub fn class_at_index(&self, class: ClassId, index: u16) -> Option<Result<ClassId, LinkError>>
+    pub fn class_at_index(&self, class: ClassId, index: u16) -> Referred<ClassId>
         requires { class < length self.now.classes }
         ensures value { result ≡ class_referred self.now class index }
         ensures within { IfSome result (λ r. IfOk r (λ c. c < length self.now.classes)) }
@@ -148,7 +148,7 @@ impl Program {
     /// The field that the Fieldref, Methodref or InterfaceMethodref entry at an index of the pool of a class gives the names
     /// of (JVMS 5.4.3.2), or the error of its resolution; `None` where there is no such entry. That of a Fieldref was
     /// resolved as the program was linked.
-    pub fn field_at_index(&self, class: ClassId, index: u16) -> Option<Result<FieldId, LinkError>>
+    pub fn field_at_index(&self, class: ClassId, index: u16) -> Referred<FieldId>
         requires { class < length self.now.classes }
         ensures value { result ≡ field_referred self.now class index }
         ensures within { IfSome result (λ r. IfOk r (λ f. f < length self.now.fields)) }
@@ -163,11 +163,7 @@ impl Program {
     /// The method that the Fieldref, Methodref or InterfaceMethodref entry at an index of the pool of a class gives the names
     /// of (JVMS 5.4.3.3, 5.4.3.4), with the class that it names, or the error of its resolution; `None` where there is no such
     /// entry. That of a Methodref or InterfaceMethodref was resolved as the program was linked.
-    pub fn method_at_index(
-        &self,
-        class: ClassId,
-        index: u16,
-    ) -> Option<Result<NamedMethod, LinkError>>
+    pub fn method_at_index(&self, class: ClassId, index: u16) -> Referred<NamedMethod>
         requires { class < length self.now.classes }
         ensures value { result ≡ method_referred self.now class index }
         ensures within { IfSome result (λ r. IfOk r (IsNamedWithin self.now)) }

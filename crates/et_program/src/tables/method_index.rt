@@ -38,11 +38,7 @@ impl MethodIndex {
         requires { FindsMethods self.now methods.now }
         ensures { result ≡ position_from (is_method name.now descriptor.now class) 0 methods.now }
     {
-        let key = Key {
-            name,
-            descriptor,
-            class: class.number(),
-        };
+        let key = Key::of_member(name, descriptor, class);
         let method = self.order.find(Table::Methods(methods), key)?;
         Some(MethodId::new(method))
     }

@@ -7,7 +7,7 @@ ghost use Rattle.et_program.specs.Order.{KeyOf, key_cmp, is_key, keys_of, shown_
 
 use crate::info::{FieldInfo, MethodInfo};
 use crate::tables::class::Class;
-use et_base::NoMemory;
+use et_base::{ClassId, NoMemory};
 use std::alloc::Global;
 use std::cmp::Ordering;
 
@@ -17,6 +17,19 @@ pub(crate) struct Key<'a> {
     pub name: &'a [u8],
     pub descriptor: &'a [u8],
     pub class: u32,
+}
+
+impl<'a> Key<'a> {
+    /// The key of a member of a class.
+    pub(crate) fn of_member(name: &'a [u8], descriptor: &'a [u8], class: ClassId) -> Self
+        ensures { shown_key result ≡ (name.now, descriptor.now, class) }
+    {
+        Key {
+            name,
+            descriptor,
+            class: class.number(),
+        }
+    }
 }
 
 /// How a key stands to another: by the names, then by the descriptors, and then by the classes.
