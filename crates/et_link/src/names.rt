@@ -3,12 +3,12 @@
 pub(crate) mod boots;
 pub(crate) mod heads;
 
-ghost use Rattle.std.specs.Prelude.{◌≡◌, ℕ, ◌<◌, [], List, length, filter, IfOk, OnOk, None};
+ghost use Rattle.std.specs.Prelude.{◌≡◌, ℕ, ◌<◌, List, length, filter, IfOk, None};
 ghost use Rattle.std.specs.List.{flat_map, position_from};
 ghost use Rattle.std.specs.Str.{bytes_eq};
 ghost use Rattle.et_program.specs.Indices.{number_of_name};
 ghost use Rattle.et_hierarchy.specs.Outline.{class_place};
-ghost use Rattle.et_program.specs.ArrayTypes.{is_type_known, with_element_types, name_added, names_added, array_names, element_of, kind_of};
+ghost use Rattle.et_program.specs.ArrayTypes.{array_names, element_of, kind_of};
 ghost use Rattle.et_link.specs.Naming.{IsIndexFrom};
 
 use crate::linking::arrays::leaf_of;
@@ -32,7 +32,7 @@ pub(crate) fn index_set(alloc: Global, set: &[ClassOutline]) -> Result<NameIndex
     Ok(places)
 }
 
-/// Names of array classes, numbered from a number on.
+/// Names of array classes, each once, numbered from a number on.
 #[derive(Drop)]
 pub(crate) struct ArrayNames {
     pub first: usize,
@@ -40,50 +40,68 @@ pub(crate) struct ArrayNames {
     pub index: NameIndex,
 }
 
-/// Puts a name behind the names, unless it is among them.
-fn add_name(
-    alloc: Global,
-    names: &mut Vec<Name>,
-    index: &mut NameIndex,
-    first: usize,
-    name: &[u8],
-) -> Result<(), NoMemory>
-    requires { IsIndexFrom first names.old.items index.old }
-    ensures names { OnOk result (names.new.items ≡ name_added names.old.items name.now) }
-    ensures index { OnOk result (IsIndexFrom first names.new.items index.new) }
-{
-    if index.find(name).is_some() {
-        return Ok(());
-    }
-    let Some(place) = first.checked_add(names.len()) else {
-        return Err(NoMemory);
-    };
-    let number = class_at_place(place)?;
-    let copy = Name::of(alloc, name)?;
-    index.put(alloc, name, number.number())?;
-    names.push(copy)?;
-    Ok(())
-}
+impl ArrayNames {
+    ghost use Rattle.std.specs.Prelude.{◌≡◌, [], OnOk, if◌then◌else◌};
+    ghost use Rattle.et_program.specs.Indices.{number_of_name};
+    ghost use Rattle.et_program.specs.ArrayTypes.{is_type_known, with_element_types, name_added, names_added};
+    ghost use Rattle.et_link.specs.Naming.{AreIndexed};
 
-/// Puts an array type and the array types of its elements behind the names.
-fn add_with_elements(
-    alloc: Global,
-    names: &mut Vec<Name>,
-    index: &mut NameIndex,
-    first: usize,
-    name: &[u8],
-) -> Result<(), NoMemory>
-    requires { IsIndexFrom first names.old.items index.old }
-    ensures names { OnOk result
-        (names.new.items ≡ names_added names.old.items (with_element_types name.now)) }
-    ensures index { OnOk result (IsIndexFrom first names.new.items index.new) }
-{
-    let mut at = 0;
-    while at < name.len() && name[at] == b'[' {
-        add_name(alloc, names, index, first, &name[at..])?;
-        at += 1;
+    /// Puts a name behind the names, unless it is among them.
+    fn add(&mut self, alloc: Global, name: &[u8]) -> Result<(), NoMemory>
+        requires { AreIndexed self.old }
+        ensures first { self.new.first ≡ self.old.first }
+        ensures names { OnOk result
+            (self.new.names.items ≡ name_added self.old.names.items name.now) }
+        ensures index { OnOk result (AreIndexed self.new) }
+    {
+        if self.index.find(name).is_some() {
+            return Ok(());
+        }
+        let Some(place) = self.first.checked_add(self.names.len()) else {
+            return Err(NoMemory);
+        };
+        let number = class_at_place(place)?;
+        let copy = Name::of(alloc, name)?;
+        self.index.put(alloc, name, number.number())?;
+        self.names.push(copy)?;
+        Ok(())
     }
-    Ok(())
+
+    /// Puts an array type and the array types of its elements behind the names.
+    fn add_with_elements(&mut self, alloc: Global, name: &[u8]) -> Result<(), NoMemory>
+        requires { AreIndexed self.old }
+        ensures first { self.new.first ≡ self.old.first }
+        ensures names { OnOk result (self.new.names.items
+            ≡ names_added self.old.names.items (with_element_types name.now)) }
+        ensures index { OnOk result (AreIndexed self.new) }
+    {
+        let mut at = 0;
+        while at < name.len() && name[at] == b'[' {
+            self.add(alloc, &name[at..])?;
+            at += 1;
+        }
+        Ok(())
+    }
+
+    /// The same, if what is under the dimensions of the array type is known.
+    fn add_if_known(
+        &mut self,
+        alloc: Global,
+        places: &NameIndex,
+        name: &[u8],
+    ) -> Result<(), NoMemory>
+        requires { AreIndexed self.old }
+        ensures first { self.new.first ≡ self.old.first }
+        ensures names { OnOk result (self.new.names.items ≡ names_added self.old.names.items
+            (if is_type_known (number_of_name places.now) name.now
+            then with_element_types name.now else [])) }
+        ensures index { OnOk result (AreIndexed self.new) }
+    {
+        if leaf_of(places, name).is_some() {
+            self.add_with_elements(alloc, name)?;
+        }
+        Ok(())
+    }
 }
 
 /// The names of the array classes that a program has, of those that its files name or make.
@@ -98,46 +116,15 @@ pub(crate) fn array_names(
         met.now) }
     ensures index { IfOk result (λ a. IsIndexFrom first a.names.items a.index) }
 {
-    let mut names = Vec::new(alloc);
-    let mut index = NameIndex::begin(alloc);
-    for name in met {
-        add_if_known(
-            alloc,
-            places,
-            &mut names,
-            &mut index,
-            first,
-            name.as_slice(),
-        )?;
-    }
-    Ok(ArrayNames {
+    let mut arrays = ArrayNames {
         first,
-        names,
-        index,
-    })
-}
-
-ghost use Rattle.std.specs.Prelude.{if◌then◌else◌};
-
-/// Puts an array type with those of its elements behind the names, if what is under its dimensions is known.
-fn add_if_known(
-    alloc: Global,
-    places: &NameIndex,
-    names: &mut Vec<Name>,
-    index: &mut NameIndex,
-    first: usize,
-    name: &[u8],
-) -> Result<(), NoMemory>
-    requires { IsIndexFrom first names.old.items index.old }
-    ensures names { OnOk result (names.new.items ≡ names_added names.old.items
-        (if is_type_known (number_of_name places.now) name.now then with_element_types name.now
-        else [])) }
-    ensures index { OnOk result (IsIndexFrom first names.new.items index.new) }
-{
-    if leaf_of(places, name).is_some() {
-        add_with_elements(alloc, names, index, first, name)?;
+        names: Vec::new(alloc),
+        index: NameIndex::begin(alloc),
+    };
+    for name in met {
+        arrays.add_if_known(alloc, places, name.as_slice())?;
     }
-    Ok(())
+    Ok(arrays)
 }
 
 /// The class of this number as what an array has as its elements.

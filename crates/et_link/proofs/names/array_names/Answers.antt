@@ -6,6 +6,7 @@ use Rattle.et_link.proofs.names.array_names.Goals as goal
 
 pub loop-name-preserved : goal.loop-name-preserved
 loop-name-preserved c = record {
+  first = c.in_ok-add_if_known.ensures.first ∙ c.loop-name.invariant.first;
   names =
       c.in_ok-add_if_known.ensures.names
       ∙ (ap (λ l. names_added l (cond (is_type_known (number_of_name c.args.places.now) c.as_slice.result.now) (with_element_types c.as_slice.result.now) [])) c.loop-name.invariant.names
