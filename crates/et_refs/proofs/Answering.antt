@@ -5,6 +5,7 @@ use Rattle.et_base.specs.declared.value.Value.{Value}
 use Rattle.et_state.specs.State.{Kept, MachineState, kept_of}
 use Rattle.et_state.specs.declared.records.Record.{Record}
 use Rattle.et_state.specs.declared.ends.EventEnd.{EventEnd}
+use Rattle.et_state.specs.declared.ends.EventEnd.TheVariants as ends
 use Rattle.et_state.specs.Outcome.{Outcome, state_after}
 use Rattle.et_event.specs.Answered.{EventAnswers}
 use Rattle.et_event.specs.Heap.{with_lengths}
@@ -16,6 +17,10 @@ use Rattle.et_refs.specs.Events.{new_arrays_outcome, with_checked_class}
 
 pub answers_as : {E : Type 0} (x y : Outcome Kept) (r : Result EventEnd E) (m m' : MachineState) (out out' : List Record) → x ≡ y → IfOk r (λ end. EventAnswers y end m m' out out') → IfOk r (λ end. EventAnswers x end m m' out out')
 answers_as x y r m m' out out' same h = subst (λ (z : Outcome Kept). IfOk r (λ end. EventAnswers z end m m' out out')) (sym same) h
+
+-- .. that it is done
+pub answers_done : (x y : Outcome Kept) (end : EventEnd) (m m' : MachineState) (out : List Record) → end ≡ ends.Done → x ≡ y → EventAnswers y ends.Done m m' out out → EventAnswers x end m m' out out
+answers_done x y end m m' out done same h = subst (λ (q : EventEnd). EventAnswers x q m m' out out) (sym done) (subst (λ (z : Outcome Kept). EventAnswers z ends.Done m m' out out) (sym same) h)
 
 -- .. and it visits as many objects, and one for each that is made
 pub visits_as : (x y : Outcome Kept) (m : MachineState) (old new : ℕ) → x ≡ y → new ≤ old + (length (state_after (kept_of m) y).heap - length m.heap) → new ≤ old + (length (state_after (kept_of m) x).heap - length m.heap)

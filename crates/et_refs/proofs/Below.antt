@@ -1,5 +1,5 @@
 -- What stands so far below the top.
-use Rattle.std.proofs.Common.{◌≡◌, ℕ, zero, suc, ◌+◌, ◌<◌, ◌≤◌, ℤ, List, [], ◌∷◌, length, drop, get_or, Some, None, refl, sym, ◌∙◌, ap, subst, arith, Contains, inl, inr}
+use Rattle.std.proofs.Common.{◌≡◌, ℕ, zero, suc, ◌+◌, ◌<◌, ◌≤◌, ℤ, List, [], ◌∷◌, length, drop, get_or, Option, Some, None, refl, sym, ◌∙◌, ap, subst, arith, Contains, inl, inr}
 use Rattle.et_base.specs.declared.value.Value.{Value}
 use Rattle.et_base.specs.declared.value.Value.TheVariants.{Unset, Int, Long, LongHigh, Null, Ref}
 use Rattle.et_base.proofs.Lists.{Contains-here, Contains-none, Contains-cons}
@@ -15,6 +15,34 @@ use Rattle.et_event.specs.Checks.{Reference, with_int, with_long, with_reference
 use Rattle.et_event.specs.Tops.{int_of, long_of, entry_reference}
 use Rattle.et_event.proofs.Groups.{operand_is_in}
 use Rattle.et_refs.specs.Changes.{IsNamedReference}
+
+-- WHAT STANDS SO FAR DOWN, as it is read off an entry
+module _ {X A : Type 0} (of : Value → Option X) (refused : A) (go : X → List Value → A) (read : List Value → A) (there : (v : Value) (ops : List Value) (x : X) → of v ≡ Some x → read (v ∷ ops) ≡ go x ops)
+    (none : (v : Value) (ops : List Value) → of v ≡ None → read (v ∷ ops) ≡ refused) (nothing : read [] ≡ refused) (unset : of Unset ≡ None) where
+  at_depth : (ops : List Value) (k : ℕ) (x : X) → of (get_or ops k Unset) ≡ Some x → read (drop k ops) ≡ go x (drop (suc k) ops)
+  at_depth [] zero x e = cc
+  at_depth [] (suc k) x e = cc
+  at_depth (v ∷ ops) zero x e = there v ops x e
+  at_depth (v ∷ ops) (suc k) x e = at_depth ops k x e
+
+  found_below : (ops : List Value) (k : ℕ) (x : X) → Some x ≡ of (get_or ops k Unset) → read (drop k ops) ≡ go x (drop (k + 1) ops)
+  found_below ops k x e =
+      let one : suc k ≡ k + 1 = omega arith in
+      at_depth ops k x (sym e) ∙ ap (λ (j : ℕ). go x (drop j ops)) one
+
+  none_below : (ops : List Value) (k : ℕ) → None ≡ of (get_or ops k Unset) → read (drop k ops) ≡ refused
+  none_below [] zero e = nothing
+  none_below [] (suc k) e = nothing
+  none_below (v ∷ ops) zero e = none v ops (sym e)
+  none_below (v ∷ ops) (suc k) e = none_below ops k e
+
+deep_enough : {X : Type 0} (of : Value → Option X) → of Unset ≡ None → (ops : List Value) (k : ℕ) (x : X) → Some x ≡ of (get_or ops k Unset) → k < length ops
+deep_enough of unset [] zero x e = cc
+deep_enough of unset [] (suc k) x e = cc
+deep_enough of unset (v ∷ ops) zero x e = omega arith
+deep_enough of unset (v ∷ ops) (suc k) x e = let h : k < length ops = deep_enough of unset ops k x e in omega arith
+
+-- INTS
 
 int_first : {A : Type 0} (v : Value) (ops : List Value) (n : ℤ) (refused : A) (go : ℤ → List Value → A) → int_of v ≡ Some n → with_int refused (v ∷ ops) go ≡ go n ops
 int_first Unset ops n refused go e = cc
@@ -32,28 +60,14 @@ no_int_first LongHigh ops refused go e = refl
 no_int_first Null ops refused go e = refl
 no_int_first (Ref o) ops refused go e = refl
 
-int_at_depth : {A : Type 0} (ops : List Value) (k : ℕ) (n : ℤ) (refused : A) (go : ℤ → List Value → A) → int_of (get_or ops k Unset) ≡ Some n → with_int refused (drop k ops) go ≡ go n (drop (suc k) ops)
-int_at_depth [] zero n refused go e = cc
-int_at_depth [] (suc k) n refused go e = cc
-int_at_depth (v ∷ ops) zero n refused go e = int_first v ops n refused go e
-int_at_depth (v ∷ ops) (suc k) n refused go e = int_at_depth ops k n refused go e
-
 pub int_there : {A : Type 0} (ops : List Value) (k : ℕ) (n : ℤ) (refused : A) (go : ℤ → List Value → A) → Some n ≡ int_of (get_or ops k Unset) → with_int refused (drop k ops) go ≡ go n (drop (k + 1) ops)
-int_there ops k n refused go e =
-    let one : suc k ≡ k + 1 = omega arith in
-    int_at_depth ops k n refused go (sym e) ∙ ap (λ (j : ℕ). go n (drop j ops)) one
+int_there ops k n refused go = found_below int_of refused go (λ xs. with_int refused xs go) (λ v xs x. int_first v xs x refused go) (λ v xs. no_int_first v xs refused go) refl refl ops k n
 
 pub no_int : {A : Type 0} (ops : List Value) (k : ℕ) (refused : A) (go : ℤ → List Value → A) → None ≡ int_of (get_or ops k Unset) → with_int refused (drop k ops) go ≡ refused
-no_int [] zero refused go e = refl
-no_int [] (suc k) refused go e = refl
-no_int (v ∷ ops) zero refused go e = no_int_first v ops refused go (sym e)
-no_int (v ∷ ops) (suc k) refused go e = no_int ops k refused go e
+no_int ops k refused go = none_below int_of refused go (λ xs. with_int refused xs go) (λ v xs x. int_first v xs x refused go) (λ v xs. no_int_first v xs refused go) refl refl ops k
 
 pub int_deep : (ops : List Value) (k : ℕ) (n : ℤ) → Some n ≡ int_of (get_or ops k Unset) → k < length ops
-int_deep [] zero n e = cc
-int_deep [] (suc k) n e = cc
-int_deep (v ∷ ops) zero n e = omega arith
-int_deep (v ∷ ops) (suc k) n e = let h : k < length ops = int_deep ops k n e in omega arith
+int_deep = deep_enough int_of refl
 
 -- LONGS
 
@@ -132,28 +146,16 @@ no_reference_first LongHigh ops refused go e = refl
 no_reference_first Null ops refused go e = cc
 no_reference_first (Ref o) ops refused go e = cc
 
-reference_at_depth : {A : Type 0} (ops : List Value) (k : ℕ) (r : Reference) (refused : A) (go : Reference → List Value → A) → entry_reference (get_or ops k Unset) ≡ Some r → with_reference refused (drop k ops) go ≡ go r (drop (suc k) ops)
-reference_at_depth [] zero r refused go e = cc
-reference_at_depth [] (suc k) r refused go e = cc
-reference_at_depth (v ∷ ops) zero r refused go e = reference_first v ops r refused go e
-reference_at_depth (v ∷ ops) (suc k) r refused go e = reference_at_depth ops k r refused go e
-
 pub reference_there : {A : Type 0} (ops : List Value) (k : ℕ) (r : Reference) (refused : A) (go : Reference → List Value → A) → Some r ≡ entry_reference (get_or ops k Unset) → with_reference refused (drop k ops) go ≡ go r (drop (k + 1) ops)
-reference_there ops k r refused go e =
-    let one : suc k ≡ k + 1 = omega arith in
-    reference_at_depth ops k r refused go (sym e) ∙ ap (λ (j : ℕ). go r (drop j ops)) one
+reference_there ops k r refused go =
+    found_below entry_reference refused go (λ xs. with_reference refused xs go) (λ v xs x. reference_first v xs x refused go) (λ v xs. no_reference_first v xs refused go) refl refl ops k r
 
 pub no_reference : {A : Type 0} (ops : List Value) (k : ℕ) (refused : A) (go : Reference → List Value → A) → None ≡ entry_reference (get_or ops k Unset) → with_reference refused (drop k ops) go ≡ refused
-no_reference [] zero refused go e = refl
-no_reference [] (suc k) refused go e = refl
-no_reference (v ∷ ops) zero refused go e = no_reference_first v ops refused go (sym e)
-no_reference (v ∷ ops) (suc k) refused go e = no_reference ops k refused go e
+no_reference ops k refused go =
+    none_below entry_reference refused go (λ xs. with_reference refused xs go) (λ v xs x. reference_first v xs x refused go) (λ v xs. no_reference_first v xs refused go) refl refl ops k
 
 pub reference_deep : (ops : List Value) (k : ℕ) (r : Reference) → Some r ≡ entry_reference (get_or ops k Unset) → k < length ops
-reference_deep [] zero r e = cc
-reference_deep [] (suc k) r e = cc
-reference_deep (v ∷ ops) zero r e = omega arith
-reference_deep (v ∷ ops) (suc k) r e = let h : k < length ops = reference_deep ops k r e in omega arith
+reference_deep = deep_enough entry_reference refl
 
 -- an object that a reference names stands in the value
 named_by : (v : Value) (r : Reference) (o : ℕ) → Some r ≡ entry_reference v → r ≡ Some o → Contains (refs_of_value v) o

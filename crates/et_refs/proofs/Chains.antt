@@ -1,5 +1,5 @@
 -- The rows in parts: what goes on behind each check.
-use Rattle.std.proofs.Common.{◌≡◌, ℕ, ◌++◌, ◌∷◌, ℤ, List, Option, Some, Result, Ok, Err, IfOk, Bool, true, false, unwrap_or, drop, not, refl, sym, ◌∙◌, ap}
+use Rattle.std.proofs.Common.{◌≡◌, ℕ, ◌++◌, ◌∷◌, ℤ, List, Option, None, Some, Result, Ok, Err, IfOk, Bool, true, false, unwrap_or, drop, not, refl, sym, ◌∙◌, ap}
 use Rattle.std.specs.Prelude.{pos, ◌+◌, nat_le, length}
 use Rattle.et_class.specs.Descriptors.{width_of}
 use Rattle.et_state.specs.Threads.{FrameState}
@@ -12,17 +12,20 @@ use Rattle.et_heap.specs.Objects.{object_at, slot_of}
 use Rattle.et_state.specs.State.{Kept}
 use Rattle.et_state.specs.Outcome.{Outcome}
 use Rattle.et_event.specs.declared.rows.Elements.{Elements}
-use Rattle.et_event.specs.declared.errors.GuestError.TheVariants.{ArrayIndexOutOfBoundsException, ArrayStoreException, ClassCastException, IncompatibleClassChangeError}
+use Rattle.et_event.specs.declared.errors.GuestError.TheVariants.{ArrayIndexOutOfBoundsException, ArrayStoreException, IncompatibleClassChangeError}
 use Rattle.et_event.specs.Moments.{Moment, current_frame, begins, object_class, next_object, array_made, slot_written, ill_typed, goes, ends_event}
 use Rattle.et_event.specs.Checks.{Reference, with_int, with_reference, with_value, entries_of, ill_typed_unless, throws_unless, not_null}
-use Rattle.et_event.specs.Heap.{leaving_values, field_fits, resolved_field, is_static_at, with_holder, with_element, element_of_array, length_of, passes_element, resolved_class, cast, type_tested, truth, new_array_of}
+use Rattle.et_event.specs.Heap.{leaving_values, field_fits, resolved_field, is_static_at, with_holder, with_element, element_of_array, length_of, passes_element, resolved_class, truth, with_class, new_array_of}
 use Rattle.et_event.specs.Kinds.{kind_of_field, or_zero, narrowed, kind_of_elements, kept_element, is_array_element, are_elements, in_bounds}
 use Rattle.et_event.specs.Operands.{operand_kind}
 use Rattle.et_event.specs.PoolOperands.Operand.{Operand}
-use Rattle.et_event.specs.Sites.{Site, Member, natural_of}
+use Rattle.et_event.specs.Sites.{Site, Member, class_operand, natural_of}
 use Rattle.et_refs.specs.declared.refusals.Refusal.{Refusal}
 use Rattle.et_refs.specs.Changes.{put_outcome}
 use Rattle.et_refs.specs.Refusals.{outcome_of, refusal_outcome}
+use Rattle.et_refs.specs.TypeTests.{left_by, left_by_null, tested, type_test}
+use Rattle.et_refs.specs.declared.types.casts.TypeTest.{TypeTest}
+use Rattle.et_refs.specs.declared.types.casts.TypeTest.TheVariants as tests
 
 -- a check refused, and so the event
 pub refusing : {B : Type 0} (e : Moment) (x : Outcome Kept) (s : Result B Refusal) (r : Refusal) (h : B → Outcome Kept) → x ≡ refusal_outcome e r → s ≡ Err r → x ≡ outcome_of e s h
@@ -118,28 +121,31 @@ slot_held_by e r go f = with_holder e (begins e) f r (λ o. go o (field_at e.pro
 
 -- TYPE TESTS
 
-abbrev pub casts : Moment → Site → List Value → ℕ → ℕ → Outcome Kept
-casts e at below o class = throws_unless e (begins e) ClassCastException (passes e.program (object_class (begins e) o) class) (put_outcome e at below (Ref o))
-
-abbrev pub tests : Moment → Site → List Value → ℕ → ℕ → Outcome Kept
-tests e at below o class = goes (leaving_values e at (truth (passes e.program (object_class (begins e) o) class) ∷ below) (begins e))
-
 -- a truth takes one entry
 pub truth_left : (e : Moment) (at : Site) (below : List Value) (b : Bool) → goes (leaving_values e at (truth b ∷ below) (begins e)) ≡ put_outcome e at below (truth b)
 truth_left e at below true = refl
 truth_left e at below false = refl
 
-abbrev pub casts_reference : Moment → Site → List ℕ → Reference → List Value → Outcome Kept
-casts_reference e at name r below = cast e at name below r
+abbrev pub tests_reference : TypeTest → Moment → Site → List ℕ → Reference → List Value → Outcome Kept
+tests_reference test e at name r below = tested test e at name below r
 
-abbrev pub casts_named : Moment → Site → List ℕ → Outcome Kept
-casts_named e at name = with_reference (ill_typed e) (current_frame e).operands (casts_reference e at name)
+abbrev pub tests_named : TypeTest → Moment → Site → List ℕ → Outcome Kept
+tests_named test e at name = with_reference (ill_typed e) (current_frame e).operands (tests_reference test e at name)
 
-abbrev pub tests_reference : Moment → Site → List ℕ → Reference → List Value → Outcome Kept
-tests_reference e at name r below = type_tested e at name below r
+pub test_names : (test : TypeTest) (e : Moment) (at : Site) → type_test test e at ≡ with_class e (class_operand at) (tests_named test e at)
+test_names tests.CheckCast e at = refl
+test_names tests.InstanceOf e at = refl
 
-abbrev pub tests_named : Moment → Site → List ℕ → Outcome Kept
-tests_named e at name = with_reference (ill_typed e) (current_frame e).operands (tests_reference e at name)
+pub tests_null : (test : TypeTest) (e : Moment) (at : Site) (name : List ℕ) (below : List Value) → tested test e at name below None ≡ put_outcome e at below (left_by_null test)
+tests_null tests.CheckCast e at name below = refl
+tests_null tests.InstanceOf e at name below = refl
+
+abbrev pub tests_object : TypeTest → Moment → Site → List Value → ℕ → ℕ → Outcome Kept
+tests_object test e at below o class = left_by test e at below o (passes e.program (object_class (begins e) o) class)
+
+pub object_tested : (test : TypeTest) (e : Moment) (at : Site) (name : List ℕ) (below : List Value) (o : ℕ) → tested test e at name below (Some o) ≡ resolved_class e (begins e) name (tests_object test e at below o)
+object_tested tests.CheckCast e at name below o = refl
+object_tested tests.InstanceOf e at name below o = refl
 
 -- IASTORE AND ITS KIN
 

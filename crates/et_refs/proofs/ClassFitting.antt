@@ -1,5 +1,5 @@
 -- What holds of an access to a static field.
-use Rattle.std.proofs.Common.{◌≡◌, ℕ, ◌+◌, ◌<◌, ◌≤◌, List, length, Option, sym, ◌∙◌, ap, subst, arith, Contains}
+use Rattle.std.proofs.Common.{◌≡◌, ℕ, ◌+◌, ◌<◌, ◌≤◌, true, List, length, Option, sym, ◌∙◌, ap, subst, arith, Contains}
 use Rattle.std.specs.Prelude.{slice_index_or}
 use Rattle.et_base.specs.declared.value.Value.{Value}
 use Rattle.et_pool.specs.Descriptors.{width_of}
@@ -17,12 +17,13 @@ use Rattle.et_refs.proofs.Reading.{kept_refers}
 use Rattle.et_event.specs.Programs.{HasSlots}
 use Rattle.et_event.proofs.Values.{read_width}
 use Rattle.et_refs.specs.declared.doing.accesses.Access.TheVariants as access
-use Rattle.et_refs.specs.Accesses.{IsStaticField, MayWant}
+use Rattle.et_refs.specs.Accesses.{MayWant}
+use Rattle.et_refs.specs.NamedFields.{IsFieldOf}
 
-pub may_read : (p : Linked) (f : FrameState) (type : List ℕ) (field width : ℕ) (info : FieldInfo) (kind : Option Operand) → HasSlots p → IsStaticField p type field → width ≡ width_of type
+pub may_read : (p : Linked) (f : FrameState) (type : List ℕ) (field width : ℕ) (info : FieldInfo) (kind : Option Operand) → HasSlots p → IsFieldOf p true type field → width ≡ width_of type
     → width + length f.operands ≤ f.room → info ≡ field_at p field → kind ≡ operand_kind type → MayWant p f (record { class = info.class; access = access.Read (record { slot = info.slot; kind = kind }) })
 may_read p f type field width info kind slots is wide fit named shown =
-    let at = slots.statics field is.within is.static in
+    let at = slots.statics field is.within is.flag in
     let slot : info.slot ≡ (field_at p field).slot = ap (λ (x : FieldInfo). x.slot) named in
     let there : slice_index_or p.statics info.slot 0 ≡ field = ap (λ (i : ℕ). slice_index_or p.statics i 0) slot ∙ at.1 in
     record {
@@ -37,10 +38,10 @@ may_read p f type field width info kind slots is wide fit named shown =
       };
     }
 
-pub may_write : (p : Linked) (f : FrameState) (type : List ℕ) (field width : ℕ) (v kept : Value) (info : FieldInfo) → HasSlots p → IsStaticField p type field → width ≤ length f.operands → width ≤ 2
+pub may_write : (p : Linked) (f : FrameState) (type : List ℕ) (field width : ℕ) (v kept : Value) (info : FieldInfo) → HasSlots p → IsFieldOf p true type field → width ≤ length f.operands → width ≤ 2
     → IsIn f v → kept ≡ narrowed type v → info ≡ field_at p field → MayWant p f (record { class = info.class; access = access.Write (record { slot = info.slot; taken = width; value = kept }) })
 may_write p f type field width v kept info slots is deep few inside keeps named =
-    let at = slots.statics field is.within is.static in
+    let at = slots.statics field is.within is.flag in
     let slot : info.slot ≡ (field_at p field).slot = ap (λ (x : FieldInfo). x.slot) named in
     record {
       class = subst (λ (x : FieldInfo). x.class < length p.classes) (sym named) (slots.owners field is.within);

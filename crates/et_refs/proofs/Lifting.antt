@@ -13,12 +13,14 @@ use Rattle.et_state.specs.Words.{HasFrame, thread_at, ticked, top, with_top, beg
 use Rattle.et_state.proofs.Places.{top_root}
 use Rattle.et_state.proofs.Steps.{slot_held}
 use Rattle.et_event.specs.Answered.{EventAnswers}
+use Rattle.et_event.specs.Beginning.{BeginsEvent}
 use Rattle.et_event.specs.Checks.{entries_of}
 use Rattle.et_event.specs.Moments.{moment}
 use Rattle.et_event.specs.Sites.{Site}
 use Rattle.et_event.specs.Sound.{IsSoundFor}
 use Rattle.et_ops.proofs.Lifting.{landed, landed_guest, landed_same, lifted, rest_short}
 use Rattle.et_event.proofs.Taking.{replaced}
+use Rattle.et_refs.specs.Asked.{MayStep}
 use Rattle.et_refs.specs.Changes.{MayExchange, exchange_outcome}
 use Rattle.et_refs.specs.Reads.{IsReadable, IsSoundHeap, exchanged}
 use Rattle.et_refs.specs.declared.doing.changes.Exchange.{Exchange}
@@ -39,6 +41,10 @@ readable_lifted p m m₁ t r has sound e same =
 -- .. and nothing was done
 pub not_done : (m m₁ m₂ : MachineState) (t : ℕ) (r : RunningState) → HasFrame m.guest t → m₁ ≡ lifted m t → r.frame ≡ top m.guest t → r.below ≡ rest_of (thread_at m.guest t).frames → m₂ ≡ landed m₁ t r → m₂ ≡ m
 not_done m m₁ m₂ t r has e₁ frame below e₂ = e₂ ∙ (ap (λ (n : MachineState). landed n t r) e₁ ∙ landed_same m t r has frame below)
+
+-- .. so another event may be done
+pub may_step : (p : Linked) (m : MachineState) (t : ℕ) → HasFrame m.guest t → BeginsEvent p m t → MayStep m t
+may_step p m t has begins = record { frame = has; sound = begins.sound.held; clock = begins.clock }
 
 -- there are few frames below it
 pub few_below : (p : Linked) (m : MachineState) (t : ℕ) (below : List FrameState) → HasFrame m.guest t → IsSoundFor p (kept_of m) → below ≡ rest_of (thread_at m.guest t).frames → length below < most_frames

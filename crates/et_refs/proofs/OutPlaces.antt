@@ -26,6 +26,7 @@ use Rattle.et_event.proofs.Answering.{if_ok}
 use Rattle.et_event.specs.Places.{IsPlace, site_at}
 use Rattle.et_event.specs.declared.places.Place.{Place}
 use Rattle.et_refs.specs.Rows.{is_get_static}
+use Rattle.et_refs.proofs.Over.{no_out}
 
 pub out_at_place : (p : Linked) (m : MachineState) (t : ℕ) (place : Place) → turn_of (thread_at m.guest t) ≡ Instruction → IsPlace p (top m.guest t) place → out_turn p (kept_of m) t ≡ out_at (moment p m t) (site_at place) place.row
 out_at_place p m t place turn is =
@@ -105,19 +106,7 @@ left_to_other p m t o end out named is = subst (λ (q : Option ℕ). DefersOrAns
 -- THE OTHER ROWS read no static field
 
 other_row : (e : Moment) (at : Site) (r : HeapRow) → is_get_static r ≡ false → false ≡ is_some (out_at e at (rows.Heap r))
-other_row e at heap_rows.GetStatic h = cc
-other_row e at heap_rows.PutStatic h = refl
-other_row e at heap_rows.GetField h = refl
-other_row e at heap_rows.PutField h = refl
-other_row e at (heap_rows.LoadElement k) h = refl
-other_row e at (heap_rows.StoreElement k) h = refl
-other_row e at heap_rows.New h = refl
-other_row e at heap_rows.NewArray h = refl
-other_row e at heap_rows.NewReferenceArray h = refl
-other_row e at heap_rows.NewMultiArray h = refl
-other_row e at heap_rows.ArrayLength h = refl
-other_row e at heap_rows.CheckCast h = refl
-other_row e at heap_rows.InstanceOf h = refl
+other_row e at r h = ap is_some (sym (no_out e at r h))
 
 pub static_row : (r : HeapRow) → is_get_static r ≡ true → r ≡ heap_rows.GetStatic
 static_row heap_rows.GetStatic h = refl

@@ -1,6 +1,6 @@
 -- Instructions that read the heap, over lifted frames.
 use Rattle.std.proofs.Common.{◌≡◌, ℕ, true, false, List, [], ◌++◌, take, drop, Option, Some, None, refl, sym, ap, subst, ◌∙◌, append-nil, Contains}
-use Rattle.std.specs.Prelude.{Result, Ok, option_and_then}
+use Rattle.std.specs.Prelude.{Result, Ok, Err, IfOk, option_and_then}
 use Rattle.et_base.specs.declared.value.Value.{Value}
 use Rattle.et_code.specs.declared.instr.Instr.{Instr}
 use Rattle.et_code.specs.declared.instr.CodeFault.{CodeFault}
@@ -40,12 +40,14 @@ use Rattle.et_event.proofs.Running.{has_frame_there}
 use Rattle.et_event.proofs.Taking.{replaced}
 use Rattle.et_ops.proofs.InFrame.{ran, ran_begin, ran_step}
 use Rattle.et_refs.specs.Changes.{MayExchange, exchange_outcome}
-use Rattle.et_refs.specs.Reads.{exchanged, is_read_row, moment_over}
+use Rattle.et_refs.specs.LiftedChanges.{is_lifted_row, stores_number}
+use Rattle.et_refs.specs.Reads.{exchanged, moment_over}
 use Rattle.et_refs.specs.Refusals.{outcome_of}
 use Rattle.et_refs.specs.Rows.{is_get_static}
 use Rattle.et_refs.specs.Steps.{Instructs, IsStepOver, MovesOver, StepsOver, over}
 use Rattle.et_refs.specs.declared.doing.changes.Exchange.{Exchange}
 use Rattle.et_refs.specs.declared.refusals.Refusal.{Refusal}
+use Rattle.et_refs.specs.declared.slots.steps.LiftedChange.{LiftedChange}
 use Rattle.et_refs.proofs.Leading.{entries_refer, moves_held}
 
 -- CALL BY CALL
@@ -89,7 +91,7 @@ held_led s t f lost sound has moves =
 no_text : (e : Moment) (at : Site) (r : HeapRow) → text_call_at e at (rows.Heap r) ≡ None
 no_text e at r = refl
 
-no_out : (e : Moment) (at : Site) (r : HeapRow) → is_get_static r ≡ false → out_at e at (rows.Heap r) ≡ None
+pub no_out : (e : Moment) (at : Site) (r : HeapRow) → is_get_static r ≡ false → out_at e at (rows.Heap r) ≡ None
 no_out e at heap_rows.GetStatic h = cc
 no_out e at heap_rows.PutStatic h = refl
 no_out e at heap_rows.GetField h = refl
@@ -104,20 +106,20 @@ no_out e at heap_rows.ArrayLength h = refl
 no_out e at heap_rows.CheckCast h = refl
 no_out e at heap_rows.InstanceOf h = refl
 
-read_no_static : (r : HeapRow) → is_read_row r ≡ true → is_get_static r ≡ false
-read_no_static heap_rows.GetStatic h = cc
-read_no_static heap_rows.PutStatic h = refl
-read_no_static heap_rows.GetField h = refl
-read_no_static heap_rows.PutField h = refl
-read_no_static (heap_rows.LoadElement k) h = refl
-read_no_static (heap_rows.StoreElement k) h = refl
-read_no_static heap_rows.New h = refl
-read_no_static heap_rows.NewArray h = refl
-read_no_static heap_rows.NewReferenceArray h = refl
-read_no_static heap_rows.NewMultiArray h = refl
-read_no_static heap_rows.ArrayLength h = refl
-read_no_static heap_rows.CheckCast h = refl
-read_no_static heap_rows.InstanceOf h = refl
+pub lifted_no_static : (r : HeapRow) → is_lifted_row r ≡ true → is_get_static r ≡ false
+lifted_no_static heap_rows.GetStatic h = cc
+lifted_no_static heap_rows.PutStatic h = refl
+lifted_no_static heap_rows.GetField h = refl
+lifted_no_static heap_rows.PutField h = refl
+lifted_no_static (heap_rows.LoadElement k) h = refl
+lifted_no_static (heap_rows.StoreElement k) h = refl
+lifted_no_static heap_rows.New h = refl
+lifted_no_static heap_rows.NewArray h = refl
+lifted_no_static heap_rows.NewReferenceArray h = refl
+lifted_no_static heap_rows.NewMultiArray h = refl
+lifted_no_static heap_rows.ArrayLength h = refl
+lifted_no_static heap_rows.CheckCast h = refl
+lifted_no_static heap_rows.InstanceOf h = refl
 
 -- what stands in a method
 abbrev pub site_in : Linked → MethodInfo → Instr × ℕ → Site
@@ -170,11 +172,16 @@ module _ (p : Linked) (heap : Objects) (f : FrameState) (x : Instr × ℕ) (row 
     }
 
 pub read_steps : (p : Linked) (heap : Objects) (x : Instr × ℕ) (row : HeapRow) (method : MethodInfo) (y : Exchange) (r r' : RunningState) → method ≡ running_method p r.frame → instruction_at (present_body method.code).code r.frame.pc ≡ Ok x → row_of x.0.opcode ≡ Some (rows.Heap row)
-    → is_read_row row ≡ true → MayExchange heap r.frame y
+    → is_lifted_row row ≡ true → MayExchange heap r.frame y
     → ((g : GuestState) (t : ℕ) → top g t ≡ r.frame → heap_event (moment_over p heap g t) (site_in p method x) row ≡ exchange_outcome (moment_over p heap g t) (site_in p method x) y)
     → r' ≡ exchanged y x.1 r → StepsOver p heap heap true r r'
-read_steps p heap x row method y r r' runs decoded at_row reads may is e =
-    subst (λ (q : RunningState). StepsOver p heap heap true r q) (sym e) (refl, read_over p heap r.frame x row method runs decoded at_row (read_no_static row reads) y may is)
+read_steps p heap x row method y r r' runs decoded at_row lifted may is e =
+    subst (λ (q : RunningState). StepsOver p heap heap true r q) (sym e) (refl, read_over p heap r.frame x row method runs decoded at_row (lifted_no_static row lifted) y may is)
+
+-- no number is written
+pub no_number : {E : Type 0} (r : Result LiftedChange E) (P : Type 0) → IfOk r (λ x. stores_number x ≡ false) → IfOk r (λ x. stores_number x ≡ true → P)
+no_number (Ok x) P off = λ on. let both : true ≡ false = sym on ∙ off in absurd (cc)
+no_number (Err e) P off = tt
 
 -- of an answer that goes on, what goes on
 pub goes_on : (e : Moment) (o : Outcome Kept) (r : Result Exchange Refusal) (x : Exchange) (at : Site) → r ≡ Ok x → o ≡ outcome_of e r (exchange_outcome e at) → o ≡ exchange_outcome e at x

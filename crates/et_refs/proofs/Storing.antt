@@ -1,5 +1,5 @@
 -- Instructions that write a number to a slot, over lifted frames and as an event.
-use Rattle.std.proofs.Common.{◌≡◌, ℕ, true, false, List, [], ◌++◌, take, Some, refl, sym, ap, subst, ◌∙◌, append-nil, Contains}
+use Rattle.std.proofs.Common.{◌≡◌, ℕ, true, List, [], ◌++◌, take, Some, refl, sym, ap, subst, ◌∙◌, append-nil, Contains}
 use Rattle.std.specs.Prelude.{Ok}
 use Rattle.std.proofs.lemmas.List.{length-set}
 use Rattle.et_base.specs.declared.value.Value.{Value}
@@ -22,7 +22,6 @@ use Rattle.et_state.specs.ThreadRoots.{frame_roots}
 use Rattle.et_state.specs.Threads.{FrameState, at_pc, popped, rest_of}
 use Rattle.et_state.specs.Words.{HasFrame, begun, losing, steps_object, steps_top, thread_at, ticked, top, with_top}
 use Rattle.et_event.specs.declared.rows.HeapRow.{HeapRow}
-use Rattle.et_event.specs.declared.rows.HeapRow.TheVariants as heap_rows
 use Rattle.et_event.specs.declared.rows.Row.TheVariants as rows
 use Rattle.et_event.specs.Answered.{EventAnswers}
 use Rattle.et_event.specs.Heap.{heap_event}
@@ -34,13 +33,13 @@ use Rattle.et_event.proofs.Taking.{replaced}
 use Rattle.et_ops.proofs.InFrame.{ran, ran_begin, ran_step}
 use Rattle.et_ops.proofs.Lifting.{landed, landed_guest, lifted}
 use Rattle.et_refs.specs.Changes.{MayStore, is_number, store_outcome}
+use Rattle.et_refs.specs.LiftedChanges.{is_lifted_row}
 use Rattle.et_refs.specs.Reads.{moment_over}
-use Rattle.et_refs.specs.Rows.{is_get_static}
 use Rattle.et_refs.specs.Steps.{Instructs, IsStepOver, MovesOver, StepsOver, over}
-use Rattle.et_refs.specs.Writes.{is_write_row, taken_for, written}
+use Rattle.et_refs.specs.Writes.{taken_for, written}
 use Rattle.et_refs.specs.declared.doing.changes.Store.{Store}
 use Rattle.et_refs.proofs.Leading.{moves_held, write_led}
-use Rattle.et_refs.proofs.Over.{event_over, silent_over, site_in}
+use Rattle.et_refs.proofs.Over.{event_over, lifted_no_static, silent_over, site_in}
 
 -- CALL BY CALL
 pub taken_is : (b : RunningState) (x : Store) (pc : ℕ) (r₁ r₂ r₃ : RunningState) → r₁.frame ≡ b.frame → r₁.below ≡ b.below → r₁.lost ≡ []
@@ -93,23 +92,8 @@ number_led s t x pc sound has may number =
 store_moves : (heap : Objects) (f : FrameState) (x : Store) (pc : ℕ) → MovesOver heap f (stored_frame x pc f) (refs_of (take x.taken f.operands))
 store_moves heap f x pc = moves_held (IsHeld heap) (Contains (frame_roots f)) f x.taken pc [] (λ o c. absurd (Contains-none o c)) (λ o c. c)
 
-write_no_static : (r : HeapRow) → is_write_row r ≡ true → is_get_static r ≡ false
-write_no_static heap_rows.GetStatic h = cc
-write_no_static heap_rows.PutStatic h = refl
-write_no_static heap_rows.GetField h = refl
-write_no_static heap_rows.PutField h = refl
-write_no_static (heap_rows.LoadElement k) h = refl
-write_no_static (heap_rows.StoreElement k) h = refl
-write_no_static heap_rows.New h = refl
-write_no_static heap_rows.NewArray h = refl
-write_no_static heap_rows.NewReferenceArray h = refl
-write_no_static heap_rows.NewMultiArray h = refl
-write_no_static heap_rows.ArrayLength h = refl
-write_no_static heap_rows.CheckCast h = refl
-write_no_static heap_rows.InstanceOf h = refl
-
 -- IT IS DONE, over lifted frames
-module _ (p : Linked) (heap : Objects) (f : FrameState) (x : Instr × ℕ) (row : HeapRow) (method : MethodInfo) (runs : method ≡ running_method p f) (decoded : instruction_at (present_body method.code).code f.pc ≡ Ok x) (at_row : row_of x.0.opcode ≡ Some (rows.Heap row)) (writes : is_write_row row ≡ true)
+module _ (p : Linked) (heap : Objects) (f : FrameState) (x : Instr × ℕ) (row : HeapRow) (method : MethodInfo) (runs : method ≡ running_method p f) (decoded : instruction_at (present_body method.code).code f.pc ≡ Ok x) (at_row : row_of x.0.opcode ≡ Some (rows.Heap row)) (lifted : is_lifted_row row ≡ true)
     (y : Store) (may : MayStore heap f y) (number : is_number y.value ≡ true) (is : (g : GuestState) (t : ℕ) → top g t ≡ f → heap_event (moment_over p heap g t) (site_in p method x) row ≡ store_outcome (moment_over p heap g t) (site_in p method x) y) where
   done_there : (g : GuestState) (t : ℕ) → top g t ≡ f → store_outcome (moment_over p heap g t) (site_in p method x) y ≡ Goes (over (written y heap) (with_top (ticked g) t (stored_frame y x.1 f))) []
   done_there g t same = stored_is (moment_over p heap g t) (site_in p method x) y number ∙ ap (λ (z : FrameState). let o : Outcome Kept = Goes (over (written y heap) (with_top (ticked g) t (stored_frame y x.1 z))) [] in o) same
@@ -122,8 +106,8 @@ module _ (p : Linked) (heap : Objects) (f : FrameState) (x : Instr × ℕ) (row 
 
   write_over : IsStepOver p heap (written y heap) f (stored_frame y x.1 f) (refs_of (take y.taken f.operands))
   write_over = record {
-    leads = λ g t i. event_over p heap f x row method runs decoded at_row (write_no_static row writes) g t i ∙ (is g t i.frame ∙ done_there g t i.frame);
-    silent = silent_over p heap f x row method runs decoded at_row (write_no_static row writes);
+    leads = λ g t i. event_over p heap f x row method runs decoded at_row (lifted_no_static row lifted) g t i ∙ (is g t i.frame ∙ done_there g t i.frame);
+    silent = silent_over p heap f x row method runs decoded at_row (lifted_no_static row lifted);
     legal = legal_there;
     moves = store_moves (written y heap) f y x.1;
     made = length-set heap y.object (Some (with_slot y.slot y.value (object_at heap y.object)));
@@ -131,12 +115,12 @@ module _ (p : Linked) (heap : Objects) (f : FrameState) (x : Instr × ℕ) (row 
   }
 
 pub write_steps : (p : Linked) (heap heap' : Objects) (x : Instr × ℕ) (row : HeapRow) (method : MethodInfo) (y : Store) (r r' : RunningState) → method ≡ running_method p r.frame → instruction_at (present_body method.code).code r.frame.pc ≡ Ok x → row_of x.0.opcode ≡ Some (rows.Heap row)
-    → is_write_row row ≡ true → MayStore heap r.frame y → is_number y.value ≡ true
+    → is_lifted_row row ≡ true → MayStore heap r.frame y → is_number y.value ≡ true
     → ((g : GuestState) (t : ℕ) → top g t ≡ r.frame → heap_event (moment_over p heap g t) (site_in p method x) row ≡ store_outcome (moment_over p heap g t) (site_in p method x) y)
     → heap' ≡ written y heap → r' ≡ taken_for y x.1 r → StepsOver p heap heap' true r r'
-write_steps p heap heap' x row method y r r' runs decoded at_row writes may number is e₁ e₂ =
+write_steps p heap heap' x row method y r r' runs decoded at_row lifted may number is e₁ e₂ =
     subst (λ (q : RunningState). StepsOver p heap heap' true r q) (sym e₂)
-    (subst (λ (h : Objects). StepsOver p heap h true r (taken_for y x.1 r)) (sym e₁) (refl, write_over p heap r.frame x row method runs decoded at_row writes y may number is))
+    (subst (λ (h : Objects). StepsOver p heap h true r (taken_for y x.1 r)) (sym e₁) (refl, write_over p heap r.frame x row method runs decoded at_row lifted y may number is))
 
 -- THE EVENT of a thread whose frames were lifted
 module _ (m : MachineState) (t : ℕ) (r : RunningState) (x : Store) (pc : ℕ) (sound : IsSound (kept_of m)) (has : HasFrame m.guest t) (frame : r.frame ≡ top m.guest t) (below : r.below ≡ rest_of (thread_at m.guest t).frames) (may : MayStore m.heap r.frame x) (number : is_number x.value ≡ true) where

@@ -3,8 +3,6 @@
 use Rattle.std.specs.Prelude.{◌≡◌, ℕ, ◌+◌, ◌*◌, ◌<◌, ◌≤◌, true, List, [], ◌∷◌, ◌++◌, length, drop, take, slice_index_or}
 use Rattle.et_base.specs.declared.value.Value.{Value}
 use Rattle.et_base.specs.declared.value.Value.TheVariants.{Ref}
-use Rattle.et_class.specs.Names.{has}
-use Rattle.et_class.specs.declared.flags.TheConstants.{STATIC}
 use Rattle.et_heap.specs.Objects.{has_room, new_object}
 use Rattle.et_heap.specs.Refs.{refs_of_value, refs_of}
 use Rattle.et_state.specs.Threads.{FrameState}
@@ -55,12 +53,6 @@ slots_accessed p class (access.Write x) = 0
 slots_accessed p class access.Make = (class_at p class).info.slots
 
 -- WHAT HOLDS OF AN ACCESS
-
--- a static field of this descriptor
-pub record IsStaticField (p : Linked) (type : List ℕ) (f : ℕ) : Type 0 where
-  pub within : f < length p.fields
-  pub static : has (field_at p f).flags STATIC ≡ true
-  pub descriptor : (field_at p f).descriptor ≡ type
 
 -- each value that the field may hold fits on top
 pub record MayRead (p : Linked) (f : FrameState) (x : Read) : Type 0 where

@@ -13,3 +13,6 @@ pub mod Filling
 pub mod Events
 pub mod Accesses
 pub mod StaticReads
+pub mod Asked
+pub mod TypeTests
+pub mod LiftedChanges

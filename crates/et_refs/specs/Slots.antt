@@ -1,19 +1,10 @@
 -- A slot that an instruction reads or writes.
-use Rattle.std.specs.Prelude.{◌≡◌, ℕ, ◌<◌, true, false, List, length, Option, Some}
-use Rattle.et_class.specs.Names.{has}
-use Rattle.et_class.specs.declared.flags.TheConstants.{STATIC}
-use Rattle.et_program.specs.Entries.{Linked, field_at}
+use Rattle.std.specs.Prelude.{◌≡◌, ℕ, ◌<◌, true, length, Option, Some}
 use Rattle.et_heap.specs.Objects.{Objects, IsHeld, object_at, slot_of}
 use Rattle.et_event.specs.PoolOperands.Operand.{Operand}
 use Rattle.et_event.specs.PoolOperands.Operand.TheVariants as operand
 use Rattle.et_event.specs.Sound.{is_of_kind}
 use Rattle.et_refs.specs.declared.slots.SlotAt.{SlotAt}
-
--- an instance field of this descriptor
-pub record IsInstanceField (p : Linked) (type : List ℕ) (f : ℕ) : Type 0 where
-  pub within : f < length p.fields
-  pub instance : has (field_at p f).flags STATIC ≡ false
-  pub descriptor : (field_at p f).descriptor ≡ type
 
 -- the object is held and has this slot, which holds nothing yet or a value of the kind
 pub record IsSlotAt (heap : Objects) (kind : Option Operand) (x : SlotAt) : Type 0 where

@@ -6,19 +6,19 @@ pub(crate) mod dimensions;
 pub(crate) mod filling;
 pub(crate) mod lengths;
 
-ghost use Rattle.std.specs.Prelude.{◌≡◌, ℕ, ◌+◌, ◌<◌, ◌≤◌, ◌^◌, drop, length, unwrap_or, IfOk};
+ghost use Rattle.std.specs.Prelude.{◌≡◌, ℕ, ◌+◌, ◌<◌, ◌≤◌, drop, length, unwrap_or, IfOk};
 ghost use Rattle.et_state.specs.State.{Kept, kept_of};
 ghost use Rattle.et_state.specs.Words.{HasFrame, top};
 ghost use Rattle.et_program.specs.Entries.{class_at};
 ghost use Rattle.et_event.specs.Heap.{new_array_of, new_array as base_type_array, new_reference_array as reference_array};
 ghost use Rattle.et_event.specs.Moments.{Moment, moment, current_frame};
-ghost use Rattle.et_event.specs.Sites.{Site, natural_of};
+ghost use Rattle.et_event.specs.Sites.{Site};
 ghost use Rattle.et_event.specs.Sound.{IsSoundFor};
 ghost use Rattle.et_event.specs.Places.{site_at};
 ghost use Rattle.et_refs.specs.Changes.{MayMake, new_array_outcome};
 ghost use Rattle.et_program.specs.Members.{base_array};
-ghost use Rattle.et_program.specs.Referring.{pool_of_class};
-ghost use Rattle.et_refs.specs.Refusals.{outcome_of};
+ghost use Rattle.et_refs.specs.Asked.{MayRefer};
+ghost use Rattle.et_refs.specs.Refusals.{ComesTo, outcome_of};
 ghost use Rattle.et_event.specs.Programs.{AreElementsWithin};
 
 use crate::checks::{resolve_named, throws_unless};
@@ -81,9 +81,8 @@ pub(crate) fn new_array(
 ) -> Result<NewArray, Refusal>
     requires frame { HasFrame machine.now.guest thread }
     requires elements { AreElementsWithin program.now }
-    ensures is { base_type_array (moment program.now machine.now thread) (site_at place.now)
-        ≡ outcome_of (moment program.now machine.now thread) result
-        (new_array_outcome (moment program.now machine.now thread) (site_at place.now)) }
+    ensures is { ComesTo base_type_array
+        (moment program.now machine.now thread) (site_at place.now) result new_array_outcome }
     ensures may { IfOk result (λ x. MayMake (top machine.now.guest thread)) }
 {
     operands_fit(machine, thread);
@@ -99,14 +98,10 @@ pub(crate) fn new_reference_array(
     thread: ThreadId,
     place: &Place<'_>,
 ) -> Result<NewArray, Refusal>
-    requires frame { HasFrame machine.now.guest thread }
+    requires refers { MayRefer program.now machine.now thread place.now }
     requires sound { IsSoundFor program.now (kept_of machine.now) }
-    requires class { place.now.class < length program.now.classes }
-    requires index { natural_of place.now.instr.first < 2 ^ 16 }
-    requires pool { (site_at place.now).pool ≡ pool_of_class program.now place.now.class }
-    ensures is { reference_array (moment program.now machine.now thread) (site_at place.now)
-        ≡ outcome_of (moment program.now machine.now thread) result
-        (new_array_outcome (moment program.now machine.now thread) (site_at place.now)) }
+    ensures is { ComesTo reference_array
+        (moment program.now machine.now thread) (site_at place.now) result new_array_outcome }
     ensures may { IfOk result (λ x. MayMake (top machine.now.guest thread)) }
 {
     operands_fit(machine, thread);

@@ -1,5 +1,5 @@
 //! The event call of the instructions on fields, arrays and classes.
-ghost use Rattle.std.specs.Prelude.{◌≡◌, ◌↔◌, ℕ, ◌+◌, ◌-◌, ◌≤◌, Some, true, unwrap_or, IfOk, IsSome, length};
+ghost use Rattle.std.specs.Prelude.{◌≡◌, ◌↔◌, ℕ, ◌+◌, ◌-◌, ◌<◌, ◌≤◌, ◌^◌, Some, true, unwrap_or, IfOk, IsSome, length};
 ghost use Rattle.et_event.specs.declared.families.Family.TheVariants as families;
 ghost use Rattle.et_event.specs.declared.rows.HeapRow.TheVariants as heap_rows;
 ghost use Rattle.et_event.specs.declared.rows.Row.TheVariants as row_kinds;
@@ -14,25 +14,26 @@ ghost use Rattle.et_state.specs.declared.ends.EventEnd.TheVariants as ends;
 ghost use Rattle.et_state.specs.declared.stage.Turn.TheVariants as turns;
 ghost use Rattle.et_state.specs.Outcome.{state_after};
 ghost use Rattle.et_state.specs.State.{kept_of};
-ghost use Rattle.et_state.specs.Threads.{turn_of};
+ghost use Rattle.et_state.specs.Threads.{most_frames, turn_of};
 ghost use Rattle.et_state.specs.Words.{HasFrame, thread_at, top};
-ghost use Rattle.et_event.specs.Places.{IsPlace, site_at};
-ghost use Rattle.et_refs.specs.Reads.{is_read_row};
-ghost use Rattle.et_refs.specs.Writes.{is_write_row};
+ghost use Rattle.et_event.specs.Places.{site_at};
+ghost use Rattle.et_refs.specs.Asked.{BeginsAt};
+ghost use Rattle.et_refs.specs.LiftedChanges.{is_lifted_row, landed_done};
 
 use crate::arrays::dimensions::multi_array_event;
 use crate::doing::beginning::access_event;
 use crate::doing::changes::{carry_out, write_slot};
 use crate::refusals::refuse;
 use crate::rows::{Plan, is_static_read, plan_of};
-use crate::slots::reads::{exchange, is_read, read_row};
+use crate::slots::reads::exchange;
 use crate::slots::static_fields::{is_out_class, read_field};
-use crate::slots::writes::{is_number, is_write, store, write_row};
+use crate::slots::steps::{LiftedChange, is_lifted, lifted_change};
+use crate::slots::writes::{is_number, store};
 use et_base::{MethodId, NoMemory, Steps, ThreadId};
 use et_event::{HeapRow, Place, Row, ill_typed, index_of, place_of};
 use et_ops::lose_each;
 use et_program::Program;
-use et_state::{EventEnd, Lines, Machine};
+use et_state::{EventEnd, Lines, Machine, Running};
 use std::alloc::Global;
 use std::sync::ledger::Ledger;
 
@@ -73,10 +74,8 @@ fn static_read_event(
     place: &Place<'_>,
     out: &mut Lines,
 ) -> Result<EventEnd, NoMemory>
-    requires begins { BeginsEvent program.now machine.old thread }
+    requires at { BeginsAt program.now machine.old thread place.now }
     requires turn { turn_of (thread_at machine.old.guest thread) ≡ turns.Instruction }
-    requires frame { HasFrame machine.old.guest thread }
-    requires place { IsPlace program.now (top machine.old.guest thread) place.now }
     requires row { place.now.row ≡ row_kinds.Heap heap_rows.GetStatic }
     ensures { IfOk result (λ end.
         DefersOrAnswers (out_method program.now (kept_of machine.old) thread)
@@ -93,58 +92,26 @@ fn static_read_event(
     access_event(alloc, program, machine, thread, place, &read.wanted(), out)
 }
 
-/// The event of an instruction that reads the heap and changes nothing but its frame, at the place where the thread stands: it is
-/// done over the frames of the thread while they are lifted out of the machine. It visits objects three times at most. After
-/// `NoMemory` the machine may have one object more, to which nothing refers, and there may be its record; all else is as before.
-fn read_event<L: Ledger>(
-    program: &Program,
-    machine: &mut Machine,
-    thread: ThreadId,
-    place: &Place<'_>,
-    row: HeapRow,
-    out: &mut Lines,
-    visits: &mut Steps<L>,
-) -> Result<EventEnd, NoMemory>
-    requires begins { BeginsEvent program.now machine.old thread }
-    requires frame { HasFrame machine.old.guest thread }
-    requires place { IsPlace program.now (top machine.old.guest thread) place.now }
-    requires row { place.now.row ≡ row_kinds.Heap row }
-    requires read { is_read_row row ≡ true }
-    ensures event { IfOk result (λ end. EventAnswers
-        (heap_event (moment program.now machine.old thread) (site_at place.now) row)
-        end machine.old machine.new out.old out.new) }
-    ensures visits { visits.new ≤ visits.old + 3 }
+/// An event was done over the frames of a thread that are lifted out of the machine: they are put back, and what they lost is lost.
+#[inline(always)]
+fn land_done(machine: &mut Machine, thread: ThreadId, running: Running) -> EventEnd
+    requires thread { thread < length machine.old.guest.threads }
+    requires few { length running.below < most_frames }
+    requires clock { machine.old.guest.clock < 2 ^ 40 }
+    ensures done { result ≡ ends.Done }
+    ensures machine { machine.new ≡ landed_done thread running machine.old }
 {
-    let mut running = machine.lift(thread);
-    let index = index_of(place);
-    match read_row(
-        program,
-        &machine.heap,
-        &running,
-        place.class,
-        index,
-        row,
-        visits,
-    ) {
-        Ok(x) => {
-            exchange(&mut running, x, place.next);
-            machine.begin_event();
-            lose_each(machine, running.lost());
-            machine.land(thread, running);
-            Ok(EventEnd::Done)
-        }
-        Err(refusal) => {
-            machine.land(thread, running);
-            refuse(program, machine, thread, refusal, out)
-        }
-    }
+    machine.begin_event();
+    lose_each(machine, running.lost());
+    machine.land(thread, running);
+    EventEnd::Done
 }
 
-/// The event of an instruction that writes a slot of an object, at the place where the thread stands: what it writes is found over
-/// the frames of the thread while they are lifted out of the machine, and a number is written then. It visits objects six times
-/// at most. After `NoMemory` the machine may have one object more, to which nothing refers, and there may be its record; all else
-/// is as before.
-fn write_event<L: Ledger>(
+/// The event of an instruction that is done over the frames of the thread while they are lifted out of the machine, at the place
+/// where the thread stands. What it does is found over these frames, and done there too where it writes no reference. It visits
+/// objects six times at most. After `NoMemory` the machine may have one object more, to which nothing refers, and there may be
+/// its record; all else is as before.
+fn lifted_event<L: Ledger>(
     program: &Program,
     machine: &mut Machine,
     thread: ThreadId,
@@ -153,11 +120,9 @@ fn write_event<L: Ledger>(
     out: &mut Lines,
     visits: &mut Steps<L>,
 ) -> Result<EventEnd, NoMemory>
-    requires begins { BeginsEvent program.now machine.old thread }
-    requires frame { HasFrame machine.old.guest thread }
-    requires place { IsPlace program.now (top machine.old.guest thread) place.now }
+    requires at { BeginsAt program.now machine.old thread place.now }
     requires row { place.now.row ≡ row_kinds.Heap row }
-    requires write { is_write_row row ≡ true }
+    requires lifted { is_lifted_row row ≡ true }
     ensures event { IfOk result (λ end. EventAnswers
         (heap_event (moment program.now machine.old thread) (site_at place.now) row)
         end machine.old machine.new out.old out.new) }
@@ -165,25 +130,19 @@ fn write_event<L: Ledger>(
 {
     let mut running = machine.lift(thread);
     let index = index_of(place);
-    match write_row(
-        program,
-        &machine.heap,
-        &running,
-        place.class,
-        index,
-        row,
-        visits,
-    ) {
-        Ok(x) => {
+    let class = place.class;
+    match lifted_change(program, &machine.heap, &running, class, index, row, visits) {
+        Ok(LiftedChange::Put(x)) => {
+            exchange(&mut running, x, place.next);
+            Ok(land_done(machine, thread, running))
+        }
+        Ok(LiftedChange::Store(x)) => {
             if !is_number(x.value) {
                 machine.land(thread, running);
                 return write_slot(program, machine, thread, place, x, out, visits);
             }
             store(&mut machine.heap, &mut running, x, place.next, visits);
-            machine.begin_event();
-            lose_each(machine, running.lost());
-            machine.land(thread, running);
-            Ok(EventEnd::Done)
+            Ok(land_done(machine, thread, running))
         }
         Err(refusal) => {
             machine.land(thread, running);
@@ -204,10 +163,8 @@ fn heap_row_event<L: Ledger>(
     out: &mut Lines,
     visits: &mut Steps<L>,
 ) -> Result<EventEnd, NoMemory>
-    requires begins { BeginsEvent program.now machine.old thread }
+    requires at { BeginsAt program.now machine.old thread place.now }
     requires turn { turn_of (thread_at machine.old.guest thread) ≡ turns.Instruction }
-    requires frame { HasFrame machine.old.guest thread }
-    requires place { IsPlace program.now (top machine.old.guest thread) place.now }
     requires family { family_of_row (Some place.now.row) ≡ families.Refs }
     ensures event { IfOk result (λ end.
         DefersOrAnswers (out_method program.now (kept_of machine.old) thread)
@@ -225,11 +182,8 @@ fn heap_row_event<L: Ledger>(
     if is_static_read(row) {
         return static_read_event(alloc, program, machine, thread, place, out);
     }
-    if is_read(row) {
-        return read_event(program, machine, thread, place, row, out, visits);
-    }
-    if is_write(row) {
-        return write_event(program, machine, thread, place, row, out, visits);
+    if is_lifted(row) {
+        return lifted_event(program, machine, thread, place, row, out, visits);
     }
     match plan_of(program, machine, thread, place, row, visits) {
         Ok(Plan::Change(change)) => carry_out(program, machine, thread, place, change, out),

@@ -1,10 +1,8 @@
 //! Why an event does nothing but throw, or has no meaning.
-ghost use Rattle.std.specs.Prelude.{◌≡◌, ◌<◌, ◌^◌, IfOk, OnErr};
-ghost use Rattle.et_state.specs.State.{kept_of};
-ghost use Rattle.et_state.specs.Words.{HasFrame};
-ghost use Rattle.et_state.specs.Sound.{IsSound};
+ghost use Rattle.std.specs.Prelude.{◌≡◌, IfOk, OnErr};
 ghost use Rattle.et_event.specs.Answered.{EventAnswers};
 ghost use Rattle.et_event.specs.Moments.{moment};
+ghost use Rattle.et_refs.specs.Asked.{MayStep};
 ghost use Rattle.et_refs.specs.Refusals.{refusal_outcome};
 
 use et_base::{NoMemory, ThreadId};
@@ -30,9 +28,7 @@ pub fn refuse(
     refusal: Refusal,
     out: &mut Lines,
 ) -> Result<EventEnd, NoMemory>
-    requires frame { HasFrame machine.old.guest thread }
-    requires sound { IsSound (kept_of machine.old) }
-    requires clock { machine.old.guest.clock < 2 ^ 40 }
+    requires step { MayStep machine.old thread }
     ensures ok { IfOk result (λ end. EventAnswers
         (refusal_outcome (moment program.now machine.old thread) refusal)
         end machine.old machine.new out.old out.new) }

@@ -1,31 +1,30 @@
 //! What the instructions on fields, arrays and classes come to, by their rows.
-ghost use Rattle.std.specs.Prelude.{◌≡◌, ◌+◌, ◌<◌, ◌≤◌, ◌^◌, false, length, IfOk};
+ghost use Rattle.std.specs.Prelude.{◌≡◌, ◌+◌, ◌<◌, ◌≤◌, false, IfOk};
 ghost use Rattle.et_event.specs.declared.rows.HeapRow.{HeapRow as OfHeap};
 ghost use Rattle.et_event.specs.Heap.{heap_event};
 ghost use Rattle.et_event.specs.Moments.{Moment, moment};
 ghost use Rattle.et_event.specs.Programs.{AreElementsWithin, HasSlots};
-ghost use Rattle.et_event.specs.Sites.{Site, natural_of};
+ghost use Rattle.et_event.specs.Sites.{Site};
 ghost use Rattle.et_event.specs.Sound.{IsSoundFor};
 ghost use Rattle.et_event.specs.Places.{site_at};
 ghost use Rattle.et_program.specs.Entries.{Linked};
-ghost use Rattle.et_program.specs.Referring.{pool_of_class};
+ghost use Rattle.et_refs.specs.Asked.{MayRefer};
 ghost use Rattle.et_refs.specs.Accesses.{MayWant, wanted_outcome};
 ghost use Rattle.et_refs.specs.Changes.{MayExchange, MayMake, exchange_outcome, new_array_outcome};
-ghost use Rattle.et_refs.specs.Reads.{is_read_row};
-ghost use Rattle.et_refs.specs.Refusals.{outcome_of};
+ghost use Rattle.et_refs.specs.LiftedChanges.{is_lifted_row};
+ghost use Rattle.et_refs.specs.Refusals.{ComesTo, outcome_of};
 ghost use Rattle.et_refs.specs.Rows.{MayDo, is_get_static, plan_outcome};
-ghost use Rattle.et_refs.specs.Writes.{is_write_row};
 ghost use Rattle.et_heap.specs.Objects.{Objects};
 ghost use Rattle.et_state.specs.State.{kept_of};
 ghost use Rattle.et_state.specs.Threads.{FrameState};
-ghost use Rattle.et_state.specs.Words.{HasFrame, top};
+ghost use Rattle.et_state.specs.Words.{top};
 
 use crate::arrays::{new_array, new_reference_array};
 use crate::doing::accesses::Wanted;
 use crate::doing::changes::{Change, Exchange, NewArray};
 use crate::refusals::Refusal;
 use crate::slots::static_fields::write_field as write_static_field;
-use crate::types::casts::{check_cast, instance_of};
+use crate::types::casts::{TypeTest, type_test};
 use crate::types::instances::new_object;
 use et_base::{Steps, ThreadId};
 use et_event::{HeapRow, Place};
@@ -87,25 +86,11 @@ fn access(answer: Result<Wanted, Refusal>) -> Result<Plan, Refusal>
 pub(crate) fn is_static_read(row: HeapRow) -> bool
     ensures { result ≡ is_get_static row }
 {
-    match row {
-        HeapRow::GetStatic => true,
-        HeapRow::PutStatic
-        | HeapRow::GetField
-        | HeapRow::PutField
-        | HeapRow::LoadElement(_)
-        | HeapRow::StoreElement(_)
-        | HeapRow::New
-        | HeapRow::NewArray
-        | HeapRow::NewReferenceArray
-        | HeapRow::NewMultiArray
-        | HeapRow::ArrayLength
-        | HeapRow::CheckCast
-        | HeapRow::InstanceOf => false,
-    }
+    matches!(row, HeapRow::GetStatic)
 }
 
-/// What the instruction of a row at the place where the thread stands comes to, or what refuses (JVMS 6.5). A `getstatic`, what
-/// reads the heap and changes nothing but its frame, and what writes a slot of an object, come to no plan. It visits one object
+/// What the instruction of a row at the place where the thread stands comes to, or what refuses (JVMS 6.5). A `getstatic`, and what
+/// is done over lifted frames, come to no plan. It visits one object
 /// at most.
 pub fn plan_of<L: Ledger>(
     program: &Program,
@@ -115,19 +100,14 @@ pub fn plan_of<L: Ledger>(
     row: HeapRow,
     visits: &mut Steps<L>,
 ) -> Result<Plan, Refusal>
-    requires frame { HasFrame machine.now.guest thread }
+    requires refers { MayRefer program.now machine.now thread place.now }
     requires sound { IsSoundFor program.now (kept_of machine.now) }
-    requires class { place.now.class < length program.now.classes }
-    requires index { natural_of place.now.instr.first < 2 ^ 16 }
-    requires pool { (site_at place.now).pool ≡ pool_of_class program.now place.now.class }
     requires elements { AreElementsWithin program.now }
     requires slots { HasSlots program.now }
     requires other { is_get_static row ≡ false }
-    requires no_read { is_read_row row ≡ false }
-    requires no_write { is_write_row row ≡ false }
-    ensures is { heap_event (moment program.now machine.now thread) (site_at place.now) row
-        ≡ outcome_of (moment program.now machine.now thread) result
-        (plan_outcome (moment program.now machine.now thread) (site_at place.now)) }
+    requires not_lifted { is_lifted_row row ≡ false }
+    ensures is { ComesTo (λ e at. heap_event e at row)
+        (moment program.now machine.now thread) (site_at place.now) result plan_outcome }
     ensures may { IfOk result
         (λ x. MayDo program.now machine.now.heap (top machine.now.guest thread) row x) }
     ensures visits { visits.new ≤ visits.old + 1 }
@@ -141,8 +121,19 @@ pub fn plan_of<L: Ledger>(
         | HeapRow::ArrayLength => unreachable!(),
         HeapRow::PutStatic => access(write_static_field(program, machine, thread, place)),
         HeapRow::New => access(new_object(program, machine, thread, place)),
-        HeapRow::CheckCast => put(check_cast(program, machine, thread, place, visits)),
-        HeapRow::InstanceOf => put(instance_of(program, machine, thread, place, visits)),
+        HeapRow::CheckCast => {
+            put(type_test(program, machine, thread, place, TypeTest::CheckCast, visits))
+        }
+        HeapRow::InstanceOf => {
+            put(type_test(
+                program,
+                machine,
+                thread,
+                place,
+                TypeTest::InstanceOf,
+                visits,
+            ))
+        }
         HeapRow::NewArray => make(new_array(program, machine, thread, place)),
         HeapRow::NewReferenceArray => make(new_reference_array(program, machine, thread, place)),
         HeapRow::NewMultiArray => Ok(Plan::Arrays),

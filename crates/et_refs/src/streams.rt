@@ -11,7 +11,7 @@ ghost use Rattle.et_event.specs.Moments.{begins, moment};
 ghost use Rattle.et_event.specs.Out.{OutRead, out_made, out_row, out_turn};
 ghost use Rattle.et_event.specs.Sites.{Site};
 ghost use Rattle.et_event.specs.Sound.{IsSoundFor};
-ghost use Rattle.et_event.specs.Places.{IsPlace};
+ghost use Rattle.et_refs.specs.Asked.{BeginsAt};
 
 use crate::doing::beginning::{has_room, ready_event};
 use crate::doing::changes::replace_top;
@@ -71,9 +71,7 @@ fn read_event(
     place: &Place<'_>,
     out: &mut Lines,
 ) -> Result<EventEnd, NoMemory>
-    requires begins { BeginsEvent program.now machine.old thread }
-    requires frame { HasFrame machine.old.guest thread }
-    requires place { IsPlace program.now (top machine.old.guest thread) place.now }
+    requires at { BeginsAt program.now machine.old thread place.now }
     requires row { place.now.row ≡ row_kinds.Heap heap_rows.GetStatic }
     requires turn { IsSome (out_turn program.now (kept_of machine.old) thread) }
     ensures { IfOk result (λ end. (x : OutRead) →

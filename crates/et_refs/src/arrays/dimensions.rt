@@ -4,7 +4,6 @@ ghost use Rattle.et_state.specs.declared.stage.Turn.TheVariants as turns;
 ghost use Rattle.et_state.specs.Threads.{turn_of};
 ghost use Rattle.et_state.specs.State.{Kept, kept_of};
 ghost use Rattle.et_state.specs.Words.{HasFrame, thread_at, top};
-ghost use Rattle.et_state.specs.Sound.{IsSound};
 ghost use Rattle.et_state.specs.Outcome.{Outcome, state_after};
 ghost use Rattle.et_program.specs.Resolution.{resolve_class};
 ghost use Rattle.et_event.specs.declared.rows.Row.TheVariants as row_kinds;
@@ -13,10 +12,9 @@ ghost use Rattle.et_event.specs.Answered.{EventAnswers};
 ghost use Rattle.et_event.specs.Heap.{new_multi_array};
 ghost use Rattle.et_event.specs.Moments.{moment};
 ghost use Rattle.et_event.specs.Sites.{natural_of};
-ghost use Rattle.et_event.specs.Sound.{IsSoundFor};
-ghost use Rattle.et_event.specs.Places.{IsPlace, site_at};
+ghost use Rattle.et_event.specs.Places.{site_at};
 ghost use Rattle.et_refs.specs.Refusals.{outcome_of};
-ghost use Rattle.et_event.specs.Programs.{HasArrays};
+ghost use Rattle.et_refs.specs.Asked.{BeginsAt, MayStep};
 ghost use Rattle.et_refs.specs.Events.{new_arrays_outcome, with_checked_class};
 ghost use Rattle.et_refs.specs.NamedClasses.{IsNamedAt};
 
@@ -81,9 +79,7 @@ fn add_arrays<L: Ledger>(
     out: &mut Lines,
     visits: &mut Steps<L>,
 ) -> Result<EventEnd, NoMemory>
-    requires frame { HasFrame machine.old.guest thread }
-    requires sound { IsSound (kept_of machine.old) }
-    requires clock { machine.old.guest.clock < 2 ^ 40 }
+    requires step { MayStep machine.old thread }
     requires some { 0 < length arrays.now.lengths.now }
     requires deep { length arrays.now.lengths.now
         ≤ length (top machine.old.guest thread).operands }
@@ -118,12 +114,8 @@ pub fn multi_array_event<L: Ledger>(
     out: &mut Lines,
     visits: &mut Steps<L>,
 ) -> Result<EventEnd, NoMemory>
-    requires frame { HasFrame machine.old.guest thread }
-    requires sound { IsSoundFor program.now (kept_of machine.old) }
-    requires clock { machine.old.guest.clock < 2 ^ 40 }
-    requires arrays { HasArrays program.now }
+    requires at { BeginsAt program.now machine.old thread place.now }
     requires turn { turn_of (thread_at machine.old.guest thread) ≡ turns.Instruction }
-    requires place { IsPlace program.now (top machine.old.guest thread) place.now }
     requires row { place.now.row ≡ row_kinds.Heap heap_rows.NewMultiArray }
     ensures ok { IfOk result (λ end. EventAnswers (new_multi_array (moment program.now
         machine.old thread) (site_at place.now)) end machine.old machine.new out.old out.new) }

@@ -10,7 +10,7 @@ ghost use Rattle.et_refs.specs.Accesses.{CanRead, CanWrite, CanMake, CanAccess, 
 use crate::doing::changes::replace_top;
 use crate::types::kinds::or_zero;
 use et_base::{ClassId, NoMemory, ThreadId, Value};
-use et_event::{Operand, Place, add_instance, slots_of, take, tell_update};
+use et_event::{Operand, add_instance, slots_of, take, tell_update};
 use et_program::Program;
 use et_state::{Lines, Machine};
 
@@ -136,7 +136,7 @@ pub(crate) fn carry_out(
     program: &Program,
     machine: &mut Machine,
     thread: ThreadId,
-    place: &Place<'_>,
+    next: u32,
     wanted: &Wanted,
     out: &mut Lines,
 ) -> Result<(), NoMemory>
@@ -146,14 +146,14 @@ pub(crate) fn carry_out(
     requires can { CanAccess program.now machine.old
         (top machine.old.guest thread) wanted.now.class wanted.now.access }
     ensures { OnOk result (Accesses program.now thread
-        place.now.next wanted.now.class wanted.now.access machine.old machine.new out.old out.new) }
+        next wanted.now.class wanted.now.access machine.old machine.new out.old out.new) }
 {
     match wanted.access {
         Access::Read(x) => {
-            read_static(machine, thread, place.next, x);
+            read_static(machine, thread, next, x);
             Ok(())
         }
-        Access::Write(x) => write_static(machine, thread, place.next, x, out),
-        Access::Make => make_instance(program, machine, thread, place.next, wanted.class, out),
+        Access::Write(x) => write_static(machine, thread, next, x, out),
+        Access::Make => make_instance(program, machine, thread, next, wanted.class, out),
     }
 }

@@ -1,17 +1,16 @@
 //! The events that need a class to be initialized (JVMS 5.5).
 ghost use Rattle.std.specs.Prelude.{◌≡◌, ◌<◌, ◌^◌, ◌++◌, true, length, IfOk, OnOk};
 ghost use Rattle.et_heap.specs.Objects.{has_room as room_for};
-ghost use Rattle.et_state.specs.State.{kept_of};
-ghost use Rattle.et_state.specs.Words.{HasFrame, top};
 ghost use Rattle.et_event.specs.Answered.{EventAnswers};
+ghost use Rattle.et_event.specs.InitializationOrder.{IsInOrder};
+ghost use Rattle.et_event.specs.Sound.{IsSoundFor};
+ghost use Rattle.et_state.specs.State.{kept_of};
 ghost use Rattle.et_event.specs.Initialization.{quietly_done};
 ghost use Rattle.et_event.specs.Moments.{moment, begins, fits_heap};
-ghost use Rattle.et_event.specs.Sound.{IsSoundFor};
 ghost use Rattle.et_event.specs.Places.{site_at};
-ghost use Rattle.et_event.specs.Programs.{HasInitializers, MakesSound};
-ghost use Rattle.et_event.specs.InitializationOrder.{IsInOrder};
 ghost use Rattle.et_initialize.specs.Under.{base};
-ghost use Rattle.et_refs.specs.Accesses.{MayWant, objects_in, slots_accessed, access_outcome, wanted_outcome};
+ghost use Rattle.et_refs.specs.Asked.{BeginsAccess};
+ghost use Rattle.et_refs.specs.Accesses.{objects_in, slots_accessed, access_outcome, wanted_outcome};
 
 use crate::doing::accesses::{Wanted, carry_out, objects_made, slots_made};
 use et_base::{NoMemory, ThreadId};
@@ -51,10 +50,7 @@ pub(crate) fn ready_event(
     wanted: &Wanted,
     out: &mut Lines,
 ) -> Result<EventEnd, NoMemory>
-    requires frame { HasFrame machine.old.guest thread }
-    requires sound { IsSoundFor program.now (kept_of machine.old) }
-    requires clock { machine.old.guest.clock < 2 ^ 40 }
-    requires may { MayWant program.now (top machine.old.guest thread) wanted.now }
+    requires access { BeginsAccess program.now machine.old thread wanted.now }
     ensures { IfOk result (λ end. EventAnswers
         (access_outcome (moment program.now machine.old thread) (site_at place.now) wanted.now
         (begins (moment program.now machine.old thread)))
@@ -64,7 +60,7 @@ pub(crate) fn ready_event(
         return Ok(EventEnd::ObjectLimit);
     }
     machine.begin_event();
-    carry_out(program, machine, thread, place, wanted, out)?;
+    carry_out(program, machine, thread, place.next, wanted, out)?;
     Ok(EventEnd::Done)
 }
 
@@ -103,13 +99,7 @@ fn quiet_event(
     wanted: &Wanted,
     out: &mut Lines,
 ) -> Result<EventEnd, NoMemory>
-    requires order { IsInOrder program.now }
-    requires initializers { HasInitializers program.now }
-    requires makes { MakesSound program.now }
-    requires frame { HasFrame machine.old.guest thread }
-    requires sound { IsSoundFor program.now (kept_of machine.old) }
-    requires clock { machine.old.guest.clock < 2 ^ 40 }
-    requires may { MayWant program.now (top machine.old.guest thread) wanted.now }
+    requires access { BeginsAccess program.now machine.old thread wanted.now }
     ensures { IfOk result (λ end. EventAnswers
         (access_outcome (moment program.now machine.old thread) (site_at place.now) wanted.now
         (quietly_done (moment program.now machine.old thread) wanted.now.class (begins
@@ -121,7 +111,7 @@ fn quiet_event(
         return Ok(EventEnd::ObjectLimit);
     }
     begin_quietly(program, machine, thread, wanted, out)?;
-    carry_out(program, machine, thread, place, wanted, out)?;
+    carry_out(program, machine, thread, place.next, wanted, out)?;
     Ok(EventEnd::Done)
 }
 
@@ -137,13 +127,7 @@ pub(crate) fn access_event(
     wanted: &Wanted,
     out: &mut Lines,
 ) -> Result<EventEnd, NoMemory>
-    requires order { IsInOrder program.now }
-    requires initializers { HasInitializers program.now }
-    requires makes { MakesSound program.now }
-    requires frame { HasFrame machine.old.guest thread }
-    requires sound { IsSoundFor program.now (kept_of machine.old) }
-    requires clock { machine.old.guest.clock < 2 ^ 40 }
-    requires may { MayWant program.now (top machine.old.guest thread) wanted.now }
+    requires access { BeginsAccess program.now machine.old thread wanted.now }
     ensures { IfOk result (λ end. EventAnswers
         (wanted_outcome (moment program.now machine.old thread) (site_at place.now) wanted.now)
         end machine.old machine.new out.old out.new) }

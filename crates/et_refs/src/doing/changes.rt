@@ -1,12 +1,12 @@
 //! What an event does once no check refused.
-ghost use Rattle.std.specs.Prelude.{◌≡◌, ◌+◌, ◌<◌, ◌≤◌, ◌^◌, ◌++◌, [], length, drop, take as first, IfOk, OnErr};
+ghost use Rattle.std.specs.Prelude.{◌≡◌, ◌+◌, ◌<◌, ◌≤◌, ◌++◌, [], length, drop, take as first, IfOk, OnErr};
 ghost use Rattle.et_base.specs.declared.value.Value.TheVariants.{Ref};
 ghost use Rattle.et_heap.specs.Refs.{refs_of};
 ghost use Rattle.et_state.specs.Threads.{lost_room};
 ghost use Rattle.et_heap.specs.Objects.{object_at, with_slot, with_object_at};
 ghost use Rattle.et_state.specs.State.{kept_of};
 ghost use Rattle.et_state.specs.Words.{HasFrame, top, with_top, ticked, steps_top};
-ghost use Rattle.et_state.specs.Sound.{IsSound};
+ghost use Rattle.et_refs.specs.Asked.{MayStep};
 ghost use Rattle.et_state.specs.Moves.{Led};
 ghost use Rattle.et_event.specs.Answered.{EventAnswers};
 ghost use Rattle.et_event.specs.Checks.{entries_of};
@@ -89,9 +89,7 @@ pub fn replace_top(machine: &mut Machine, thread: ThreadId, taken: u32, value: V
 
 /// The event in which a value is put in the place of operands.
 fn put_value(machine: &mut Machine, thread: ThreadId, next: u32, x: Exchange)
-    requires frame { HasFrame machine.old.guest thread }
-    requires sound { IsSound (kept_of machine.old) }
-    requires clock { machine.old.guest.clock < 2 ^ 40 }
+    requires step { MayStep machine.old thread }
     requires may { MayExchange machine.old.heap (top machine.old.guest thread) x }
     ensures { Led (kept_of machine.old)
         (record {
@@ -116,9 +114,7 @@ fn set_slot<L: Ledger>(
     x: Store,
     visits: &mut Steps<L>,
 )
-    requires frame { HasFrame machine.old.guest thread }
-    requires sound { IsSound (kept_of machine.old) }
-    requires clock { machine.old.guest.clock < 2 ^ 40 }
+    requires step { MayStep machine.old thread }
     requires may { MayStore machine.old.heap (top machine.old.guest thread) x }
     ensures led { Led (kept_of machine.old) (record {
       heap = with_object_at machine.old.heap
@@ -147,9 +143,7 @@ pub(crate) fn write_slot<L: Ledger>(
     out: &mut Lines,
     visits: &mut Steps<L>,
 ) -> Result<EventEnd, NoMemory>
-    requires frame { HasFrame machine.old.guest thread }
-    requires sound { IsSound (kept_of machine.old) }
-    requires clock { machine.old.guest.clock < 2 ^ 40 }
+    requires step { MayStep machine.old thread }
     requires may { MayStore machine.old.heap (top machine.old.guest thread) x }
     ensures ok { IfOk result (λ end. EventAnswers
         (store_outcome (moment program.now machine.old thread) (site_at place.now) x)
@@ -178,9 +172,7 @@ fn add_array(
     x: NewArray,
     out: &mut Lines,
 ) -> Result<EventEnd, NoMemory>
-    requires frame { HasFrame machine.old.guest thread }
-    requires sound { IsSound (kept_of machine.old) }
-    requires clock { machine.old.guest.clock < 2 ^ 40 }
+    requires step { MayStep machine.old thread }
     requires may { MayMake (top machine.old.guest thread) }
     ensures ok { IfOk result (λ end. EventAnswers
         (new_array_outcome (moment program.now machine.old thread) (site_at place.now) x)
@@ -205,9 +197,7 @@ pub(crate) fn carry_out(
     change: Change,
     out: &mut Lines,
 ) -> Result<EventEnd, NoMemory>
-    requires frame { HasFrame machine.old.guest thread }
-    requires sound { IsSound (kept_of machine.old) }
-    requires clock { machine.old.guest.clock < 2 ^ 40 }
+    requires step { MayStep machine.old thread }
     requires may { MayChange machine.old.heap (top machine.old.guest thread) change }
     ensures ok { IfOk result (λ end. EventAnswers
         (change_outcome (moment program.now machine.old thread) (site_at place.now) change)

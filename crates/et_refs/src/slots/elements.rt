@@ -4,15 +4,14 @@ ghost use Rattle.et_base.specs.declared.value.Value.TheVariants.{Int, Ref};
 ghost use Rattle.et_state.specs.State.{GuestState, Kept};
 ghost use Rattle.et_heap.specs.Refs.{refs_of_value};
 ghost use Rattle.et_program.specs.Entries.{Linked, class_at};
-ghost use Rattle.et_state.specs.Words.{top};
 ghost use Rattle.et_event.specs.Checks.{entries_of};
 ghost use Rattle.et_state.specs.Outcome.{Outcome};
 ghost use Rattle.et_heap.specs.Objects.{IsHeld, object_at, slot_of};
 ghost use Rattle.et_event.specs.Heap.{with_element, load_element, store_element, array_length, element_of_array as elements_of, passes_element as passing_element};
 ghost use Rattle.et_event.specs.Kinds.{kind_of_elements as elements_kind, or_zero as zero_or, is_array_element as is_such};
-ghost use Rattle.et_event.specs.Sites.{Site, natural_of};
+ghost use Rattle.et_event.specs.Sites.{natural_of};
 ghost use Rattle.et_refs.specs.Changes.{MayExchange, MayStore, exchange_outcome, is_number, store_outcome};
-ghost use Rattle.et_refs.specs.Reads.{AreHeld, IsReadable, IsSoundHeap, moment_over};
+ghost use Rattle.et_refs.specs.Reads.{AreHeld, ComesToOver, IsReadable, IsSoundHeap, moment_over};
 ghost use Rattle.et_refs.specs.Refusals.{outcome_of};
 ghost use Rattle.et_refs.specs.Slots.{IsSlotAt};
 ghost use Rattle.et_event.specs.Programs.{IsElementWithin, AreElementsWithin};
@@ -138,10 +137,8 @@ pub(crate) fn read_element<L: Ledger>(
     visits: &mut Steps<L>,
 ) -> Result<Exchange, Refusal>
     requires sound { IsReadable program.now heap.now running.now.frame }
-    ensures is { (g : GuestState) (t : ℕ) (at : Site) → top g t ≡ running.now.frame →
-        load_element (moment_over program.now heap.now g t) at elements
-        ≡ outcome_of (moment_over program.now heap.now g t) result
-        (exchange_outcome (moment_over program.now heap.now g t) at) }
+    ensures is { ComesToOver program.now heap.now running.now.frame
+        (λ e at. load_element e at elements) result exchange_outcome }
     ensures may { IfOk result (λ x. MayExchange heap.now running.now.frame x) }
     ensures visits { visits.new ≤ visits.old + 3 }
 {
@@ -183,10 +180,8 @@ pub(crate) fn read_length<L: Ledger>(
     visits: &mut Steps<L>,
 ) -> Result<Exchange, Refusal>
     requires sound { IsReadable program.now heap.now running.now.frame }
-    ensures is { (g : GuestState) (t : ℕ) (at : Site) → top g t ≡ running.now.frame →
-        array_length (moment_over program.now heap.now g t) at
-        ≡ outcome_of (moment_over program.now heap.now g t) result
-        (exchange_outcome (moment_over program.now heap.now g t) at) }
+    ensures is { ComesToOver program.now heap.now running.now.frame
+        array_length result exchange_outcome }
     ensures may { IfOk result (λ x. MayExchange heap.now running.now.frame x) }
     ensures visits { visits.new ≤ visits.old + 2 }
 {
@@ -261,10 +256,8 @@ pub(crate) fn write_element<L: Ledger>(
 ) -> Result<Store, Refusal>
     requires sound { IsReadable program.now heap.now running.now.frame }
     requires elements { AreElementsWithin program.now }
-    ensures is { (g : GuestState) (t : ℕ) (at : Site) → top g t ≡ running.now.frame →
-        store_element (moment_over program.now heap.now g t) at elements
-        ≡ outcome_of (moment_over program.now heap.now g t) result
-        (store_outcome (moment_over program.now heap.now g t) at) }
+    ensures is { ComesToOver program.now heap.now running.now.frame
+        (λ e at. store_element e at elements) result store_outcome }
     ensures may { IfOk result (λ x. MayStore heap.now running.now.frame x) }
     ensures visits { visits.new ≤ visits.old + 4 }
     ensures number { IfOk result

@@ -1,5 +1,5 @@
 //! Instance fields (JVMS 6.5, getfield, putfield).
-ghost use Rattle.std.specs.Prelude.{◌≡◌, ℕ, ◌+◌, ◌<◌, ◌≤◌, true, false, not, length, option_map, Some, IfOk, IsSome};
+ghost use Rattle.std.specs.Prelude.{◌≡◌, ℕ, ◌+◌, ◌<◌, ◌≤◌, true, false, length, option_map, Some, IfOk, IsSome};
 ghost use Rattle.et_class.specs.Names.{has as has_flag};
 ghost use Rattle.et_class.specs.declared.flags.TheConstants.{STATIC as STATIC_FLAG};
 ghost use Rattle.et_pool.specs.Descriptors.{is_field_descriptor as is_of_field, width_of as descriptor_width};
@@ -9,21 +9,19 @@ ghost use Rattle.et_program.specs.Resolved.{shown_names};
 ghost use Rattle.et_heap.specs.Objects.{IsHeld, object_at, slot_of};
 ghost use Rattle.et_state.specs.State.{GuestState, Kept};
 ghost use Rattle.et_heap.specs.Refs.{refs_of_value};
-ghost use Rattle.et_state.specs.Words.{top};
 ghost use Rattle.et_state.specs.Outcome.{Outcome};
-ghost use Rattle.et_event.specs.declared.errors.GuestError.TheVariants.{IncompatibleClassChangeError};
-ghost use Rattle.et_event.specs.Checks.{entries_of, throws_unless as throwing_unless};
-ghost use Rattle.et_event.specs.Heap.{with_field, resolved_field, is_static_at, with_holder, get_field, put_field};
+ghost use Rattle.et_event.specs.Checks.{entries_of};
+ghost use Rattle.et_event.specs.Heap.{with_field, with_holder, get_field, put_field};
 ghost use Rattle.et_event.specs.Kinds.{or_zero as zero_or};
 ghost use Rattle.et_event.specs.Operands.{operand_kind as descriptor_kind};
 ghost use Rattle.et_event.specs.Moments.{Moment, begins};
 ghost use Rattle.et_event.specs.Sites.{Member, Site, site_member, pool_index};
 ghost use Rattle.et_event.specs.Sound.{HasField};
 ghost use Rattle.et_refs.specs.Changes.{MayExchange, MayStore, exchange_outcome, store_outcome};
-ghost use Rattle.et_refs.specs.NamedFields.{IsAnswered, IsNamedBy, named_as};
-ghost use Rattle.et_refs.specs.Reads.{AreHeld, IsReadable, IsSoundHeap, moment_over};
+ghost use Rattle.et_refs.specs.NamedFields.{IsAnswered, IsFieldOf, IsNamedBy, MeansField, as_wanted, named_as, with_meant};
+ghost use Rattle.et_refs.specs.Reads.{AreHeld, ComesToInPool, IsReadable, IsSoundHeap, moment_over};
 ghost use Rattle.et_refs.specs.Refusals.{outcome_of};
-ghost use Rattle.et_refs.specs.Slots.{IsInstanceField, IsSlotAt};
+ghost use Rattle.et_refs.specs.Slots.{IsSlotAt};
 
 use crate::checks::{ill_typed_unless, not_null, throws_unless};
 use crate::doing::changes::{Exchange, Store};
@@ -105,27 +103,33 @@ pub(crate) fn field_named(
     }
 }
 
-/// The instance field that an instruction names.
+/// Whether a field is static where that is wanted, and isn't where it isn't.
 #[inline(always)]
-fn instance_field(program: &Program, named: &NamedField<'_>) -> Result<FieldId, Refusal>
+fn is_wanted(wants_static: bool, is_static: bool) -> bool
+    ensures { result ≡ as_wanted wants_static is_static }
+{
+    if wants_static { is_static } else { !is_static }
+}
+
+/// The field that an instruction names, which has to be static or not to be.
+#[inline(always)]
+pub(crate) fn field_meant(
+    program: &Program,
+    named: &NamedField<'_>,
+    wants_static: bool,
+) -> Result<FieldId, Refusal>
     requires { IsAnswered program.now named.now }
-    ensures is { (m : Member) (s : Kept) (t : ℕ) (go : ℕ → Outcome Kept) →
-        IsNamedBy program.now m named.now →
-        resolved_field (record { program = program.now; before = s; thread = t }) (begins
-        (record { program = program.now; before = s; thread = t })) m
-        (λ f. throwing_unless (record { program = program.now; before = s; thread = t }) (begins
-        (record { program = program.now; before = s; thread = t })) IncompatibleClassChangeError
-        (not (is_static_at program.now f)) (go f))
-        ≡ outcome_of (record { program = program.now; before = s; thread = t }) result go }
+    ensures is { MeansField program.now named.now wants_static (λ e go. go) result }
     ensures field { IfOk result
-        (λ f. IsInstanceField program.now named.now.descriptor.now f) }
+        (λ f. IsFieldOf program.now wants_static named.now.descriptor.now f) }
 {
     let field = match named.answer {
         Ok(field) => field,
         Err(error) => return Err(Refusal::Throws(GuestError::of(error))),
     };
     let is_static = has(program.field(field).flags, STATIC);
-    throws_unless(GuestError::IncompatibleClassChangeError, !is_static)?;
+    let wanted = is_wanted(wants_static, is_static);
+    throws_unless(GuestError::IncompatibleClassChangeError, wanted)?;
     Ok(field)
 }
 
@@ -170,21 +174,18 @@ fn field_slot<L: Ledger>(
     requires answered { IsAnswered program.now named.now }
     requires held { (o : ℕ) → reference ≡ Some o → IsHeld heap.now o }
     ensures is { (m : Member) (g : GuestState) (t : ℕ) (go : ℕ → ℕ → Outcome Kept) →
-        IsNamedBy program.now m named.now → resolved_field
-        (moment_over program.now heap.now g t) (begins (moment_over program.now heap.now g t))
-        m (λ f. throwing_unless
-        (moment_over program.now heap.now g t)
-        (begins (moment_over program.now heap.now g t)) IncompatibleClassChangeError
-        (not (is_static_at program.now f)) (with_holder (moment_over program.now heap.now g t)
+        IsNamedBy program.now m named.now →
+        with_meant (moment_over program.now heap.now g t) m false
+        (λ f. with_holder (moment_over program.now heap.now g t)
         (begins (moment_over program.now heap.now g t)) f reference
-        (λ o. go o (field_of program.now f).slot)))
+        (λ o. go o (field_of program.now f).slot))
         ≡ outcome_of (moment_over program.now heap.now g t) result (λ x. go x.object x.slot) }
     ensures object { IfOk result (λ x. reference ≡ Some x.object) }
     ensures at { IfOk result
         (λ x. IsSlotAt heap.now (descriptor_kind named.now.descriptor.now) x) }
     ensures visits { visits.new ≤ visits.old + 1 }
 {
-    let field = instance_field(program, named)?;
+    let field = field_meant(program, named, false)?;
     let object = holder(program, heap, field, reference, visits)?;
     let info = program.field(field);
     Ok(SlotAt {
@@ -224,11 +225,8 @@ pub(crate) fn read_field<L: Ledger>(
 ) -> Result<Exchange, Refusal>
     requires sound { IsReadable program.now heap.now running.now.frame }
     requires class { class < length program.now.classes }
-    ensures is { (g : GuestState) (t : ℕ) (at : Site) →
-        at.pool ≡ pool_of_class program.now class → pool_index at ≡ index →
-        top g t ≡ running.now.frame → get_field (moment_over program.now heap.now g t) at
-        ≡ outcome_of (moment_over program.now heap.now g t) result
-        (exchange_outcome (moment_over program.now heap.now g t) at) }
+    ensures is { ComesToInPool program.now heap.now running.now.frame class index
+        get_field result exchange_outcome }
     ensures may { IfOk result (λ x. MayExchange heap.now running.now.frame x) }
     ensures visits { visits.new ≤ visits.old + 2 }
 {
@@ -255,11 +253,8 @@ pub(crate) fn write_field<L: Ledger>(
 ) -> Result<Store, Refusal>
     requires sound { IsReadable program.now heap.now running.now.frame }
     requires class { class < length program.now.classes }
-    ensures is { (g : GuestState) (t : ℕ) (at : Site) →
-        at.pool ≡ pool_of_class program.now class → pool_index at ≡ index →
-        top g t ≡ running.now.frame → put_field (moment_over program.now heap.now g t) at
-        ≡ outcome_of (moment_over program.now heap.now g t) result
-        (store_outcome (moment_over program.now heap.now g t) at) }
+    ensures is { ComesToInPool program.now heap.now running.now.frame class index
+        put_field result store_outcome }
     ensures may { IfOk result (λ x. MayStore heap.now running.now.frame x) }
     ensures visits { visits.new ≤ visits.old + 1 }
 {

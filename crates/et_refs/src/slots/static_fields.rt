@@ -1,31 +1,28 @@
 //! Static fields (JVMS 6.5, getstatic, putstatic).
-ghost use Rattle.std.specs.Prelude.{◌≡◌, ℕ, ◌+◌, ◌<◌, ◌≤◌, ◌^◌, length, nat_le, not, IfOk, OnOk};
+ghost use Rattle.std.specs.Prelude.{◌≡◌, ℕ, ◌+◌, ◌<◌, ◌≤◌, true, length, nat_le, IfOk, OnOk};
 ghost use Rattle.et_state.specs.State.{Kept, kept_of};
 ghost use Rattle.et_state.specs.Words.{HasFrame, top};
 ghost use Rattle.et_state.specs.Outcome.{Outcome};
-ghost use Rattle.et_event.specs.declared.errors.GuestError.TheVariants.{IncompatibleClassChangeError, NoSuchFieldError};
-ghost use Rattle.et_event.specs.Checks.{ill_typed_unless as ill_unless, throws_unless as throwing_unless};
-ghost use Rattle.et_event.specs.Heap.{resolved_field, is_out as is_field_out, is_static_at, put_static, with_static_field};
-ghost use Rattle.et_event.specs.Moments.{Moment, moment, begins};
-ghost use Rattle.et_event.specs.Sites.{Member, natural_of};
+ghost use Rattle.et_event.specs.Checks.{ill_typed_unless as ill_unless};
+ghost use Rattle.et_event.specs.Heap.{is_out as is_field_out, put_static, with_static_field};
+ghost use Rattle.et_event.specs.Moments.{Moment, moment};
 ghost use Rattle.et_event.specs.Sound.{IsSoundFor};
 ghost use Rattle.et_event.specs.Places.{site_at};
-ghost use Rattle.et_program.specs.Referring.{pool_of_class};
-ghost use Rattle.et_refs.specs.NamedFields.{IsAnswered, IsNamedBy};
-ghost use Rattle.et_refs.specs.Refusals.{outcome_of};
+ghost use Rattle.et_refs.specs.Asked.{MayRefer};
+ghost use Rattle.et_refs.specs.NamedFields.{IsAnswered, IsFieldOf, MeansField};
+ghost use Rattle.et_refs.specs.Refusals.{ComesTo, outcome_of};
 ghost use Rattle.et_event.specs.Programs.{HasSlots};
-ghost use Rattle.et_refs.specs.Accesses.{IsStaticField, MayWant, wanted_outcome};
-ghost use Rattle.et_refs.specs.StaticReads.{is_out_class as is_class_of_out, read_of, wanted_by};
+ghost use Rattle.et_refs.specs.Accesses.{MayWant, wanted_outcome};
+ghost use Rattle.et_refs.specs.StaticReads.{unless_out, is_out_class as is_class_of_out, read_of, wanted_by};
 ghost use Rattle.et_refs.specs.declared.slots.static_fields.StaticRead.{StaticRead as StaticReadOf};
 
 use crate::checks::{ill_typed_unless, throws_unless};
 use crate::doing::accesses::{Access, Read, Wanted, Write};
 use crate::operands::take_typed;
 use crate::refusals::Refusal;
-use crate::slots::fields::{NamedField, field_named};
+use crate::slots::fields::{NamedField, field_meant, field_named};
 use crate::types::kinds::{narrowed, width_of};
 use et_base::{ClassId, FieldId, ThreadId};
-use et_class::flags::{STATIC, has};
 use et_event::{GuestError, Place, class_called, index_of};
 use et_pool::kind_of;
 use et_program::{BuiltInClass, Program};
@@ -55,28 +52,6 @@ pub(crate) fn width_fits(machine: &Machine, thread: ThreadId, width: u32) -> Res
     ill_typed_unless(fits(machine, thread, width))
 }
 
-/// The static field that an instruction names.
-fn static_field(program: &Program, named: &NamedField<'_>) -> Result<FieldId, Refusal>
-    requires { IsAnswered program.now named.now }
-    ensures is { (m : Member) (s : Kept) (t : ℕ) (go : ℕ → Outcome Kept) →
-        IsNamedBy program.now m named.now →
-        resolved_field (record { program = program.now; before = s; thread = t }) (begins
-        (record { program = program.now; before = s; thread = t })) m
-        (λ f. throwing_unless (record { program = program.now; before = s; thread = t }) (begins
-        (record { program = program.now; before = s; thread = t })) IncompatibleClassChangeError
-        (is_static_at program.now f) (go f))
-        ≡ outcome_of (record { program = program.now; before = s; thread = t }) result go }
-    ensures field { IfOk result (λ f. IsStaticField program.now named.now.descriptor.now f) }
-{
-    let field = match named.answer {
-        Ok(field) => field,
-        Err(error) => return Err(Refusal::Throws(GuestError::of(error))),
-    };
-    let is_static = has(program.field(field).flags, STATIC);
-    throws_unless(GuestError::IncompatibleClassChangeError, is_static)?;
-    Ok(field)
-}
-
 /// Whether a field is System.out, the one static field of a built-in class.
 fn is_out(program: &Program, field: FieldId) -> bool
     requires { field < length program.now.fields }
@@ -88,20 +63,10 @@ fn is_out(program: &Program, field: FieldId) -> bool
 /// The static field that `putstatic` names. No instruction writes System.out.
 fn written_field(program: &Program, named: &NamedField<'_>) -> Result<FieldId, Refusal>
     requires { IsAnswered program.now named.now }
-    ensures is { (m : Member) (s : Kept) (t : ℕ) (go : ℕ → Outcome Kept) →
-        IsNamedBy program.now m named.now →
-        resolved_field (record { program = program.now; before = s; thread = t }) (begins
-        (record { program = program.now; before = s; thread = t })) m
-        (λ f. throwing_unless (record { program = program.now; before = s; thread = t }) (begins
-        (record { program = program.now; before = s; thread = t })) IncompatibleClassChangeError
-        (is_static_at program.now f)
-        (throwing_unless (record { program = program.now; before = s; thread = t }) (begins
-        (record { program = program.now; before = s; thread = t })) NoSuchFieldError
-        (not (is_field_out program.now f)) (go f)))
-        ≡ outcome_of (record { program = program.now; before = s; thread = t }) result go }
-    ensures field { IfOk result (λ f. IsStaticField program.now named.now.descriptor.now f) }
+    ensures is { MeansField program.now named.now true unless_out result }
+    ensures field { IfOk result (λ f. IsFieldOf program.now true named.now.descriptor.now f) }
 {
-    let field = static_field(program, named)?;
+    let field = field_meant(program, named, true)?;
     throws_unless(GuestError::NoSuchFieldError, !is_out(program, field))?;
     Ok(field)
 }
@@ -136,10 +101,7 @@ pub(crate) fn read_field(
     place: &Place<'_>,
 ) -> Result<StaticRead, Refusal>
     requires program { HasSlots program.now }
-    requires frame { HasFrame machine.now.guest thread }
-    requires class { place.now.class < length program.now.classes }
-    requires index { natural_of place.now.instr.first < 2 ^ 16 }
-    requires pool { (site_at place.now).pool ≡ pool_of_class program.now place.now.class }
+    requires refers { MayRefer program.now machine.now thread place.now }
     ensures is { (go : StaticReadOf → Outcome Kept) →
         with_static_field (moment program.now machine.now thread) (site_at place.now)
         (λ m f. go (read_of program.now m.descriptor f))
@@ -152,7 +114,7 @@ pub(crate) fn read_field(
         Err(refusal) => return Err(refusal),
     };
     width_fits(machine, thread, width_of(named.descriptor))?;
-    let field = static_field(program, &named)?;
+    let field = field_meant(program, &named, true)?;
     let info = program.field(field);
     Ok(StaticRead {
         class: info.class,
@@ -180,14 +142,10 @@ pub(crate) fn write_field(
     place: &Place<'_>,
 ) -> Result<Wanted, Refusal>
     requires program { HasSlots program.now }
-    requires frame { HasFrame machine.now.guest thread }
+    requires refers { MayRefer program.now machine.now thread place.now }
     requires sound { IsSoundFor program.now (kept_of machine.now) }
-    requires class { place.now.class < length program.now.classes }
-    requires index { natural_of place.now.instr.first < 2 ^ 16 }
-    requires pool { (site_at place.now).pool ≡ pool_of_class program.now place.now.class }
-    ensures is { put_static (moment program.now machine.now thread) (site_at place.now)
-        ≡ outcome_of (moment program.now machine.now thread) result
-        (wanted_outcome (moment program.now machine.now thread) (site_at place.now)) }
+    ensures is { ComesTo put_static
+        (moment program.now machine.now thread) (site_at place.now) result wanted_outcome }
     ensures may { IfOk result (λ x. MayWant program.now (top machine.now.guest thread) x) }
 {
     let named = match field_named(program, place.class, index_of(place)) {

@@ -1,26 +1,27 @@
 //! Type tests (JVMS 6.5, checkcast, instanceof).
-ghost use Rattle.std.specs.Prelude.{◌≡◌, ℕ, ◌+◌, ◌<◌, ◌≤◌, ◌^◌, List, length, Some, IfOk};
+ghost use Rattle.std.specs.Prelude.{◌≡◌, ◌+◌, ◌<◌, ◌≤◌, ◌^◌, List, ℕ, length, Some, IfOk};
 ghost use Rattle.et_base.specs.declared.value.Value.{Value as Entry};
-ghost use Rattle.et_base.specs.declared.value.Value.TheVariants.{Ref};
-ghost use Rattle.et_heap.specs.Objects.{IsHeld, object_at};
+ghost use Rattle.et_heap.specs.Objects.{IsHeld, Objects, object_at};
 ghost use Rattle.et_heap.specs.Refs.{refs_of_value};
 ghost use Rattle.et_state.specs.State.{Kept, kept_of};
-ghost use Rattle.et_state.specs.Words.{HasFrame, top};
+ghost use Rattle.et_state.specs.Words.{top};
 ghost use Rattle.et_state.specs.Moves.{AreInHeap};
 ghost use Rattle.et_state.specs.Outcome.{Outcome};
 ghost use Rattle.et_program.specs.Entries.{Linked};
 ghost use Rattle.et_program.specs.Referring.{pool_of_class};
 ghost use Rattle.et_program.specs.Types.{passes as passing};
 ghost use Rattle.et_event.specs.Checks.{entries_of};
-ghost use Rattle.et_event.specs.Heap.{with_class, check_cast as check_casting, cast as casting, instance_of as instance_testing, type_tested as testing, truth as truth_of};
+ghost use Rattle.et_event.specs.Heap.{with_class, truth as truth_of};
 ghost use Rattle.et_event.specs.Moments.{Moment, moment};
 ghost use Rattle.et_event.specs.Sites.{Site, class_operand as operand_class, natural_of};
 ghost use Rattle.et_event.specs.Sound.{IsSoundFor};
 ghost use Rattle.et_event.specs.Places.{site_at};
+ghost use Rattle.et_refs.specs.Asked.{MayRefer};
 ghost use Rattle.et_refs.specs.Changes.{IsNamedReference, MayExchange, exchange_outcome, put_outcome};
 ghost use Rattle.et_refs.specs.NamedClasses.{IsNamedAt};
-ghost use Rattle.et_refs.specs.Reads.{IsSoundHeap};
-ghost use Rattle.et_refs.specs.Refusals.{outcome_of};
+ghost use Rattle.et_refs.specs.Reads.{AreHeld, IsSoundHeap};
+ghost use Rattle.et_refs.specs.Refusals.{ComesTo, outcome_of};
+ghost use Rattle.et_refs.specs.TypeTests.{left_by, left_by_null, tested as testing, type_test as type_testing};
 
 use crate::checks::{resolve_named, throws_unless};
 use crate::doing::changes::Exchange;
@@ -32,6 +33,15 @@ use et_heap::Heap;
 use et_program::Program;
 use et_state::Machine;
 use std::sync::ledger::Ledger;
+
+/// An instruction that tests the class of a reference.
+#[derive(Clone, Copy)]
+pub(crate) enum TypeTest {
+    /// It leaves the reference, or throws ClassCastException.
+    CheckCast,
+    /// It leaves an int that says whether there is such an object.
+    InstanceOf,
+}
 
 /// A class as an instruction names it.
 #[derive(Clone, Copy)]
@@ -82,57 +92,6 @@ pub(crate) fn passes<L: Ledger>(
     program.passes(low, class)
 }
 
-/// The object, where it passes for one of the class of this name; a ClassCastException where it doesn't.
-fn cast_object<L: Ledger>(
-    program: &Program,
-    machine: &Machine,
-    thread: ThreadId,
-    named: &NamedClass<'_>,
-    object: ObjectId,
-    visits: &mut Steps<L>,
-) -> Result<Value, Refusal>
-    requires sound { IsSoundFor program.now (kept_of machine.now) }
-    requires known { IsNamedAt program.now named.now }
-    requires held { IsHeld machine.now.heap object }
-    ensures is { (at : Site) (below : List Entry) →
-        casting (moment program.now machine.now thread) at named.now.name.now below (Some object)
-        ≡ outcome_of (moment program.now machine.now thread) result
-        (put_outcome (moment program.now machine.now thread) at below) }
-    ensures few { IfOk result (λ v. length (entries_of v) ≤ 1) }
-    ensures held { IfOk result (λ v. AreInHeap machine.now (refs_of_value v)) }
-    ensures visits { visits.new ≤ visits.old + 1 }
-{
-    let class = resolve_named(program, named)?;
-    let holds = passes(program, &machine.heap, object, class, visits);
-    throws_unless(GuestError::ClassCastException, holds)?;
-    Ok(Value::Ref(object))
-}
-
-/// Whether the object passes for one of the class of this name, as an int.
-fn test_object<L: Ledger>(
-    program: &Program,
-    machine: &Machine,
-    thread: ThreadId,
-    named: &NamedClass<'_>,
-    object: ObjectId,
-    visits: &mut Steps<L>,
-) -> Result<Value, Refusal>
-    requires sound { IsSoundFor program.now (kept_of machine.now) }
-    requires known { IsNamedAt program.now named.now }
-    requires held { IsHeld machine.now.heap object }
-    ensures is { (at : Site) (below : List Entry) →
-        testing (moment program.now machine.now thread) at named.now.name.now below (Some object)
-        ≡ outcome_of (moment program.now machine.now thread) result
-        (put_outcome (moment program.now machine.now thread) at below) }
-    ensures few { IfOk result (λ v. length (entries_of v) ≤ 1) }
-    ensures held { IfOk result (λ v. AreInHeap machine.now (refs_of_value v)) }
-    ensures visits { visits.new ≤ visits.old + 1 }
-{
-    let class = resolve_named(program, named)?;
-    let holds = passes(program, &machine.heap, object, class, visits);
-    Ok(truth(holds))
-}
-
 /// A truth as an int.
 fn truth(holds: bool) -> Value
     ensures { result ≡ truth_of holds }
@@ -140,12 +99,40 @@ fn truth(holds: bool) -> Value
     Value::Int(i32::from(holds))
 }
 
-/// What `checkcast` leaves for a reference; null is of each class, and then nothing is resolved.
-fn cast<L: Ledger>(
+/// What a test leaves for null.
+fn tested_null(test: TypeTest) -> Value
+    ensures { result ≡ left_by_null test }
+{
+    match test {
+        TypeTest::CheckCast => Value::Null,
+        TypeTest::InstanceOf => truth(false),
+    }
+}
+
+/// What a test leaves for an object that passes for one of the class or doesn't.
+fn tested_object(test: TypeTest, object: ObjectId, holds: bool) -> Result<Value, Refusal>
+    ensures is { (e : Moment) (at : Site) (below : List Entry) →
+        left_by test e at below object holds ≡ outcome_of e result (put_outcome e at below) }
+    ensures few { IfOk result (λ v. length (entries_of v) ≤ 1) }
+    ensures held { IfOk result (λ v. (heap : Objects) →
+        IsHeld heap object → AreHeld heap (refs_of_value v)) }
+{
+    match test {
+        TypeTest::CheckCast => {
+            throws_unless(GuestError::ClassCastException, holds)?;
+            Ok(Value::Ref(object))
+        }
+        TypeTest::InstanceOf => Ok(truth(holds)),
+    }
+}
+
+/// What a test leaves for a reference. Null passes as each class, and is of none; then nothing is resolved.
+fn tested<L: Ledger>(
     program: &Program,
     machine: &Machine,
     thread: ThreadId,
     named: &NamedClass<'_>,
+    test: TypeTest,
     reference: Option<ObjectId>,
     visits: &mut Steps<L>,
 ) -> Result<Value, Refusal>
@@ -153,7 +140,7 @@ fn cast<L: Ledger>(
     requires known { IsNamedAt program.now named.now }
     requires named { IsNamedReference machine.now (top machine.now.guest thread) reference }
     ensures is { (at : Site) (below : List Entry) →
-        casting (moment program.now machine.now thread) at named.now.name.now below reference
+        testing test (moment program.now machine.now thread) at named.now.name.now below reference
         ≡ outcome_of (moment program.now machine.now thread) result
         (put_outcome (moment program.now machine.now thread) at below) }
     ensures few { IfOk result (λ v. length (entries_of v) ≤ 1) }
@@ -161,53 +148,28 @@ fn cast<L: Ledger>(
     ensures visits { visits.new ≤ visits.old + 1 }
 {
     match reference {
-        Some(object) => cast_object(program, machine, thread, named, object, visits),
-        None => Ok(Value::Null),
+        Some(object) => {
+            let class = resolve_named(program, named)?;
+            let holds = passes(program, &machine.heap, object, class, visits);
+            tested_object(test, object, holds)
+        }
+        None => Ok(tested_null(test)),
     }
 }
 
-/// What `instanceof` gives for a reference; null is of no class, and then nothing is resolved.
-fn test<L: Ledger>(
-    program: &Program,
-    machine: &Machine,
-    thread: ThreadId,
-    named: &NamedClass<'_>,
-    reference: Option<ObjectId>,
-    visits: &mut Steps<L>,
-) -> Result<Value, Refusal>
-    requires sound { IsSoundFor program.now (kept_of machine.now) }
-    requires known { IsNamedAt program.now named.now }
-    requires named { IsNamedReference machine.now (top machine.now.guest thread) reference }
-    ensures is { (at : Site) (below : List Entry) →
-        testing (moment program.now machine.now thread) at named.now.name.now below reference
-        ≡ outcome_of (moment program.now machine.now thread) result
-        (put_outcome (moment program.now machine.now thread) at below) }
-    ensures few { IfOk result (λ v. length (entries_of v) ≤ 1) }
-    ensures held { IfOk result (λ v. AreInHeap machine.now (refs_of_value v)) }
-    ensures visits { visits.new ≤ visits.old + 1 }
-{
-    match reference {
-        Some(object) => test_object(program, machine, thread, named, object, visits),
-        None => Ok(truth(false)),
-    }
-}
-
-/// What `checkcast` puts in the place of the reference.
-pub(crate) fn check_cast<L: Ledger>(
+/// What `checkcast` or `instanceof` puts in the place of the reference.
+pub(crate) fn type_test<L: Ledger>(
     program: &Program,
     machine: &Machine,
     thread: ThreadId,
     place: &Place<'_>,
+    test: TypeTest,
     visits: &mut Steps<L>,
 ) -> Result<Exchange, Refusal>
-    requires frame { HasFrame machine.now.guest thread }
+    requires refers { MayRefer program.now machine.now thread place.now }
     requires sound { IsSoundFor program.now (kept_of machine.now) }
-    requires class { place.now.class < length program.now.classes }
-    requires index { natural_of place.now.instr.first < 2 ^ 16 }
-    requires pool { (site_at place.now).pool ≡ pool_of_class program.now place.now.class }
-    ensures is { check_casting (moment program.now machine.now thread) (site_at place.now)
-        ≡ outcome_of (moment program.now machine.now thread) result
-        (exchange_outcome (moment program.now machine.now thread) (site_at place.now)) }
+    ensures is { ComesTo (type_testing test)
+        (moment program.now machine.now thread) (site_at place.now) result exchange_outcome }
     ensures may { IfOk result
         (λ x. MayExchange machine.now.heap (top machine.now.guest thread) x) }
     ensures visits { visits.new ≤ visits.old + 1 }
@@ -218,36 +180,6 @@ pub(crate) fn check_cast<L: Ledger>(
         Err(refusal) => return Err(refusal),
     };
     let reference = take_reference(machine, thread, 0)?;
-    let value = cast(program, machine, thread, &named, reference, visits)?;
-    Ok(Exchange { taken: 1, value })
-}
-
-/// What `instanceof` puts in the place of the reference.
-pub(crate) fn instance_of<L: Ledger>(
-    program: &Program,
-    machine: &Machine,
-    thread: ThreadId,
-    place: &Place<'_>,
-    visits: &mut Steps<L>,
-) -> Result<Exchange, Refusal>
-    requires frame { HasFrame machine.now.guest thread }
-    requires sound { IsSoundFor program.now (kept_of machine.now) }
-    requires class { place.now.class < length program.now.classes }
-    requires index { natural_of place.now.instr.first < 2 ^ 16 }
-    requires pool { (site_at place.now).pool ≡ pool_of_class program.now place.now.class }
-    ensures is { instance_testing (moment program.now machine.now thread) (site_at place.now)
-        ≡ outcome_of (moment program.now machine.now thread) result
-        (exchange_outcome (moment program.now machine.now thread) (site_at place.now)) }
-    ensures may { IfOk result
-        (λ x. MayExchange machine.now.heap (top machine.now.guest thread) x) }
-    ensures visits { visits.new ≤ visits.old + 1 }
-{
-    operands_fit(machine, thread);
-    let named = match class_named(place) {
-        Ok(named) => named,
-        Err(refusal) => return Err(refusal),
-    };
-    let reference = take_reference(machine, thread, 0)?;
-    let value = test(program, machine, thread, &named, reference, visits)?;
+    let value = tested(program, machine, thread, &named, test, reference, visits)?;
     Ok(Exchange { taken: 1, value })
 }

@@ -1,12 +1,11 @@
 //! Instances (JVMS 6.5, new).
-ghost use Rattle.std.specs.Prelude.{◌≡◌, ◌<◌, ◌^◌, length, IfOk};
-ghost use Rattle.et_state.specs.Words.{HasFrame, top};
+ghost use Rattle.std.specs.Prelude.{◌≡◌, ◌<◌, length, IfOk};
+ghost use Rattle.et_state.specs.Words.{top};
 ghost use Rattle.et_event.specs.Heap.{may_be_made as may_make, new_instance};
-ghost use Rattle.et_event.specs.Sites.{natural_of};
 ghost use Rattle.et_event.specs.Places.{site_at};
 ghost use Rattle.et_event.specs.Moments.{moment};
-ghost use Rattle.et_program.specs.Referring.{pool_of_class};
-ghost use Rattle.et_refs.specs.Refusals.{outcome_of};
+ghost use Rattle.et_refs.specs.Asked.{MayRefer};
+ghost use Rattle.et_refs.specs.Refusals.{ComesTo};
 ghost use Rattle.et_refs.specs.Accesses.{MayWant, wanted_outcome};
 
 use crate::checks::{resolve_named, throws_unless};
@@ -36,13 +35,9 @@ pub(crate) fn new_object(
     thread: ThreadId,
     place: &Place<'_>,
 ) -> Result<Wanted, Refusal>
-    requires frame { HasFrame machine.now.guest thread }
-    requires class { place.now.class < length program.now.classes }
-    requires index { natural_of place.now.instr.first < 2 ^ 16 }
-    requires pool { (site_at place.now).pool ≡ pool_of_class program.now place.now.class }
-    ensures is { new_instance (moment program.now machine.now thread) (site_at place.now)
-        ≡ outcome_of (moment program.now machine.now thread) result
-        (wanted_outcome (moment program.now machine.now thread) (site_at place.now)) }
+    requires refers { MayRefer program.now machine.now thread place.now }
+    ensures is { ComesTo new_instance
+        (moment program.now machine.now thread) (site_at place.now) result wanted_outcome }
     ensures may { IfOk result (λ x. MayWant program.now (top machine.now.guest thread) x) }
 {
     let named = match class_named(place) {

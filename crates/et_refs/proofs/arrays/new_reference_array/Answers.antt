@@ -51,4 +51,4 @@ returns-clause-may c =
     whatever c.sized.result (record { taken = omega (arith, c.in_ok-elements.ensures.deep); room = c.operands_fit.ensures })
 
 pub resolve_named-requires : goal.resolve_named-requires
-resolve_named-requires c = c.in-Ok.ensures.named c.args.program.now c.requires.class c.requires.pool
+resolve_named-requires c = c.in-Ok.ensures.named c.args.program.now c.requires.refers.class c.requires.refers.pool

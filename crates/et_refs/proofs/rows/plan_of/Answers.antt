@@ -1,37 +1,27 @@
-use Rattle.std.proofs.Common.{◌≡◌, true, false, sym, ◌∙◌, ap, inl, inr}
+use Rattle.std.proofs.Common.{◌≡◌, Bool, true, false, refl, sym, ◌∙◌, ap, inl, inr}
 use Rattle.std.specs.Prelude.{◌⊎◌}
 use Rattle.et_event.specs.declared.rows.Elements.{Elements}
 use Rattle.et_event.specs.declared.rows.HeapRow.{HeapRow}
 use Rattle.et_event.specs.declared.rows.HeapRow.TheVariants.{ArrayLength, GetField, GetStatic, LoadElement, PutField, StoreElement}
-use Rattle.et_refs.specs.Reads.{is_read_row}
+use Rattle.et_refs.specs.LiftedChanges.{is_lifted_row}
 use Rattle.et_refs.specs.Rows.{is_get_static}
-use Rattle.et_refs.specs.Writes.{is_write_row}
 use Rattle.et_state.specs.Words.{top}
 use Rattle.et_refs.proofs.rows.plan_of.Goals as goal
 
+at_odds : (test : HeapRow → Bool) (r s : HeapRow) → test r ≡ false → test s ≡ true → r ≡ s → ⊥
+at_odds test r s off on is = let both : true ≡ false = sym on ∙ (ap test (sym is) ∙ off) in absurd (cc)
+
 -- rows that come to no plan
-no_plan : (r : HeapRow) → is_get_static r ≡ false → is_read_row r ≡ false → is_write_row r ≡ false → (r ≡ GetStatic) ⊎ (r ≡ GetField) ⊎ (r ≡ PutField) ⊎ ((kind : Elements) × (r ≡ LoadElement kind)) ⊎ ((kind : Elements) × (r ≡ StoreElement kind)) ⊎ (r ≡ ArrayLength) → ⊥
-no_plan r other no_read no_write (inl is) =
-    let at_true : true ≡ false = ap is_get_static (sym is) ∙ other in
-    absurd (cc)
-no_plan r other no_read no_write (inr (inl is)) =
-    let at_true : true ≡ false = ap is_read_row (sym is) ∙ no_read in
-    absurd (cc)
-no_plan r other no_read no_write (inr (inr (inl is))) =
-    let at_true : true ≡ false = ap is_write_row (sym is) ∙ no_write in
-    absurd (cc)
-no_plan r other no_read no_write (inr (inr (inr (inl x)))) =
-    let at_true : true ≡ false = ap is_read_row (sym x.1) ∙ no_read in
-    absurd (cc)
-no_plan r other no_read no_write (inr (inr (inr (inr (inl x))))) =
-    let at_true : true ≡ false = ap is_write_row (sym x.1) ∙ no_write in
-    absurd (cc)
-no_plan r other no_read no_write (inr (inr (inr (inr (inr is))))) =
-    let at_true : true ≡ false = ap is_read_row (sym is) ∙ no_read in
-    absurd (cc)
+no_plan : (r : HeapRow) → is_get_static r ≡ false → is_lifted_row r ≡ false → (r ≡ GetStatic) ⊎ (r ≡ GetField) ⊎ (r ≡ PutField) ⊎ ((kind : Elements) × (r ≡ LoadElement kind)) ⊎ ((kind : Elements) × (r ≡ StoreElement kind)) ⊎ (r ≡ ArrayLength) → ⊥
+no_plan r other not_lifted (inl is) = at_odds is_get_static r GetStatic other refl is
+no_plan r other not_lifted (inr (inl is)) = at_odds is_lifted_row r GetField not_lifted refl is
+no_plan r other not_lifted (inr (inr (inl is))) = at_odds is_lifted_row r PutField not_lifted refl is
+no_plan r other not_lifted (inr (inr (inr (inl (kind, is))))) = at_odds is_lifted_row r (LoadElement kind) not_lifted refl is
+no_plan r other not_lifted (inr (inr (inr (inr (inl (kind, is)))))) = at_odds is_lifted_row r (StoreElement kind) not_lifted refl is
+no_plan r other not_lifted (inr (inr (inr (inr (inr is))))) = at_odds is_lifted_row r ArrayLength not_lifted refl is
 
 pub unreachable-requires : goal.unreachable-requires
-unreachable-requires g c = no_plan c.args.row c.requires.other c.requires.no_read c.requires.no_write c.in-GetStatic.is
+unreachable-requires g c = no_plan c.args.row c.requires.other c.requires.not_lifted c.in-GetStatic.is
 
 pub returns-in-PutStatic-clause-may : goal.returns-in-PutStatic-clause-may
 returns-in-PutStatic-clause-may g c = c.access.ensures.may c.args.program.now c.args.machine.now.heap (top c.args.machine.now.guest c.args.thread) c.args.row c.write_field.ensures.may
@@ -40,10 +30,10 @@ pub returns-in-New-clause-may : goal.returns-in-New-clause-may
 returns-in-New-clause-may g c = c.access-in-New.ensures.may c.args.program.now c.args.machine.now.heap (top c.args.machine.now.guest c.args.thread) c.args.row c.new_object.ensures.may
 
 pub returns-in-CheckCast-clause-may : goal.returns-in-CheckCast-clause-may
-returns-in-CheckCast-clause-may g c = c.put.ensures.may c.args.program.now c.args.machine.now.heap (top c.args.machine.now.guest c.args.thread) c.args.row c.check_cast.ensures.may
+returns-in-CheckCast-clause-may g c = c.put.ensures.may c.args.program.now c.args.machine.now.heap (top c.args.machine.now.guest c.args.thread) c.args.row c.type_test.ensures.may
 
 pub returns-in-InstanceOf-clause-may : goal.returns-in-InstanceOf-clause-may
-returns-in-InstanceOf-clause-may g c = c.put-in-InstanceOf.ensures.may c.args.program.now c.args.machine.now.heap (top c.args.machine.now.guest c.args.thread) c.args.row c.instance_of.ensures.may
+returns-in-InstanceOf-clause-may g c = c.put-in-InstanceOf.ensures.may c.args.program.now c.args.machine.now.heap (top c.args.machine.now.guest c.args.thread) c.args.row c.type_test-in-InstanceOf.ensures.may
 
 pub returns-in-NewArray-clause-may : goal.returns-in-NewArray-clause-may
 returns-in-NewArray-clause-may g c = c.make.ensures.may c.args.program.now c.args.machine.now.heap (top c.args.machine.now.guest c.args.thread) c.args.row c.new_array.ensures.may

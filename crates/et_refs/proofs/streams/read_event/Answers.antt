@@ -21,7 +21,7 @@ unreachable-requires c =
     let p = c.args.program.now in
     let m = c.args.machine.now in
     let t = c.args.thread in
-    never_refused p m t c.args.place.now (out_instructs p (kept_of m) t c.requires.turn) c.requires.place c.requires.row c.read_field.result
+    never_refused p m t c.args.place.now (out_instructs p (kept_of m) t c.requires.turn) c.requires.at.place c.requires.row c.read_field.result
     (ap (λ (r : Result StaticRead Refusal). out_slot (moment p m t) r) c.in-Err.is) c.read_field.ensures.is c.requires.turn
 
 pub returns-in-Some : goal.returns-in-Some
@@ -33,7 +33,7 @@ returns-in-Some c =
     if_ok c.ready_event.result
     (λ end a x read.
     let there = ap is_some (ap referent_of (sym c.static_slot.ensures) ∙ (sym c.referent.ensures ∙ c.in-Some.is)) in
-    let same = read_ready p m t c.args.place.now (out_instructs p (kept_of m) t c.requires.turn) c.requires.place c.requires.row c.in-Ok.read c.in-Ok.ensures.is x read there ∙ ap (λ (w : Wanted). access_outcome (moment p m t) at w (begins (moment p m t))) (sym c.wanted.ensures) in
+    let same = read_ready p m t c.args.place.now (out_instructs p (kept_of m) t c.requires.turn) c.requires.at.place c.requires.row c.in-Ok.read c.in-Ok.ensures.is x read there ∙ ap (λ (w : Wanted). access_outcome (moment p m t) at w (begins (moment p m t))) (sym c.wanted.ensures) in
     subst (λ (o : Outcome Kept). EventAnswers o end m c.ready_event.new.machine c.args.out.now c.ready_event.new.out) (sym same) a)
     c.ready_event.ensures
 
@@ -46,6 +46,6 @@ returns-in-None c =
     if_ok c.made_event.result
     (λ end a x read.
     let missing = ap referent_of (sym c.static_slot.ensures) ∙ (sym c.referent.ensures ∙ c.in-None.is) in
-    let same = read_made p m t c.args.place.now (out_instructs p (kept_of m) t c.requires.turn) c.requires.place c.requires.row c.in-Ok.read c.in-Ok.ensures.is x read missing in
+    let same = read_made p m t c.args.place.now (out_instructs p (kept_of m) t c.requires.turn) c.requires.at.place c.requires.row c.in-Ok.read c.in-Ok.ensures.is x read missing in
     subst (λ (o : Outcome Kept). EventAnswers o end m c.made_event.new.machine c.args.out.now c.made_event.new.out) (sym same) (a at refl))
     c.made_event.ensures

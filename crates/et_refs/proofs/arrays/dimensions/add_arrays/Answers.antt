@@ -7,19 +7,19 @@ use Rattle.et_refs.proofs.arrays.dimensions.add_arrays.Goals as goal
 pub replace_top-requires-clause-frame : goal.replace_top-requires-clause-frame
 replace_top-requires-clause-frame g c =
     let m = c.args.machine.now in
-    let came = came_by c.args.program.now m c.begin_event.new.self c.make_arrays.new.machine c.args.thread c.args.arrays.now.class c.args.arrays.now.lengths.now c.args.out.now c.make_arrays.new.out c.requires.sound c.requires.some c.begin_event.ensures c.in_ok-array.ensures.made c.in_ok-array.ensures.lost in
-    frame_came m c.make_arrays.new.machine c.args.thread came.guest c.requires.frame
+    let came = came_by c.args.program.now m c.begin_event.new.self c.make_arrays.new.machine c.args.thread c.args.arrays.now.class c.args.arrays.now.lengths.now c.args.out.now c.make_arrays.new.out c.requires.step.sound c.requires.some c.begin_event.ensures c.in_ok-array.ensures.made c.in_ok-array.ensures.lost in
+    frame_came m c.make_arrays.new.machine c.args.thread came.guest c.requires.step.frame
 
 pub replace_top-requires-clause-operands : goal.replace_top-requires-clause-operands
 replace_top-requires-clause-operands g c =
     let m = c.args.machine.now in
-    let came = came_by c.args.program.now m c.begin_event.new.self c.make_arrays.new.machine c.args.thread c.args.arrays.now.class c.args.arrays.now.lengths.now c.args.out.now c.make_arrays.new.out c.requires.sound c.requires.some c.begin_event.ensures c.in_ok-array.ensures.made c.in_ok-array.ensures.lost in
+    let came = came_by c.args.program.now m c.begin_event.new.self c.make_arrays.new.machine c.args.thread c.args.arrays.now.class c.args.arrays.now.lengths.now c.args.out.now c.make_arrays.new.out c.requires.step.sound c.requires.some c.begin_event.ensures c.in_ok-array.ensures.made c.in_ok-array.ensures.lost in
     deep_came m c.make_arrays.new.machine c.args.thread (length c.args.arrays.now.lengths.now) (length c.args.arrays.now.lengths.now) came.guest refl c.requires.deep
 
 pub replace_top-requires-clause-room : goal.replace_top-requires-clause-room
 replace_top-requires-clause-room g c =
     let m = c.args.machine.now in
-    let came = came_by c.args.program.now m c.begin_event.new.self c.make_arrays.new.machine c.args.thread c.args.arrays.now.class c.args.arrays.now.lengths.now c.args.out.now c.make_arrays.new.out c.requires.sound c.requires.some c.begin_event.ensures c.in_ok-array.ensures.made c.in_ok-array.ensures.lost in
+    let came = came_by c.args.program.now m c.begin_event.new.self c.make_arrays.new.machine c.args.thread c.args.arrays.now.class c.args.arrays.now.lengths.now c.args.out.now c.make_arrays.new.out c.requires.step.sound c.requires.some c.begin_event.ensures c.in_ok-array.ensures.made c.in_ok-array.ensures.lost in
     room_came m c.make_arrays.new.machine c.args.thread (length c.args.arrays.now.lengths.now) (length c.args.arrays.now.lengths.now) came.guest refl c.requires.deep c.requires.some c.operands_are_few.ensures.fit
 
 pub returns-clause-ok : goal.returns-clause-ok
@@ -28,8 +28,8 @@ returns-clause-ok g c =
     let m = c.args.machine.now in
     let t = c.args.thread in
     let e = moment p m t in
-    let came = came_by p m c.begin_event.new.self c.make_arrays.new.machine t c.args.arrays.now.class c.args.arrays.now.lengths.now c.args.out.now c.make_arrays.new.out c.requires.sound c.requires.some c.begin_event.ensures c.in_ok-array.ensures.made c.in_ok-array.ensures.lost in
-    arrays_answer p t c.args.arrays.now.class (length c.args.arrays.now.lengths.now) c.in_ok-array.array c.args.arrays.now.next c.args.arrays.now.lengths.now m c.make_arrays.new.machine c.replace_top.new.machine c.args.out.now c.make_arrays.new.out c.requires.sound c.requires.frame came
+    let came = came_by p m c.begin_event.new.self c.make_arrays.new.machine t c.args.arrays.now.class c.args.arrays.now.lengths.now c.args.out.now c.make_arrays.new.out c.requires.step.sound c.requires.some c.begin_event.ensures c.in_ok-array.ensures.made c.in_ok-array.ensures.lost in
+    arrays_answer p t c.args.arrays.now.class (length c.args.arrays.now.lengths.now) c.in_ok-array.array c.args.arrays.now.next c.args.arrays.now.lengths.now m c.make_arrays.new.machine c.replace_top.new.machine c.args.out.now c.make_arrays.new.out c.requires.step.sound c.requires.step.frame came
     (sym (c.arrays_fit.ensures e c.args.arrays.now.class (begins e) refl) ∙ c.if-not-arrays_fit.false) refl
     (c.in_ok-array.ensures.first ∙ ap (λ (z : MachineState). length z.heap) c.begin_event.ensures) c.replace_top.ensures
 

@@ -1,14 +1,18 @@
 use Rattle.std.proofs.Common.{◌≡◌, ◌<◌, List, length, drop, sym, ◌∙◌, ap, arith}
 use Rattle.std.specs.Prelude.{ℤ}
-use Rattle.et_state.specs.State.{kept_of}
+use Rattle.et_state.specs.Outcome.{Outcome}
+use Rattle.et_state.specs.State.{Kept, kept_of}
 use Rattle.et_state.specs.Words.{top}
 use Rattle.et_event.specs.Places.{site_at}
 use Rattle.et_event.proofs.SiteAnswers.{place_pool}
-use Rattle.et_event.specs.Moments.{moment}
+use Rattle.et_event.specs.Heap.{new_multi_array}
+use Rattle.et_event.specs.Moments.{Moment, moment}
 use Rattle.et_event.specs.Sites.{natural_of}
 use Rattle.et_refs.specs.Events.{new_arrays_outcome}
 use Rattle.et_refs.proofs.Answering.{answers_as, visits_as, as_many, multi_array_of, taken_ok, taken_err}
 use Rattle.et_refs.proofs.Placed.{some_dimension}
+use Rattle.et_refs.proofs.arrays.dimensions.multi_array_event.Given.{Over}
+use Rattle.et_refs.proofs.arrays.dimensions.multi_array_event.Goals.{After-add_arrays}
 use Rattle.et_refs.proofs.arrays.dimensions.multi_array_event.Goals as goal
 
 pub returns-in-Err-clause-ok : goal.returns-in-Err-clause-ok
@@ -30,32 +34,44 @@ returns-in-Err-2-clause-ok g c =
 
 pub class_wanted-requires : goal.class_wanted-requires
 class_wanted-requires g c =
-    c.in-Ok.ensures.named c.args.program.now c.requires.place.class (place_pool c.args.program.now (top c.args.machine.now.guest c.args.thread) c.args.place.now c.requires.place)
+    c.in-Ok.ensures.named c.args.program.now c.requires.at.place.class (place_pool c.args.program.now (top c.args.machine.now.guest c.args.thread) c.args.place.now c.requires.at.place)
 
 pub add_arrays-requires-clause-some : goal.add_arrays-requires-clause-some
 add_arrays-requires-clause-some g c =
     let some : 0 < natural_of c.args.place.now.instr.second =
-    some_dimension c.args.program.now c.args.machine.now c.args.thread c.args.place.now c.in-Ok.named.name.now c.in-Ok-class_wanted.class c.requires.sound c.requires.arrays c.requires.turn c.requires.place c.requires.row c.in-Ok.ensures.operand c.in-Ok-class_wanted.ensures.resolves in
+    some_dimension c.args.program.now c.args.machine.now c.args.thread c.args.place.now c.in-Ok.named.name.now c.in-Ok-class_wanted.class c.requires.at.begins.sound c.requires.at.begins.program.arrays c.requires.turn c.requires.at.place c.requires.row c.in-Ok.ensures.operand c.in-Ok-class_wanted.ensures.resolves in
     let same : c.dimensions.result ≡ natural_of c.args.place.now.instr.second = c.dimensions.ensures in
     let many : length c.deref-in-Ok-class_wanted.result.now ≡ c.dimensions.result =
     as_many c.in_ok-lengths.field-0 (λ x. x.items) c.dimensions.result c.in-Ok-2.lengths c.deref-in-Ok-class_wanted.result.now c.in-Ok-2.is c.deref-in-Ok-class_wanted.ensures.value c.in_ok-lengths.ensures.count in
     omega (arith, some, same, many)
 
+-- THE ARRAYS are made
+module _ (g : Over) (c : After-add_arrays g) where
+  abbrev e : Moment
+  e = moment c.args.program.now c.args.machine.now c.args.thread
+
+  abbrev made : List ℤ → Outcome Kept
+  made ns = new_arrays_outcome e c.args.place.now.next ns (drop (length ns) (top c.args.machine.now.guest c.args.thread).operands) c.in-Ok-class_wanted.class
+
+  told : new_multi_array e (site_at c.args.place.now) ≡ made c.deref-in-Ok-class_wanted.result.now
+  told =
+      let at = site_at c.args.place.now in
+      let lengths = c.deref.result.now in
+      let many = as_many c.in_ok-lengths.field-0 (λ x. x.items) c.dimensions.result c.in-Ok-2.lengths lengths c.in-Ok-2.is c.deref.ensures.value c.in_ok-lengths.ensures.count in
+      c.in-Ok.ensures.is e (multi_array_of e at)
+      ∙ (taken_ok e at c.in-Ok.named.name.now c.dimensions.result c.in_ok-lengths.field-0 (λ x. x.items) c.in-Ok-2.lengths lengths c.dimensions.ensures (c.in_ok-lengths.ensures.is e) c.in-Ok-2.is many c.deref.ensures.value
+      ∙ (c.in-Ok-class_wanted.ensures.is (kept_of c.args.machine.now) c.args.thread (new_arrays_outcome e c.args.place.now.next lengths (drop (length lengths) (top c.args.machine.now.guest c.args.thread).operands))
+      ∙ ap made (c.deref.ensures.value ∙ sym c.deref-in-Ok-class_wanted.ensures.value)))
+
 pub returns-in-Ok-class_wanted-clause-ok : goal.returns-in-Ok-class_wanted-clause-ok
 returns-in-Ok-class_wanted-clause-ok g c =
-    let m = c.args.machine.now in
-    let e = moment c.args.program.now m c.args.thread in
-    let at = site_at c.args.place.now in
-    let name = c.in-Ok.named.name.now in
-    let operands = (top m.guest c.args.thread).operands in
-    let lengths = c.deref.result.now in
-    let many = as_many c.in_ok-lengths.field-0 (λ x. x.items) c.dimensions.result c.in-Ok-2.lengths lengths c.in-Ok-2.is c.deref.ensures.value c.in_ok-lengths.ensures.count in
-    answers_as _ _ c.add_arrays.result m _ c.args.out.now _
-    (c.in-Ok.ensures.is e (multi_array_of e at)
-    ∙ (taken_ok e at name c.dimensions.result c.in_ok-lengths.field-0 (λ x. x.items) c.in-Ok-2.lengths lengths c.dimensions.ensures (c.in_ok-lengths.ensures.is e) c.in-Ok-2.is many c.deref.ensures.value
-    ∙ (c.in-Ok-class_wanted.ensures.is (kept_of m) c.args.thread (new_arrays_outcome e c.args.place.now.next lengths (drop (length lengths) operands))
-    ∙ ap (λ (ns : List ℤ). new_arrays_outcome e c.args.place.now.next ns (drop (length ns) operands) c.in-Ok-class_wanted.class) (c.deref.ensures.value ∙ sym c.deref-in-Ok-class_wanted.ensures.value))))
-    c.add_arrays.ensures.ok
+    answers_as _ _ c.add_arrays.result c.args.machine.now _ c.args.out.now _ (told g (goal.at.returns-in-Ok-class_wanted-clause-ok g c).After-add_arrays) c.add_arrays.ensures.ok
+
+pub returns-in-Ok-class_wanted-clause-visits : goal.returns-in-Ok-class_wanted-clause-visits
+returns-in-Ok-class_wanted-clause-visits g c =
+    visits_as _ _ c.args.machine.now c.args.visits.now c.add_arrays.new.visits (told g (goal.at.returns-in-Ok-class_wanted-clause-visits g c).After-add_arrays) c.add_arrays.ensures.visits
+
+-- .. or are not
 
 pub returns-clause-ok : goal.returns-clause-ok
 returns-clause-ok g c =
@@ -70,19 +86,3 @@ returns-clause-ok g c =
     ∙ (taken_ok e at name c.dimensions.result c.in_ok-lengths.field-0 (λ x. x.items) c.in-Ok-2.lengths lengths c.dimensions.ensures (c.in_ok-lengths.ensures.is e) c.in-Ok-2.is many c.deref.ensures.value
     ∙ c.in-Err-class_wanted.ensures.is (kept_of m) c.args.thread (new_arrays_outcome e c.args.place.now.next lengths (drop (length lengths) (top m.guest c.args.thread).operands))))
     c.refuse-in-Err-class_wanted.ensures.ok
-
-pub returns-in-Ok-class_wanted-clause-visits : goal.returns-in-Ok-class_wanted-clause-visits
-returns-in-Ok-class_wanted-clause-visits g c =
-    let m = c.args.machine.now in
-    let e = moment c.args.program.now m c.args.thread in
-    let at = site_at c.args.place.now in
-    let name = c.in-Ok.named.name.now in
-    let operands = (top m.guest c.args.thread).operands in
-    let lengths = c.deref.result.now in
-    let many = as_many c.in_ok-lengths.field-0 (λ x. x.items) c.dimensions.result c.in-Ok-2.lengths lengths c.in-Ok-2.is c.deref.ensures.value c.in_ok-lengths.ensures.count in
-    visits_as _ _ m c.args.visits.now c.add_arrays.new.visits
-    (c.in-Ok.ensures.is e (multi_array_of e at)
-    ∙ (taken_ok e at name c.dimensions.result c.in_ok-lengths.field-0 (λ x. x.items) c.in-Ok-2.lengths lengths c.dimensions.ensures (c.in_ok-lengths.ensures.is e) c.in-Ok-2.is many c.deref.ensures.value
-    ∙ (c.in-Ok-class_wanted.ensures.is (kept_of m) c.args.thread (new_arrays_outcome e c.args.place.now.next lengths (drop (length lengths) operands))
-    ∙ ap (λ (ns : List ℤ). new_arrays_outcome e c.args.place.now.next ns (drop (length ns) operands) c.in-Ok-class_wanted.class) (c.deref.ensures.value ∙ sym c.deref-in-Ok-class_wanted.ensures.value))))
-    c.add_arrays.ensures.visits

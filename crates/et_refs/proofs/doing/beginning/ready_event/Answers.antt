@@ -10,7 +10,7 @@ carry_out-requires-clause-can c =
     let p = c.args.program.now in
     let m = c.args.machine.now in
     let d = begins (moment p m c.args.thread) in
-    can_access p c.args.thread m c.begin_event.new.self d c.args.wanted.now (begun_initialized p c.args.thread m c.requires.sound) c.requires.may
+    can_access p c.args.thread m c.begin_event.new.self d c.args.wanted.now (begun_initialized p c.args.thread m c.requires.access.sound) c.requires.access.may
     (sym c.access_fits.ensures ∙ c.if-not-access_fits.false) c.begin_event.ensures
 
 pub returns : goal.returns
@@ -18,5 +18,5 @@ returns c =
     let p = c.args.program.now in
     let m = c.args.machine.now in
     let d = begins (moment p m c.args.thread) in
-    accessed_answers p c.args.thread (site_at c.args.place.now) c.args.wanted.now m c.begin_event.new.self c.carry_out.new.machine d c.args.out.now c.args.out.now c.carry_out.new.out c.requires.sound.held c.requires.frame
-    (begun_initialized p c.args.thread m c.requires.sound) c.requires.may (sym c.access_fits.ensures ∙ c.if-not-access_fits.false) c.begin_event.ensures (sym (append-nil c.args.out.now)) c.in_ok-carry_out.ensures
+    accessed_answers p c.args.thread (site_at c.args.place.now) c.args.wanted.now m c.begin_event.new.self c.carry_out.new.machine d c.args.out.now c.args.out.now c.carry_out.new.out c.requires.access.sound.held c.requires.access.frame
+    (begun_initialized p c.args.thread m c.requires.access.sound) c.requires.access.may (sym c.access_fits.ensures ∙ c.if-not-access_fits.false) c.begin_event.ensures (sym (append-nil c.args.out.now)) c.in_ok-carry_out.ensures

@@ -11,4 +11,4 @@ returns-clause-ok c =
     let m = c.args.machine.now in
     let t = c.args.thread in
     let made = subst (λ (o : Option ℕ). MakesObject (array_made (moment p m t) c.args.x.class c.args.x.elements (begins (moment p m t))) o m c.make_array.new.machine c.args.out.now c.make_array.new.out) c.in-Some.is c.in_ok-array.ensures.made in
-    make_answers p (site_at c.args.place.now) t c.args.x.class c.args.x.elements c.in-Some.array m _ _ _ c.args.out.now _ c.requires.sound c.requires.frame made c.begin_event.ensures c.replace_top.ensures
+    make_answers p (site_at c.args.place.now) t c.args.x.class c.args.x.elements c.in-Some.array m _ _ _ c.args.out.now _ c.requires.step.sound c.requires.step.frame made c.begin_event.ensures c.replace_top.ensures

@@ -1,6 +1,5 @@
 use Rattle.std.proofs.Common.{rules, ◌≡◌, ◌+◌, Err, true, drop, sym, ◌∙◌, ap, subst, arith, Contains}
 use Rattle.et_base.specs.declared.value.Value.{Value}
-use Rattle.et_heap.specs.Objects.{object_at, slot_of}
 use Rattle.et_heap.specs.Refs.{refs_of_value}
 use Rattle.et_event.specs.Kinds.{kind_of_field}
 use Rattle.et_event.specs.Moments.{begins, slot_written, goes}
@@ -10,7 +9,8 @@ use Rattle.et_refs.specs.NamedFields.{named_as}
 use Rattle.et_refs.specs.Changes.{is_number, store_outcome}
 use Rattle.et_refs.specs.Reads.{moment_over}
 use Rattle.et_refs.proofs.Chains.{refusing, puts, puts_value, puts_slot, put, on_value, store_back}
-use Rattle.et_refs.proofs.Reading.{kept_number, kept_refers, no_reference_there}
+use Rattle.et_refs.proofs.May.{may_store}
+use Rattle.et_refs.proofs.Reading.{kept_number, kept_refers}
 use Rattle.et_refs.proofs.slots.fields.write_field.Goals as goal
 
 pub field_slot-requires-clause-answered : goal.field_slot-requires-clause-answered
@@ -73,11 +73,6 @@ returns-clause-may g c =
     let type = c.in-Ok.named.descriptor.now in
     let v = c.in_ok-taken.taken.value in
     let x = c.in_ok-at.at in
-    record {
-      taken = omega (arith, c.in_ok-reference.ensures.deep);
-      few = omega (arith, c.in_ok-taken.ensures.few);
-      object = c.in_ok-reference.ensures.there x.object c.in_ok-at.ensures.object;
-      slot = c.in_ok-at.ensures.at.slot;
-      value = λ o inside. c.in_ok-taken.ensures.there o (kept_refers type v o (subst (λ (w : Value). Contains (refs_of_value w) o) c.narrowed.ensures inside));
-      number = λ h. no_reference_there (operand_kind type) v (slot_of (object_at c.args.heap.now x.object) x.slot) (kept_number type v (subst (λ (w : Value). is_number w ≡ true) c.narrowed.ensures h)) c.in_ok-taken.ensures.kind c.in_ok-at.ensures.at.value;
-    }
+    may_store c.args.heap.now c.args.running.now.frame (c.in_ok-taken.taken.width + 1) (operand_kind type) v c.narrowed.result x (omega (arith, c.in_ok-reference.ensures.deep)) (omega (arith, c.in_ok-taken.ensures.few))
+    (c.in_ok-reference.ensures.there x.object c.in_ok-at.ensures.object) c.in_ok-at.ensures.at c.in_ok-taken.ensures.there c.in_ok-taken.ensures.kind
+    (λ o inside. kept_refers type v o (subst (λ (w : Value). Contains (refs_of_value w) o) c.narrowed.ensures inside)) (λ h. kept_number type v (subst (λ (w : Value). is_number w ≡ true) c.narrowed.ensures h))

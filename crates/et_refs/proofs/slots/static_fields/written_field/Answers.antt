@@ -1,16 +1,10 @@
-use Rattle.std.proofs.Common.{rules, ◌≡◌, ℕ, Bool, Err, not, sym, ◌∙◌, ap}
-use Rattle.et_state.specs.State.{Kept}
-use Rattle.et_state.specs.Outcome.{Outcome}
+use Rattle.std.proofs.Common.{rules, ◌≡◌, Bool, Err, not, sym, ◌∙◌, ap}
 use Rattle.et_event.specs.declared.errors.GuestError.TheVariants.{NoSuchFieldError}
 use Rattle.et_event.specs.Moments.{Moment, begins}
 use Rattle.et_event.specs.Checks.{throws_unless}
-use Rattle.et_event.specs.Heap.{is_out}
+use Rattle.et_refs.specs.StaticReads.{unless_out}
 use Rattle.et_refs.proofs.Chains.{refusing}
 use Rattle.et_refs.proofs.slots.static_fields.written_field.Goals as goal
-
--- what goes on where the field isn't System.out
-abbrev unless_out : Moment → (ℕ → Outcome Kept) → ℕ → Outcome Kept
-unless_out e go f = throws_unless e (begins e) NoSuchFieldError (not (is_out e.program f)) (go f)
 
 pub returns-in_err-field-clause-is : goal.returns-in_err-field-clause-is
 returns-in_err-field-clause-is c =

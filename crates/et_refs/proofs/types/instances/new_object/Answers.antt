@@ -39,4 +39,4 @@ returns-clause-is c =
     ∙ (ap (λ (b : Bool). throws_unless e (begins e) InstantiationError b (made_of e at class)) (sym c.may_be_made.ensures) ∙ c.in_ok-throws_unless.ensures.is e (made_of e at class))))
 
 pub resolve_named-requires : goal.resolve_named-requires
-resolve_named-requires c = c.in-Ok.ensures.named c.args.program.now c.requires.class c.requires.pool
+resolve_named-requires c = c.in-Ok.ensures.named c.args.program.now c.requires.refers.class c.requires.refers.pool
