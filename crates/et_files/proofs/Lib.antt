@@ -3,3 +3,4 @@ mod Followed
 pub mod FaultLemmas
 pub mod ReadLemmas
 pub mod LinkLemmas
+pub mod Answered

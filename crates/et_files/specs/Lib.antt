@@ -5,3 +5,4 @@ pub mod Told
 pub mod Loaded
 pub mod Following
 pub mod Reads
+pub mod Answered

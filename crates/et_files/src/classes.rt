@@ -1,15 +1,16 @@
 //! The classes of the files that a command names.
-ghost use Rattle.std.specs.Prelude.{◌≡◌, ◌≤◌, ◌++◌, ◌∷◌, [], true, List, Result, Ok, All, IfOk, IfErr, IfSome, OnOk, length, map, string_bytes};
-ghost use Rattle.et_io.specs.Faults.{Rose, count_after};
-ghost use Rattle.et_io.specs.Files.{Held, Answer, Reading, is_failed};
+ghost use Rattle.std.specs.Prelude.{◌≡◌, ◌≤◌, ◌++◌, ◌∷◌, [], true, List, Result, Ok, All, IfOk, IfErr, OnOk, length, map, string_bytes};
+ghost use Rattle.et_io.specs.Faults.{Rose};
+ghost use Rattle.et_io.specs.Files.{Held, Reading};
 ghost use Rattle.et_class.specs.Layout.{ClassOf};
 ghost use Rattle.et_class.specs.Classes.{IsClassFile, class_of, HasItsParts};
+ghost use Rattle.et_files.specs.Answered.{ReadsOne, ReadsEach};
 ghost use Rattle.et_files.specs.Faults.{Fault};
 ghost use Rattle.et_link.specs.Declaring.{HasItsFile};
 ghost use Rattle.et_files.specs.Loaded.{file_bytes, most_of_class, IsClassOf, AreClassesOf};
-ghost use Rattle.et_files.specs.Reads.{ReadsInOrder, HoldsClass, IsReadLast, is_early, Asks};
+ghost use Rattle.et_files.specs.Reads.{HoldsClass, is_early};
 ghost use Rattle.et_files.specs.Refusals.{status_of};
-ghost use Rattle.et_files.specs.Told.{Tells, IsFileRefusal, IsOfBytes, Names, cause_of, classes_read, is_reading, named_path, status_of_result};
+ghost use Rattle.et_files.specs.Told.{Tells, IsOfBytes, Names, cause_of, classes_read};
 
 use crate::files::read_file;
 use crate::refusal::Refusal;
@@ -53,23 +54,16 @@ fn load_class<'a, F: Files>(
         class → Tells (Rose (F.faults files.old) (F.faults files.new)) class_of class result }
     ensures parts { IfOk result HasItsParts }
     ensures of_file { IfOk result HasItsFile }
-    ensures faults { F.faults files.new ≡ count_after (is_reading result) (F.faults files.old) }
-    ensures asked { (answer : Answer) × Asks (F.asked files.old) (F.asked files.new) path.now
-        most_of_class answer × (is_failed answer ≡ is_reading result) }
+    ensures read { ReadsOne F.Files files.old files.new path.now most_of_class result }
     ensures early { IfErr result (λ refusal. is_early (status_of refusal) ≡ true) }
     ensures good { (first : List Reading) (held : Held) →
         length first ≤ length (F.asked files.old) → F.agrees files.new first held →
         OnOk result (HoldsClass held path.now) }
-    ensures file { IfErr result (λ refusal. IsFileRefusal (cause_of refusal)) }
-    ensures never_falls { F.faults files.old ≤ F.faults files.new }
     ensures kept { (first : List Reading) (held : Held) → F.agrees files.new first held →
         F.agrees files.old first held }
-    ensures names { IfErr result (Names path.now) }
 {
-    match read_file(alloc, path, MOST_CLASS_BYTES, files) {
-        Ok(bytes) => class_in(alloc, path, &bytes),
-        Err(refusal) => Err(refusal),
-    }
+    let bytes = read_file(alloc, path, MOST_CLASS_BYTES, files)?;
+    class_in(alloc, path, &bytes)
 }
 
 /// The class files at the paths, in order: each is read when the one before it was found to be a class file.
@@ -85,13 +79,7 @@ pub fn load_classes<'a, F: Files>(
     ensures parts { IfOk result (λ classes. All HasItsParts classes.items) }
     ensures of_files { IfOk result (λ classes. All HasItsFile classes.items) }
     ensures count { IfOk result (λ classes. length classes.items ≡ length paths.now) }
-    ensures faults { F.faults files.new ≡ count_after (is_reading result) (F.faults files.old) }
-    ensures reads { ReadsInOrder (F.agrees files.new (F.asked files.old)) (F.asked files.old)
-        (F.asked files.new) most_of_class (map string_bytes paths.now) (status_of_result result) }
-    ensures file { IfErr result (λ refusal. IsFileRefusal (cause_of refusal)) }
-    ensures never_falls { F.faults files.old ≤ F.faults files.new }
-    ensures names { IfErr result
-        (λ refusal. IfSome (named_path refusal) (IsReadLast (F.asked files.new))) }
+    ensures reads { ReadsEach F.Files files.old files.new (map string_bytes paths.now) result }
 {
     let mut classes = Vec::new(alloc);
     'paths: for path in paths {

@@ -1,11 +1,12 @@
 //! Reading a file.
 ghost use Rattle.std.specs.Prelude.{◌≡◌, ◌≤◌, true, List, length, IfOk, IfErr};
-ghost use Rattle.et_io.specs.Faults.{Rose, count_after};
-ghost use Rattle.et_io.specs.Files.{Held, Answer, Reading, is_failed};
+ghost use Rattle.et_io.specs.Faults.{Rose};
+ghost use Rattle.et_io.specs.Files.{Held, Reading};
+ghost use Rattle.et_files.specs.Answered.{ReadsOne};
 ghost use Rattle.et_files.specs.Loaded.{file_bytes};
-ghost use Rattle.et_files.specs.Reads.{is_early, Asks};
+ghost use Rattle.et_files.specs.Reads.{is_early};
 ghost use Rattle.et_files.specs.Refusals.{status_of};
-ghost use Rattle.et_files.specs.Told.{Tells, TellsFound, IsFileRefusal, Names, cause_of, is_reading};
+ghost use Rattle.et_files.specs.Told.{Tells, TellsFound, Names};
 
 use crate::refusal::Refusal;
 use et_io::{Files, Found};
@@ -35,14 +36,9 @@ pub fn read_file<'a, F: Files>(
         length first ≤ length (F.asked files.old) → F.agrees files.new first held →
         Tells (Rose (F.faults files.old) (F.faults files.new))
         (λ bytes. bytes.items) (file_bytes most (held path.now)) result }
-    ensures faults { F.faults files.new ≡ count_after (is_reading result) (F.faults files.old) }
-    ensures asked { (answer : Answer) × Asks (F.asked files.old) (F.asked files.new) path.now most
-        answer × (is_failed answer ≡ is_reading result) }
+    ensures read { ReadsOne F.Files files.old files.new path.now most result }
     ensures within { IfOk result (λ bytes. length bytes.items ≤ most) }
     ensures early { IfErr result (λ refusal. is_early (status_of refusal) ≡ true) }
-    ensures file { IfErr result (λ refusal. IsFileRefusal (cause_of refusal)) }
-    ensures names { IfErr result (Names path.now) }
-    ensures never_falls { F.faults files.old ≤ F.faults files.new }
     ensures kept { (first : List Reading) (held : Held) → F.agrees files.new first held →
         F.agrees files.old first held }
 {

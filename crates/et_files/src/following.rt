@@ -1,15 +1,13 @@
 //! The trace of the file that a command names, in either spelling, followed as it is read.
-ghost use Rattle.std.specs.Prelude.{◌≡◌, ◌≤◌, ◌<◌, ◌^◌, [], List, Result, Ok, All, length, IfOk, IfErr};
+ghost use Rattle.std.specs.Prelude.{◌<◌, ◌^◌, [], List, Result, Ok, All, length, IfOk, IfErr};
 ghost use Rattle.et_base.specs.declared.line.TraceLine.{TraceLine};
 ghost use Rattle.et_convert.specs.Spellings.{SpellsTrace};
-ghost use Rattle.et_io.specs.Faults.{Rose, count_after};
-ghost use Rattle.et_io.specs.Files.{Held, Answer};
 ghost use Rattle.et_text.specs.Ranges.{HasShortNames};
+ghost use Rattle.et_files.specs.Answered.{Loads};
 ghost use Rattle.et_files.specs.Faults.{Fault};
 ghost use Rattle.et_files.specs.Following.{FollowsBytes, FollowsTrace, TellsOf};
-ghost use Rattle.et_files.specs.Loaded.{file_bytes, most_of_trace, IsTraceOf};
-ghost use Rattle.et_files.specs.Reads.{Asks};
-ghost use Rattle.et_files.specs.Told.{IsFileRefusal, IsOfBytes, Names, cause_of, is_reading};
+ghost use Rattle.et_files.specs.Loaded.{most_of_trace, IsTraceOf};
+ghost use Rattle.et_files.specs.Told.{IsOfBytes, Names, cause_of};
 
 use crate::files::read_file;
 use crate::refusal::Refusal;
@@ -57,23 +55,13 @@ pub fn follow_file<'a, F: Follower, S: Files>(
     follower: F,
 ) -> Result<F, Refusal<'a>>
     requires new { F.follows follower [] }
-    ensures tells { (held : Held) → S.agrees files.new (S.asked files.old) held →
-        (trace : Result (List TraceLine) Fault) → IsTraceOf
-        (file_bytes most_of_trace (held path.now)) trace → TellsOf
-        (Rose (S.faults files.old) (S.faults files.new)) (FollowsTrace F.follows) trace result }
+    ensures loads { Loads S.Files files.old files.new path.now most_of_trace IsTraceOf
+        (λ read. TellsOf read (FollowsTrace F.follows)) result }
     ensures trace { IfOk result (λ follower. (lines : List TraceLine)
         × FollowsTrace F.follows lines follower) }
-    ensures faults { S.faults files.new ≡ count_after (is_reading result) (S.faults files.old) }
-    ensures asked { (answer : Answer) × Asks (S.asked files.old) (S.asked files.new) path.now
-        most_of_trace answer }
-    ensures file { IfErr result (λ refusal. IsFileRefusal (cause_of refusal)) }
-    ensures never_falls { S.faults files.old ≤ S.faults files.new }
-    ensures names { IfErr result (Names path.now) }
 {
-    match read_file(alloc, path, MOST_TRACE_BYTES, files) {
-        Ok(bytes) => follow_in(alloc, path, &bytes, follower),
-        Err(refusal) => Err(refusal),
-    }
+    let bytes = read_file(alloc, path, MOST_TRACE_BYTES, files)?;
+    follow_in(alloc, path, &bytes, follower)
 }
 
 /// The bytes where they are those of a trace.
@@ -88,10 +76,8 @@ fn checked<'a>(alloc: Global, path: &'a str, bytes: Vec<u8>) -> Result<Vec<u8>, 
 {
     // A law: it tells the prover, and does nothing.
     conversions_are_traces();
-    match follow_in(alloc, path, &bytes, Unkept {}) {
-        Ok(_) => Ok(bytes),
-        Err(refusal) => Err(refusal),
-    }
+    follow_in(alloc, path, &bytes, Unkept {})?;
+    Ok(bytes)
 }
 
 /// The bytes of the trace at the path.
@@ -100,22 +86,11 @@ pub fn load_bytes<'a, S: Files>(
     path: &'a str,
     files: &mut S,
 ) -> Result<Vec<u8>, Refusal<'a>>
-    ensures tells { (held : Held) → S.agrees files.new (S.asked files.old) held →
-        (trace : Result (List TraceLine) Fault) → IsTraceOf
-        (file_bytes most_of_trace (held path.now)) trace → TellsOf
-        (Rose (S.faults files.old) (S.faults files.new))
-        (λ lines bytes. SpellsTrace lines bytes.items) trace result }
+    ensures loads { Loads S.Files files.old files.new path.now most_of_trace IsTraceOf
+        (λ read. TellsOf read (λ lines bytes. SpellsTrace lines bytes.items)) result }
     ensures trace { IfOk result (λ bytes. (lines : List TraceLine)
         × SpellsTrace lines bytes.items × All HasShortNames lines) }
-    ensures faults { S.faults files.new ≡ count_after (is_reading result) (S.faults files.old) }
-    ensures asked { (answer : Answer) × Asks (S.asked files.old) (S.asked files.new) path.now
-        most_of_trace answer }
-    ensures file { IfErr result (λ refusal. IsFileRefusal (cause_of refusal)) }
-    ensures never_falls { S.faults files.old ≤ S.faults files.new }
-    ensures names { IfErr result (Names path.now) }
 {
-    match read_file(alloc, path, MOST_TRACE_BYTES, files) {
-        Ok(bytes) => checked(alloc, path, bytes),
-        Err(refusal) => Err(refusal),
-    }
+    let bytes = read_file(alloc, path, MOST_TRACE_BYTES, files)?;
+    checked(alloc, path, bytes)
 }

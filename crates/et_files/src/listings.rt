@@ -1,11 +1,9 @@
 //! The class file of the listing that a command names.
-ghost use Rattle.std.specs.Prelude.{◌≡◌, ◌≤◌, ℕ, List, Result, Ok, IfErr};
-ghost use Rattle.et_io.specs.Faults.{Rose, count_after};
-ghost use Rattle.et_io.specs.Files.{Held, Answer};
+ghost use Rattle.std.specs.Prelude.{ℕ, List, Result, Ok, IfErr};
+ghost use Rattle.et_files.specs.Answered.{Loads};
 ghost use Rattle.et_files.specs.Faults.{Fault};
-ghost use Rattle.et_files.specs.Loaded.{file_bytes, most_of_class, IsListingOf};
-ghost use Rattle.et_files.specs.Reads.{Asks};
-ghost use Rattle.et_files.specs.Told.{Tells, IsFileRefusal, IsOfBytes, Names, cause_of, is_reading};
+ghost use Rattle.et_files.specs.Loaded.{most_of_class, IsListingOf};
+ghost use Rattle.et_files.specs.Told.{Tells, IsOfBytes, Names, cause_of};
 
 use crate::files::read_file;
 use crate::refusal::Refusal;
@@ -39,19 +37,9 @@ pub fn load_listing<'a, F: Files>(
     path: &'a str,
     files: &mut F,
 ) -> Result<Vec<u8>, Refusal<'a>>
-    ensures tells { (held : Held) → F.agrees files.new (F.asked files.old) held →
-        (class : Result (List ℕ) Fault) → IsListingOf (file_bytes most_of_class (held path.now))
-        class → Tells (Rose (F.faults files.old) (F.faults files.new)) (λ bytes. bytes.items) class
-        result }
-    ensures faults { F.faults files.new ≡ count_after (is_reading result) (F.faults files.old) }
-    ensures asked { (answer : Answer) × Asks (F.asked files.old) (F.asked files.new) path.now
-        most_of_class answer }
-    ensures file { IfErr result (λ refusal. IsFileRefusal (cause_of refusal)) }
-    ensures never_falls { F.faults files.old ≤ F.faults files.new }
-    ensures names { IfErr result (Names path.now) }
+    ensures { Loads F.Files files.old files.new path.now most_of_class IsListingOf
+        (λ read. Tells read (λ bytes. bytes.items)) result }
 {
-    match read_file(alloc, path, MOST_LISTING_BYTES, files) {
-        Ok(text) => listing_in(alloc, path, &text),
-        Err(refusal) => Err(refusal),
-    }
+    let text = read_file(alloc, path, MOST_LISTING_BYTES, files)?;
+    listing_in(alloc, path, &text)
 }

@@ -1,14 +1,14 @@
 //! The program of the classes that a command names, or of a listing.
-ghost use Rattle.std.specs.Prelude.{◌≡◌, ◌≤◌, ◌<◌, None, Ok, Result, All, IfErr, IfSome, length, map, string_bytes};
-ghost use Rattle.et_io.specs.Faults.{Rose, count_after};
+ghost use Rattle.std.specs.Prelude.{◌≡◌, ◌<◌, None, Ok, Result, All, IfErr, length, map, string_bytes};
+ghost use Rattle.et_io.specs.Faults.{Rose};
 ghost use Rattle.et_io.specs.Files.{Held};
 ghost use Rattle.et_class.specs.Classes.{class_of, HasItsParts};
 ghost use Rattle.et_program.specs.Entries.{Linked};
+ghost use Rattle.et_files.specs.Answered.{ReadsEach};
 ghost use Rattle.et_files.specs.Faults.{Fault};
 ghost use Rattle.et_link.specs.Declaring.{HasItsFile};
-ghost use Rattle.et_files.specs.Loaded.{IsLinkedOf, IsListingProgram, IsProgramOfFiles, most_of_class};
-ghost use Rattle.et_files.specs.Reads.{ReadsInOrder, IsReadLast};
-ghost use Rattle.et_files.specs.Told.{Tells, IsFileRefusal, IsOfBytes, Names, cause_of, is_reading, named_path, status_of_result};
+ghost use Rattle.et_files.specs.Loaded.{IsLinkedOf, IsListingProgram, IsProgramOfFiles};
+ghost use Rattle.et_files.specs.Told.{Tells, IsOfBytes, Names, cause_of, named_path};
 
 use crate::classes::{class_in, load_classes, push};
 use crate::listings::listing_in;
@@ -49,18 +49,10 @@ pub fn load_program<'a, F: Files>(
     ensures tells { (held : Held) → F.agrees files.new (F.asked files.old) held →
         (program : Result Linked Fault) → IsProgramOfFiles (map held (map string_bytes paths.now))
         program → Tells (Rose (F.faults files.old) (F.faults files.new)) (λ p. p) program result }
-    ensures faults { F.faults files.new ≡ count_after (is_reading result) (F.faults files.old) }
-    ensures reads { ReadsInOrder (F.agrees files.new (F.asked files.old)) (F.asked files.old)
-        (F.asked files.new) most_of_class (map string_bytes paths.now) (status_of_result result) }
-    ensures file { IfErr result (λ refusal. IsFileRefusal (cause_of refusal)) }
-    ensures never_falls { F.faults files.old ≤ F.faults files.new }
-    ensures names { IfErr result
-        (λ refusal. IfSome (named_path refusal) (IsReadLast (F.asked files.new))) }
+    ensures reads { ReadsEach F.Files files.old files.new (map string_bytes paths.now) result }
 {
-    match load_classes(alloc, paths, files) {
-        Ok(classes) => program(alloc, classes),
-        Err(refusal) => Err(refusal),
-    }
+    let classes = load_classes(alloc, paths, files)?;
+    program(alloc, classes)
 }
 
 /// The program of a listing: its class, linked alone. A refusal names the path.

@@ -1,13 +1,13 @@
 //! The trace of the file that a command names, in either spelling.
-ghost use Rattle.std.specs.Prelude.{◌≡◌, ◌≤◌, ◌<◌, ◌^◌, List, Result, Ok, Some, All, length, IfOk, IfErr};
+ghost use Rattle.std.specs.Prelude.{◌≡◌, ◌<◌, ◌^◌, List, Result, Ok, Some, All, length, IfOk, IfErr};
 ghost use Rattle.et_base.specs.declared.line.TraceLine.{TraceLine};
-ghost use Rattle.et_io.specs.Faults.{Rose, count_after};
-ghost use Rattle.et_io.specs.Files.{Held, Answer};
+ghost use Rattle.et_io.specs.Faults.{Rose};
+ghost use Rattle.et_io.specs.Files.{Held};
 ghost use Rattle.et_text.specs.Ranges.{HasShortNames};
+ghost use Rattle.et_files.specs.Answered.{Loads, ReadsOne};
 ghost use Rattle.et_files.specs.Faults.{Fault};
 ghost use Rattle.et_files.specs.Loaded.{file_bytes, most_of_trace, IsTraceOf, last_event, reaching};
-ghost use Rattle.et_files.specs.Reads.{Asks};
-ghost use Rattle.et_files.specs.Told.{Tells, IsFileRefusal, IsOfBytes, Names, cause_of, is_reading};
+ghost use Rattle.et_files.specs.Told.{Tells, IsOfBytes, Names, cause_of};
 
 use crate::files::read_file;
 use crate::refusal::Refusal;
@@ -50,22 +50,12 @@ fn load_trace<'a, F: Files>(
     path: &'a str,
     files: &mut F,
 ) -> Result<Trace, Refusal<'a>>
-    ensures tells { (held : Held) → F.agrees files.new (F.asked files.old) held →
-        (trace : Result (List TraceLine) Fault) → IsTraceOf
-        (file_bytes most_of_trace (held path.now)) trace → Tells
-        (Rose (F.faults files.old) (F.faults files.new)) (λ lines. lines) trace result }
+    ensures loads { Loads F.Files files.old files.new path.now most_of_trace IsTraceOf
+        (λ read. Tells read (λ lines. lines)) result }
     ensures short { IfOk result (λ trace. All HasShortNames trace) }
-    ensures faults { F.faults files.new ≡ count_after (is_reading result) (F.faults files.old) }
-    ensures asked { (answer : Answer) × Asks (F.asked files.old) (F.asked files.new) path.now
-        most_of_trace answer }
-    ensures file { IfErr result (λ refusal. IsFileRefusal (cause_of refusal)) }
-    ensures never_falls { F.faults files.old ≤ F.faults files.new }
-    ensures names { IfErr result (Names path.now) }
 {
-    match read_file(alloc, path, MOST_TRACE_BYTES, files) {
-        Ok(bytes) => trace_in(alloc, path, &bytes),
-        Err(refusal) => Err(refusal),
-    }
+    let bytes = read_file(alloc, path, MOST_TRACE_BYTES, files)?;
+    trace_in(alloc, path, &bytes)
 }
 
 /// The event of the Z line, which is the last line of a trace; 0 of lines that have none there.
@@ -90,20 +80,11 @@ pub fn load_trace_to<'a, F: Files>(
         (file_bytes most_of_trace (held path.now)) trace → Tells
         (Rose (F.faults files.old) (F.faults files.new)) (λ lines. lines) (reaching event trace)
         result }
-    ensures faults { F.faults files.new ≡ count_after (is_reading result) (F.faults files.old) }
-    ensures asked { (answer : Answer) × Asks (F.asked files.old) (F.asked files.new) path.now
-        most_of_trace answer }
-    ensures file { IfErr result (λ refusal. IsFileRefusal (cause_of refusal)) }
-    ensures names { IfErr result (Names path.now) }
+    ensures read { ReadsOne F.Files files.old files.new path.now most_of_trace result }
 {
-    match load_trace(alloc, path, files) {
-        Ok(trace) => {
-            if event > last_event(trace.lines()) {
-                Err(Refusal::BadEvent(event))
-            } else {
-                Ok(trace)
-            }
-        }
-        Err(refusal) => Err(refusal),
+    let trace = load_trace(alloc, path, files)?;
+    if event > last_event(trace.lines()) {
+        return Err(Refusal::BadEvent(event));
     }
+    Ok(trace)
 }

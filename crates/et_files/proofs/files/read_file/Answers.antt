@@ -11,17 +11,19 @@ returns-in-Ok-clause-tells g c first held le told =
     found_tells _ _ c.args.most (held c.args.path.now) c.in-Ok.found c.bytes_found.result c.bytes_found.ensures.tells
     (c.in-Ok.ensures.found first held le told) c.in-Ok.ensures.within c.in-Ok.ensures.failed
 
-pub returns-in-Ok-clause-asked : goal.returns-in-Ok-clause-asked
-returns-in-Ok-clause-asked g c = (answer_of (Ok c.in-Ok.found), c.in-Ok.ensures.asked, sym (found_reading c.in-Ok.found c.bytes_found.result c.bytes_found.ensures.tells))
+pub returns-in-Ok-clause-read : goal.returns-in-Ok-clause-read
+returns-in-Ok-clause-read g c =
+    let reading = found_reading c.in-Ok.found c.bytes_found.result c.bytes_found.ensures.tells in
+    record {
+      faults = counted_as (is_read_failed (Ok c.in-Ok.found)) (is_reading c.bytes_found.result) _ _ c.in-Ok.ensures.failed reading;
+      asked = (answer_of (Ok c.in-Ok.found), c.in-Ok.ensures.asked, sym reading);
+      file = found_file c.in-Ok.found c.bytes_found.result c.bytes_found.ensures.tells;
+      never_falls = c.in-Ok.ensures.never_falls;
+      names = c.bytes_found.ensures.names;
+    }
 
-pub returns-in-Err-clause-asked : goal.returns-in-Err-clause-asked
-returns-in-Err-clause-asked g c = (OutOfMemory, c.in-Err.ensures.asked, refl)
-
-pub returns-in-Ok-clause-faults : goal.returns-in-Ok-clause-faults
-returns-in-Ok-clause-faults g c = counted_as (is_read_failed (Ok c.in-Ok.found)) (is_reading c.bytes_found.result) _ _ c.in-Ok.ensures.failed (found_reading c.in-Ok.found c.bytes_found.result c.bytes_found.ensures.tells)
-
-pub returns-in-Ok-clause-file : goal.returns-in-Ok-clause-file
-returns-in-Ok-clause-file g c = found_file c.in-Ok.found c.bytes_found.result c.bytes_found.ensures.tells
+pub returns-in-Err-clause-read : goal.returns-in-Err-clause-read
+returns-in-Err-clause-read g c = record { faults = c.in-Err.ensures.failed; asked = (OutOfMemory, c.in-Err.ensures.asked, refl); file = tt; never_falls = c.in-Err.ensures.never_falls; names = tt }
 
 pub returns-in-Ok-clause-early : goal.returns-in-Ok-clause-early
 returns-in-Ok-clause-early g c = found_early c.in-Ok.found c.bytes_found.result c.bytes_found.ensures.tells

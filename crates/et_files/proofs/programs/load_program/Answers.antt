@@ -1,29 +1,25 @@
-use Rattle.std.proofs.Common.{refl, subst}
-use Rattle.et_files.specs.declared.status.Status.TheVariants as status
+use Rattle.std.proofs.Common.{subst}
+use Rattle.std.proofs.lemmas.Result.{err_from_is_err_and}
 use Rattle.et_files.specs.Loaded.{IsLinkedOf}
-use Rattle.et_files.specs.Told.{cause_of, is_reading}
-use Rattle.et_files.proofs.FaultLemmas.{same_count, not_reading}
-use Rattle.et_files.proofs.Found.{tells_more, file_refusal}
+use Rattle.et_files.specs.Told.{cause_of}
+use Rattle.et_files.proofs.Answered.{each_answered, each_refused}
+use Rattle.et_files.proofs.Found.{tells_more}
 use Rattle.et_files.proofs.LinkLemmas.{program_not_read}
-use Rattle.et_files.proofs.ReadLemmas.{reads_whole, names_none}
 use Rattle.et_files.proofs.programs.load_program.Goals as goal
 
-pub returns-in-Ok-clause-tells : goal.returns-in-Ok-clause-tells
-returns-in-Ok-clause-tells g c held told program is =
-    tells_more _ _ program c.program.result (c.program.ensures.tells program (subst (λ classes. IsLinkedOf classes program) (c.in-Ok.ensures.tells held told is.0 is.1) is.2))
+pub returns-clause-tells : goal.returns-clause-tells
+returns-clause-tells g c held told program is =
+    tells_more _ _ program c.program.result (c.program.ensures.tells program (subst (λ classes. IsLinkedOf classes program) (c.in_ok-classes.ensures.tells held told is.0 is.1) is.2))
 
-pub returns-in-Ok-clause-faults : goal.returns-in-Ok-clause-faults
-returns-in-Ok-clause-faults g c = same_count (is_reading c.program.result) _ _ c.in-Ok.ensures.faults (not_reading c.program.result c.program.ensures.bytes)
+pub returns-clause-reads : goal.returns-clause-reads
+returns-clause-reads g c = each_answered g.F.Files _ _ _ c.in_ok-classes.classes c.program.result c.in_ok-classes.ensures.reads c.program.ensures.bytes c.program.ensures.names
 
-pub returns-in-Ok-clause-file : goal.returns-in-Ok-clause-file
-returns-in-Ok-clause-file g c = file_refusal c.program.result c.program.ensures.bytes
+pub returns-in_err-classes-clause-tells : goal.returns-in_err-classes-clause-tells
+returns-in_err-classes-clause-tells g c held told program is =
+    let q = err_from_is_err_and c.from_residual.result c.from_residual.ensures.1 in
+    rw (q.1, q.2) (program_not_read _ is.0 (cause_of c.in_err-classes.field-0.0) program (c.in_err-classes.ensures.tells held told is.0 is.1) is.2)
 
-pub returns-in-Err-clause-tells : goal.returns-in-Err-clause-tells
-returns-in-Err-clause-tells g c held told program is =
-    program_not_read _ is.0 (cause_of c.in-Err.refusal) program (c.in-Err.ensures.tells held told is.0 is.1) is.2
-
-pub returns-in-Ok-clause-reads : goal.returns-in-Ok-clause-reads
-returns-in-Ok-clause-reads g c = reads_whole _ _ _ _ _ status.Done _ refl c.in-Ok.ensures.reads
-
-pub returns-in-Ok-clause-names : goal.returns-in-Ok-clause-names
-returns-in-Ok-clause-names g c = names_none c.program.result _ c.program.ensures.names
+pub returns-in_err-classes-clause-reads : goal.returns-in_err-classes-clause-reads
+returns-in_err-classes-clause-reads g c =
+    let q = err_from_is_err_and c.from_residual.result c.from_residual.ensures.1 in
+    rw (q.1, q.2) (each_refused g.F.Files _ _ _ c.in_err-classes.field-0.0 c.in_err-classes.ensures.reads)

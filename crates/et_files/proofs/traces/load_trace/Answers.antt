@@ -1,28 +1,19 @@
 use Rattle.std.proofs.Common.{Ok, ap, length, subst, sym, arith}
 use Rattle.et_files.specs.Loaded.{IsTraceOf}
-use Rattle.et_files.specs.Told.{cause_of, is_reading}
-use Rattle.et_files.proofs.FaultLemmas.{same_count, not_reading}
-use Rattle.et_files.proofs.Found.{tells_more, trace_not_read, file_refusal}
+use Rattle.et_files.proofs.Answered.{one_answered, loads_refused}
+use Rattle.et_files.proofs.Found.{tells_more, trace_not_read}
 use Rattle.et_files.proofs.traces.load_trace.Goals as goal
 
-pub returns-in-Ok-clause-tells : goal.returns-in-Ok-clause-tells
-returns-in-Ok-clause-tells g c held told found is =
-    tells_more _ _ found c.trace_in.result (c.trace_in.ensures.tells found (subst (λ bytes. IsTraceOf (Ok bytes) found) (sym c.deref.ensures.value) (subst (λ file. IsTraceOf file found) (c.in-Ok.ensures.tells (g.F.Files.asked c.args.files.now) held (omega arith) told) is)))
+pub returns-clause-loads : goal.returns-clause-loads
+returns-clause-loads g c = record {
+  tells = λ held told found is.
+      tells_more _ _ found c.trace_in.result (c.trace_in.ensures.tells found (subst (λ bytes. IsTraceOf (Ok bytes) found) (sym c.deref.ensures.value) (subst (λ file. IsTraceOf file found) (c.in_ok-bytes.ensures.tells (g.F.Files.asked c.args.files.now) held (omega arith) told) is)));
+  read = one_answered g.F.Files _ _ _ _ c.in_ok-bytes.bytes c.trace_in.result c.in_ok-bytes.ensures.read c.trace_in.ensures.bytes c.trace_in.ensures.names;
+}
 
-pub returns-in-Ok-clause-faults : goal.returns-in-Ok-clause-faults
-returns-in-Ok-clause-faults g c = same_count (is_reading c.trace_in.result) _ _ c.in-Ok.ensures.faults (not_reading c.trace_in.result c.trace_in.ensures.bytes)
+pub returns-clause-short : goal.returns-clause-short
+returns-clause-short g c = c.trace_in.ensures.short (let small = c.in_ok-bytes.ensures.within in let same = ap length c.deref.ensures.value in omega (arith, small, same))
 
-pub returns-in-Ok-clause-file : goal.returns-in-Ok-clause-file
-returns-in-Ok-clause-file g c = file_refusal c.trace_in.result c.trace_in.ensures.bytes
-
-pub returns-in-Err-clause-tells : goal.returns-in-Err-clause-tells
-returns-in-Err-clause-tells g c held told found is = trace_not_read _ _ (cause_of c.in-Err.refusal) found (c.in-Err.ensures.tells (g.F.Files.asked c.args.files.now) held (omega arith) told) is
-
-pub returns-in-Ok-clause-short : goal.returns-in-Ok-clause-short
-returns-in-Ok-clause-short g c = c.trace_in.ensures.short (let small = c.in-Ok.ensures.within in let same = ap length c.deref.ensures.value in omega (arith, small, same))
-
-pub returns-in-Ok-clause-asked : goal.returns-in-Ok-clause-asked
-returns-in-Ok-clause-asked g c = (c.in-Ok.ensures.asked.0, c.in-Ok.ensures.asked.1)
-
-pub returns-in-Err-clause-asked : goal.returns-in-Err-clause-asked
-returns-in-Err-clause-asked g c = (c.in-Err.ensures.asked.0, c.in-Err.ensures.asked.1)
+pub returns-in_err-bytes-clause-loads : goal.returns-in_err-bytes-clause-loads
+returns-in_err-bytes-clause-loads g c =
+    loads_refused g.F.Files _ _ _ _ _ _ (λ read found r h. h) trace_not_read c.in_err-bytes.field-0.0 c.from_residual.result c.from_residual.ensures.1 c.in_err-bytes.ensures.read (λ held told. c.in_err-bytes.ensures.tells (g.F.Files.asked c.args.files.now) held (omega arith) told)
