@@ -3,7 +3,6 @@ use Rattle.std.proofs.Common.{◌≡◌, ◌≤◌, ◌+◌, ◌++◌, ℕ, Bool
 use Rattle.et_base.specs.declared.format.Format.TheVariants.{Text}
 use Rattle.et_base.specs.declared.line.TraceLine.{TraceLine}
 use Rattle.et_base.specs.declared.value.End.{End}
-use Rattle.et_base.specs.declared.value.End.TheVariants as ends
 use Rattle.et_graph.specs.Graph.{Graph}
 use Rattle.et_io.specs.Sink.{Mark, Taken, Log, taken_bytes, with_more, TakesPrefix}
 use Rattle.et_io.proofs.Taking.{bytes_of_taken}
@@ -21,6 +20,7 @@ use Rattle.et_loop.specs.Visits.{allowed_visits, IsCut}
 use Rattle.et_run.specs.Start.{start_records}
 use Rattle.et_run.specs.Whole.{whole_setting, whole_start, whole_visits_of}
 use Rattle.et_top.specs.Bench.{bench_options, bench_trace, IsBenchRun, IsReadBack, IsNotReadBack}
+use Rattle.et_top.proofs.RunLemmas.{of_end, of_fault}
 use Rattle.et_bench.specs.Totals.{summary_text}
 use Rattle.et_files.specs.Faults.{Fault}
 use Rattle.et_files.specs.Refusals.{status_of}
@@ -69,18 +69,11 @@ module _ (reached : Graph → ℕ → Bool) (program : Linked) (old new : ℕ) (
 
 module _ (reached : Graph → ℕ → Bool) (before after : Log) (old new : ℕ) (written : Type 0) (program : Linked) where
   module _ (event : ℕ) (end : End) (lines : List TraceLine) (back : IsReadBack reached program old new event end lines) (bytes : List ℕ) (is : bytes ≡ summary_text reached lines) where
-    wrote : (how : End) → end ≡ how → after ≡ with_more before bytes → WritesSummary reached before after old new program (status_of_end how)
-    wrote how e took = record { event = event; end = end; lines = lines; back = back; ended = ap status_of_end (sym e); wrote = took ∙ ap (with_more before) is }
-
-    by_end : (how : End) → end ≡ how → after ≡ with_more before bytes → GivesBench reached before after old new written program (status_of_end how)
-    by_end ends.Finished e took = wrote ends.Finished e took
-    by_end ends.EventLimit e took = wrote ends.EventLimit e took
-    by_end (ends.IllTyped t m p) e took = wrote (ends.IllTyped t m p) e took
-    by_end ends.ObjectLimit e took = wrote ends.ObjectLimit e took
-
     -- the summary was written whole
     pub summary_gives : (answer : Status) → answer ≡ status_of_end end → after ≡ with_more before bytes → GivesBench reached before after old new written program answer
-    summary_gives answer ended took = subst (GivesBench reached before after old new written program) (sym ended) (by_end end refl took)
+    summary_gives answer ended took =
+        let h : WritesSummary reached before after old new program (status_of_end end) = record { event = event; end = end; lines = lines; back = back; ended = refl; wrote = took ∙ ap (with_more before) is } in
+        subst (GivesBench reached before after old new written program) (sym ended) (of_end (λ s. WritesSummary reached before after old new program s → GivesBench reached before after old new written program s) (λ h. h) (λ h. h) (λ h. h) end h)
 
     cut : TakesPrefix before after bytes → CutsSummary reached before after old new program
     cut prefix = record { event = event; end = end; lines = lines; back = back; wrote = subst (TakesPrefix before after) is prefix }
@@ -109,11 +102,7 @@ bench_more reached before after old new read written (Err fault) answer (same, i
 -- A RUN WAS BEGUN
 
 pub end_of_bench : (end : End) → IsBeforeBench (status_of_end end) → ⊥
-end_of_bench ends.Finished early = early
-end_of_bench ends.EventLimit early = early
-end_of_bench (ends.IllTyped thread method pc) early = early
-end_of_bench ends.ObjectLimit early = early
+end_of_bench = of_end (λ s. IsBeforeBench s → ⊥) (λ early. early) (λ early. early) (λ early. early)
 
 pub fault_of_bench : (fault : RunFault) → IsBeforeBench (status_of (refusal_of fault)) → ⊥
-fault_of_bench write.Write early = early
-fault_of_bench write.NoMemory early = early
+fault_of_bench = of_fault (λ s. IsBeforeBench s → ⊥) (λ early. early) (λ early. early)

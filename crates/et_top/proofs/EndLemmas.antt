@@ -1,6 +1,17 @@
 -- What a process gives once its output is handed on, or isn't.
 use Rattle.std.proofs.Common.{◌≡◌, ℕ, ◌+◌, ◌≤◌, ◌∙◌, arith, Bool, true, false, List, [], append-nil, Result, Ok, Err, inl, inr, refl, sym, ap, subst}
-use Rattle.std.specs.Prelude.{IfOk}
+use Rattle.std.specs.Prelude.{◌⊎◌, None}
+use Rattle.std.specs.declared.vec.Vec.{Vec}
+use Rattle.std.specs.declared.string.String.{String}
+use Rattle.std.specs.declared.alloc.Global.{Global}
+use Rattle.et_io.specs.declared.files.Files as reading
+use Rattle.et_io.specs.declared.sink.Sink as writing
+use Rattle.et_command.specs.Command.{command}
+use Rattle.et_files.specs.Reads.{ReadsInOrder, is_early}
+use Rattle.et_files.proofs.ReadLemmas.{none_read, reads_whole}
+use Rattle.et_top.proofs.TopLemmas.{memory_gives, still}
+use Rattle.et_top.specs.declared.process.WordsFault.{WordsFault}
+use Rattle.et_top.specs.declared.process.WordsFault.TheVariants as words
 use Rattle.et_graph.specs.Graph.{Graph}
 use Rattle.et_run.proofs.OneTrace.{whole_trace, whole_said_front}
 use Rattle.et_io.specs.Faults.{Rose, count_after}
@@ -15,13 +26,13 @@ use Rattle.et_state.specs.declared.options.Options.{Options}
 use Rattle.et_program.specs.Entries.{Linked}
 use Rattle.et_bench.specs.Totals.{summary_text}
 use Rattle.et_files.specs.Faults.{Fault, Absent, TooLong, BadClass, BadText, BadTrace, LinkFault, BadEvent, status_of_fault}
-use Rattle.et_top.specs.Process.{EndsAs}
-use Rattle.et_files.specs.Status.{is_whole, is_write_status}
+use Rattle.et_top.specs.Process.{AnswersProcess, AnswersWords, EndsAs, status_of_words}
+use Rattle.et_files.specs.Status.{is_whole, is_read_status, is_write_status}
 use Rattle.et_top.specs.Top.{Defined, Usage, Refused, Writes, Verifies, Traces, Prints, Benches, WritesSummary, CutsSummary, PrintsCut, verified_text, GivesDefined}
 use Rattle.et_verify.specs.Verdicts.{verified_count}
 use Rattle.et_files.specs.declared.status.Status.{Status}
 use Rattle.et_files.specs.declared.status.Status.TheVariants as status
-use Rattle.et_files.proofs.FaultLemmas.{rose_one}
+use Rattle.et_files.proofs.FaultLemmas.{counted_as, rose_one}
 
 -- what holds of the three statuses of a whole output holds of each
 of_whole : (P : Status → Type 0) → P status.Done → P status.IllTyped → P status.ObjectLimit → (s : Status) → is_whole s ≡ true → P s
@@ -53,6 +64,11 @@ never_whole (BadEvent event) e = absurd (cc e)
 
 least : (n : ℕ) → 0 ≤ 0 + n
 least n = omega arith
+
+-- nor are words that are not there
+of_words : (fault : WordsFault) → is_whole (status_of_words fault) ≡ false
+of_words words.NotUtf8 = refl
+of_words words.NoMemory = refl
 
 module _ (reached : Graph → ℕ → Bool) (before after : Log) (old new : ℕ) (read written later : Type 0) where
   cut_summary : (program : Linked) (answer : Status) → WritesSummary reached before after old new program answer → CutsSummary reached before after 0 0 program
@@ -121,6 +137,81 @@ ends_gives reached before after visits read d came end old mid new was (inl (sam
 ends_gives reached before after visits read d came end old mid new was (inr (whole, failed, more)) h =
     (0, subst (GivesDefined reached before after 0 0 read (Rose old new) d) (sym failed) (cut_gives reached before after 0 visits read (Rose old mid) (Rose old new) d came whole (failed_rose came old mid new whole was more) h))
 
-pub ok_more : {A E : Type 0} {P Q : A → Type 0} (r : Result A E) → ((a : A) → P a → Q a) → IfOk r P → IfOk r Q
-ok_more (Ok a) f h = f a h
-ok_more (Err e) f h = tt
+-- WHAT A PROCESS ANSWERS where its output is handed on behind the answer of its words
+
+module _ {X Y : Type 0} (F : reading.Ghosts X) (O : writing.Ghosts Y) (files files' : X) (out mid out' : Y) (came end : Status) (ends : EndsAs came end (O.faults mid) (O.faults out')) where
+  -- what holds of the status that it came to, and of a fault of a whole output, holds of that with which it ends
+  ended : (P : Status → Type 0) → P came → (is_whole came ≡ true → P status.WriteFault) → P end
+  ended P h failed = by ends
+    where
+      by : EndsAs came end (O.faults mid) (O.faults out') → P end
+      by (inl same) = subst P (sym same.0) h
+      by (inr fault) = subst P (sym fault.1) (failed fault.0)
+
+  -- a status that is not of a whole output is that with which it ends
+  not_whole : (s : Status) → is_whole s ≡ false → came ≡ s → end ≡ s
+  not_whole s none is = ended (λ e. e ≡ s) is (λ whole. absurd (cc (whole, none, is)))
+
+  counted_writes : O.faults mid ≡ count_after (is_write_status came) (O.faults out) → O.faults out' ≡ count_after (is_write_status end) (O.faults out)
+  counted_writes is = by ends
+    where
+      by : EndsAs came end (O.faults mid) (O.faults out') → O.faults out' ≡ count_after (is_write_status end) (O.faults out)
+      by (inl same) = counted_as (is_write_status came) (is_write_status end) _ _ (same.1 ∙ is) (ap is_write_status same.0)
+      by (inr fault) =
+          let kept = of_whole (λ s. is_write_status s ≡ false) refl refl refl came fault.0 in
+          counted_as true (is_write_status end) _ _ (fault.2 ∙ ap (count_after true) (is ∙ ap (λ b. count_after b (O.faults out)) kept)) (ap is_write_status fault.1)
+
+  words_end : (taken : O.taken out' ≡ O.taken mid) (line : List (List ℕ)) → O.faults mid ≡ count_after (is_write_status came) (O.faults out) → AnswersWords F O files files' out mid line came → AnswersWords F O files files' out out' line end
+  words_end taken line writes h = record {
+    answers = λ held told d defined reached decides.
+        let given = h.answers held told d defined reached decides in
+        rw taken (ends_gives reached _ _ given.0 _ d _ _ _ _ _ writes ends given.1);
+    usage = ended (λ s. s ≡ status.Usage → command line ≡ None) h.usage (λ whole e. absurd (cc e));
+    no_command = λ none. ended (λ s. (s ≡ status.Usage) ⊎ (s ≡ status.NoMemory)) (h.no_command none) (λ whole. absurd (elim (h.no_command none) [ inl e ↦ cc (whole, e) | inr e ↦ cc (whole, e) ]));
+    reads = ended (ReadsInOrder _ _ _ _ _) h.reads (λ whole. reads_whole _ _ _ _ _ came status.WriteFault (of_whole (λ s. is_early s ≡ false) refl refl refl came whole) h.reads);
+  }
+
+  pub process_ends : (given : Result (Vec (String Global) Global) WordsFault) → O.taken out' ≡ O.taken mid → (is_whole came ≡ false → out' ≡ mid) → AnswersProcess F O files files' out mid given came → AnswersProcess F O files files' out out' given end
+  process_ends (Ok some) taken kept h = record {
+    words = words_end taken _ h.write_fault h.words;
+    read_fault = ended (λ s. F.faults files' ≡ count_after (is_read_status s) (F.faults files)) h.read_fault (λ whole. counted_as (is_read_status came) false _ _ h.read_fault (sym (of_whole (λ s. is_read_status s ≡ false) refl refl refl came whole)));
+    write_fault = counted_writes h.write_fault;
+    no_words = tt;
+    no_file = tt;
+    nothing = tt;
+  }
+  process_ends (Err fault) taken kept h =
+      let none = of_words fault in
+      let same = not_whole (status_of_words fault) none h.no_words in
+      record {
+        words = tt;
+        read_fault = ended (λ s. F.faults files' ≡ count_after (is_read_status s) (F.faults files)) h.read_fault (λ whole. absurd (cc (whole, none, h.no_words)));
+        write_fault = counted_writes h.write_fault;
+        no_words = same;
+        no_file = h.no_file;
+        nothing = kept (ap is_whole h.no_words ∙ none) ∙ h.nothing;
+      }
+
+-- WHERE NOTHING WAS DONE
+
+module _ {X Y : Type 0} (F : reading.Ghosts X) (O : writing.Ghosts Y) (files : X) (out : Y) where
+  -- there were no words
+  pub without_words : (fault : WordsFault) → AnswersProcess F O files files out out (Err fault) (status_of_words fault)
+  without_words words.NotUtf8 = record { words = tt; read_fault = refl; write_fault = refl; no_words = refl; no_file = refl; nothing = refl }
+  without_words words.NoMemory = record { words = tt; read_fault = refl; write_fault = refl; no_words = refl; no_file = refl; nothing = refl }
+
+  -- memory ran out before the top call
+  pub without_memory : (some : Vec (String Global) Global) → AnswersProcess F O files files out out (Ok some) status.NoMemory
+  without_memory some = record {
+    words = record {
+      answers = λ held told d defined reached decides. (0, memory_gives reached (O.taken out) 0 0 _ _ d (still 0 d));
+      usage = λ e. absurd (cc e);
+      no_command = λ none. inr refl;
+      reads = none_read _ _ _ _ status.NoMemory (λ late. absurd (cc late));
+    };
+    read_fault = refl;
+    write_fault = refl;
+    no_words = tt;
+    no_file = tt;
+    nothing = tt;
+  }

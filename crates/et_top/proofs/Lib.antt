@@ -1,7 +1,7 @@
 mod FaultLemmas
 mod ModelLemmas
 mod TopLemmas
-mod PrintLemmas
+mod RunLemmas
 mod KindLemmas
 mod VisitLemmas
 mod EndLemmas
@@ -9,3 +9,4 @@ mod BenchHistory
 mod ConvertLemmas
 mod OneThing
 mod BehindLemmas
+mod AnswerLemmas

@@ -1,27 +1,18 @@
 -- Lemmas on the top call's parts.
-use Rattle.std.proofs.Common.{◌≡◌, ℕ, ◌+◌, ◌≤◌, inl, inr, Bool, List, [], false, Option, Some, Result, Ok, Err, refl, sym, ◌∙◌, ap, subst}
+use Rattle.std.proofs.Common.{◌≡◌, ℕ, inl, inr, Bool, List, [], false, Option, Result, Ok, Err, refl, sym, ◌∙◌, ap, subst}
 use Rattle.std.specs.Prelude.{OnErr, OnOk}
-use Rattle.et_base.specs.declared.value.End.{End}
-use Rattle.et_base.specs.declared.value.End.TheVariants as ends
 use Rattle.et_graph.specs.Graph.{Graph}
 use Rattle.et_io.specs.Sink.{Log, TakesPrefix, with_more}
 use Rattle.et_io.proofs.Taking.{none_put}
 use Rattle.et_io.specs.declared.putting.RunFault.{RunFault}
 use Rattle.et_io.specs.declared.putting.RunFault.TheVariants as write
 use Rattle.et_state.specs.declared.options.Options.{Options}
-use Rattle.et_loop.specs.declared.options.Ran.{Ran}
-use Rattle.et_loop.specs.Traced.{WritesTrace, WritesPrefix}
 use Rattle.et_program.specs.Entries.{Linked}
-use Rattle.et_run.specs.Start.{start_records}
-use Rattle.et_run.specs.Whole.{whole_setting, whole_start, whole_visits_of}
-use Rattle.et_loop.specs.Visits.{allowed_visits, IsCut}
 use Rattle.et_files.specs.Faults.{Fault, Absent, TooLong, BadClass, BadText, BadTrace, LinkFault, BadEvent, status_of_fault}
 use Rattle.et_io.specs.Files.{Held}
 use Rattle.et_command.specs.Command.{Asked}
-use Rattle.et_command.specs.Asked.{asked_by}
-use Rattle.et_command.specs.declared.command.Command.{Command}
 use Rattle.et_replay.specs.declared.model.Kind.{Kind}
-use Rattle.et_top.specs.Top.{IsAskedDefined, Defined, Usage, Refused, Writes, Verifies, Traces, Prints, defined_text, verifies, traces, prints, Benches, benches, status_of_end, WritesHistory, GivesDefined, verified_text}
+use Rattle.et_top.specs.Top.{IsAskedDefined, Defined, Usage, Refused, Writes, Verifies, Traces, Prints, defined_text, verifies, Benches, benches, GivesDefined, verified_text}
 use Rattle.et_files.specs.declared.status.Status.{Status}
 use Rattle.et_files.specs.declared.status.Status.TheVariants as status
 use Rattle.et_files.specs.declared.refusal.Refusal.{Refusal}
@@ -33,68 +24,11 @@ use Rattle.et_verify.specs.Verdicts.{Verifies as Verdict}
 use Rattle.et_verify.specs.declared.verdict.VerifyFault.{VerifyFault}
 use Rattle.et_verify.specs.declared.verdict.VerifyFault.TheVariants as verdict
 use Rattle.et_files.specs.Status.{is_read_status, is_write_status}
-use Rattle.et_top.specs.Told.{TellsVerdict, refusal_of, status_of_writing}
+use Rattle.et_top.specs.Runs.{defines}
+use Rattle.et_top.specs.declared.programs.Output.{Output}
+use Rattle.et_top.specs.declared.programs.Output.TheVariants as output
+use Rattle.et_top.specs.Told.{TellsVerdict, status_of_writing}
 use Rattle.et_files.specs.Told.{Cause, File, Reading, Other, IsCause, cause_of}
-
--- A HISTORY THAT WAS RUN
-
-module _ (reached : Graph → ℕ → Bool) (before after : Log) (old new : ℕ) (read written : Type 0) (program : Linked) (options : Options) where
-  -- the counter allows for the visits of a history that ended so
-  abbrev Counts : Ran → Type 0
-  Counts ran = new ≤ old + allowed_visits reached (whole_setting program options) whole_visits_of (whole_start program) (start_records program) ran.event
-
-  history : (ran : Ran) (end : End) (answer : Status) → ran.end ≡ end → answer ≡ status_of_end end → WritesTrace reached (whole_setting program options) (whole_start program) (start_records program) ran before after → Counts ran → WritesHistory reached before after old new program options (status_of_end end)
-  history ran end answer e is w v = record { ran = ran; ended = ap status_of_end (sym e); wrote = w; visits = v }
-
-  pub history_gives : (ran : Ran) (answer : Status) → answer ≡ status_of_end ran.end → WritesTrace reached (whole_setting program options) (whole_start program) (start_records program) ran before after → Counts ran → GivesDefined reached before after old new read written (Traces program options) answer
-  history_gives ran answer is w v = subst (GivesDefined reached before after old new read written (Traces program options)) (sym is) (by ran.end refl)
-    where
-      by : (end : End) → ran.end ≡ end → GivesDefined reached before after old new read written (Traces program options) (status_of_end end)
-      by ends.Finished e = history ran ends.Finished status.Done e refl w v
-      by ends.EventLimit e = history ran ends.EventLimit status.Done e refl w v
-      by (ends.IllTyped t m p) e = history ran (ends.IllTyped t m p) status.IllTyped e refl w v
-      by ends.ObjectLimit e = history ran ends.ObjectLimit status.ObjectLimit e refl w v
-
-  -- a history that was not run to its end left a prefix of its trace
-  pub front_gives : (fault : RunFault) (answer : Status) → answer ≡ status_of (refusal_of fault) → WritesPrefix reached (whole_setting program options) (whole_start program) (start_records program) before after → IsCut reached (whole_setting program options) whole_visits_of (whole_start program) (start_records program) before after old new → ((fault ≡ write.Write) → written) → GivesDefined reached before after old new read written (Traces program options) answer
-  front_gives write.Write answer is front cut rose = subst (GivesDefined reached before after old new read written (Traces program options)) (sym is) (rose refl, record { wrote = front; visits = cut })
-  front_gives write.NoMemory answer is front cut rose = subst (GivesDefined reached before after old new read written (Traces program options)) (sym is) (record { wrote = front; visits = cut })
-
-  -- what is given where no read can fail is given where one can
-  pub history_more : (answer : Status) → GivesDefined reached before after old new ⊥ written (Traces program options) answer → GivesDefined reached before after old new read written (Traces program options) answer
-  history_more status.Done h = h
-  history_more status.IllTyped h = h
-  history_more status.ObjectLimit h = h
-  history_more status.WriteFault h = h
-  history_more status.NoMemory h = h
-  history_more status.ReadFault h = absurd h.0
-  history_more status.Usage h = absurd h
-  history_more status.Absent h = absurd h
-  history_more status.TooLong h = absurd h
-  history_more status.BadClass h = absurd h
-  history_more status.BadText h = absurd h
-  history_more status.BadTrace h = absurd h
-  history_more status.LinkFault h = absurd h
-  history_more status.Rejected h = absurd h
-  history_more status.BadEvent h = absurd h
-
--- .. and so of a verdict
-pub verdict_more : (reached : Graph → ℕ → Bool) (before after : Log) (old new : ℕ) (read written : Type 0) (program : Linked) (answer : Status) → GivesDefined reached before after old new ⊥ written (Verifies program) answer → GivesDefined reached before after old new read written (Verifies program) answer
-verdict_more reached before after old new read written program status.Done h = h
-verdict_more reached before after old new read written program status.Rejected h = h
-verdict_more reached before after old new read written program status.WriteFault h = h
-verdict_more reached before after old new read written program status.NoMemory h = h
-verdict_more reached before after old new read written program status.ReadFault h = absurd h.0
-verdict_more reached before after old new read written program status.IllTyped h = absurd h
-verdict_more reached before after old new read written program status.ObjectLimit h = absurd h
-verdict_more reached before after old new read written program status.Usage h = absurd h
-verdict_more reached before after old new read written program status.Absent h = absurd h
-verdict_more reached before after old new read written program status.TooLong h = absurd h
-verdict_more reached before after old new read written program status.BadClass h = absurd h
-verdict_more reached before after old new read written program status.BadText h = absurd h
-verdict_more reached before after old new read written program status.BadTrace h = absurd h
-verdict_more reached before after old new read written program status.LinkFault h = absurd h
-verdict_more reached before after old new read written program status.BadEvent h = absurd h
 
 -- A LINE THAT WAS WRITTEN of a program that is verified
 pub verified_gives : (reached : Graph → ℕ → Bool) (before after : Log) (old new : ℕ) (read written : Type 0) (p : Linked) (wrote : Result (Unit {0}) RunFault)
@@ -236,30 +170,27 @@ module _ (reached : Graph → ℕ → Bool) (taken : Log) (old new : ℕ) (read 
   writes_still text (Err fault) = tt
   writes_still text (Ok a) = tt
 
-  traces_still : (options : Options) (found : Result Linked Fault) → new ≡ old → IsStill old new (traces options found)
-  traces_still options (Err fault) none = tt
-  traces_still options (Ok program) none = none
+  runs_still : (o : Output) (options : Options) (found : Result Linked Fault) → new ≡ old → IsStill old new (defines o options found)
+  runs_still output.Trace options (Err fault) none = tt
+  runs_still output.Trace options (Ok program) none = none
+  runs_still output.Prints options (Err fault) none = tt
+  runs_still output.Prints options (Ok program) none = none
 
-  traces_loaded : (options : Options) (found : Result Linked Fault) → IsLoaded read (traces options found)
-  traces_loaded options (Err fault) = tt
-  traces_loaded options (Ok program) = tt
+  runs_loaded : (o : Output) (options : Options) (found : Result Linked Fault) → IsLoaded read (defines o options found)
+  runs_loaded output.Trace options (Err fault) = tt
+  runs_loaded output.Trace options (Ok program) = tt
+  runs_loaded output.Prints options (Err fault) = tt
+  runs_loaded output.Prints options (Ok program) = tt
+
+  runs_refuse : (o : Output) (options : Options) (fault : Fault) → defines o options (Err fault) ≡ Refused fault
+  runs_refuse output.Trace options fault = refl
+  runs_refuse output.Prints options fault = refl
 
   pub refused_text : {A : Type 0} (text : (Graph → ℕ → Bool) → A → List ℕ) (found : Result A Fault) (r : Refusal) (d : Defined) (answer : Status) → d ≡ defined_text text found → IsCause read found (cause_of r) → answer ≡ status_of r → GivesDefined reached taken taken old new read written d answer
   refused_text text found r d answer e is how = refused_by (defined_text text) found r d answer (λ fault. refl) (writes_loaded text found) (writes_still text found) e is how
 
-  pub refused_trace : (options : Options) (found : Result Linked Fault) (r : Refusal) (d : Defined) (answer : Status) → d ≡ traces options found → IsCause read found (cause_of r) → answer ≡ status_of r → new ≡ old → GivesDefined reached taken taken old new read written d answer
-  refused_trace options found r d answer e is how none = refused_by (traces options) found r d answer (λ fault. refl) (traces_loaded options found) (traces_still options found none) e is how
-
-  prints_still : (options : Options) (found : Result Linked Fault) → new ≡ old → IsStill old new (prints options found)
-  prints_still options (Err fault) none = tt
-  prints_still options (Ok program) none = none
-
-  prints_loaded : (options : Options) (found : Result Linked Fault) → IsLoaded read (prints options found)
-  prints_loaded options (Err fault) = tt
-  prints_loaded options (Ok program) = tt
-
-  pub refused_print : (options : Options) (found : Result Linked Fault) (r : Refusal) (d : Defined) (answer : Status) → d ≡ prints options found → IsCause read found (cause_of r) → answer ≡ status_of r → new ≡ old → GivesDefined reached taken taken old new read written d answer
-  refused_print options found r d answer e is how none = refused_by (prints options) found r d answer (λ fault. refl) (prints_loaded options found) (prints_still options found none) e is how
+  pub refused_run : (o : Output) (options : Options) (found : Result Linked Fault) (r : Refusal) (answer : Status) → IsCause read found (cause_of r) → answer ≡ status_of r → new ≡ old → GivesDefined reached taken taken old new read written (defines o options found) answer
+  refused_run o options found r answer is how none = refused_by (defines o options) found r (defines o options found) answer (runs_refuse o options) (runs_loaded o options found) (runs_still o options found none) refl is how
 
   verifies_loaded : (found : Result Linked Fault) → IsLoaded read (verifies found)
   verifies_loaded (Err fault) = tt
@@ -289,7 +220,3 @@ module _ (reached : Graph → ℕ → Bool) (taken : Log) (old new : ℕ) (read 
 -- the command that was read is what the words ask for
 pub by_command : (kinds : List Kind) (held : Held) (d : Defined) (b a : Option Asked) → b ≡ a → IsAskedDefined kinds a held d → IsAskedDefined kinds b held d
 by_command kinds held d b a e defined = subst (λ (x : Option Asked). IsAskedDefined kinds x held d) (sym e) defined
-
--- .. in an arm
-pub by_arm : (kinds : List Kind) (held : Held) (d : Defined) (x y : Command) → x ≡ y → IsAskedDefined kinds (Some (asked_by x)) held d → IsAskedDefined kinds (Some (asked_by y)) held d
-by_arm kinds held d x y e defined = subst (λ (z : Command). IsAskedDefined kinds (Some (asked_by z)) held d) e defined

@@ -1,5 +1,5 @@
 -- THE RUN OF A BENCH: its program is run into memory, and the trace is read back.
-use Rattle.std.specs.Prelude.{ℕ, ◌+◌, ◌≤◌, ◌⊎◌, Bool, List, [], Some}
+use Rattle.std.specs.Prelude.{ℕ, ◌+◌, ◌^◌, ◌<◌, ◌≤◌, ◌⊎◌, Bool, List, [], Some}
 use Rattle.et_base.specs.declared.format.Format.TheVariants.{Text}
 use Rattle.et_base.specs.declared.line.TraceLine.{TraceLine}
 use Rattle.et_base.specs.declared.value.End.{End}
@@ -16,6 +16,12 @@ use Rattle.et_state.specs.declared.options.Schedule.TheVariants.{Quantum}
 use Rattle.et_run.specs.Start.{start_records}
 use Rattle.et_run.specs.Whole.{whole_setting, whole_start, whole_visits_of}
 use Rattle.et_loop.specs.Visits.{allowed_visits, IsCut}
+
+-- the numbers of a bench: those from which its choices are made, of its cells and of its rounds
+pub record AreBenchNumbers (number cells rounds : ℕ) : Type 0 where
+  pub choices : number < 2 ^ 63
+  pub size : (1 ≤ cells) × (cells ≤ 50000)
+  pub turns : rounds ≤ 40000
 
 abbrev pub bench_options : Options
 bench_options = record { interval = 100000; limit = 1000000000; schedule = Quantum 100; format = Text }

@@ -4,3 +4,5 @@ pub mod Told
 pub mod Paths
 pub mod Process
 pub mod Visits
+pub mod Answers
+pub mod Runs

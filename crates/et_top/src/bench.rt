@@ -1,5 +1,5 @@
 //! The command `bench`: the program of a listing is run, and what its trace comes to is written.
-ghost use Rattle.std.specs.Prelude.{◌≡◌, ◌≤◌, ◌<◌, ◌^◌, ℕ, Bool, false, List, Result, IfOk, IfErr, string_bytes};
+ghost use Rattle.std.specs.Prelude.{◌≡◌, ℕ, Bool, false, List, Result, IfOk, IfErr, string_bytes};
 ghost use Rattle.et_base.specs.declared.line.TraceLine.{TraceLine};
 ghost use Rattle.et_io.specs.Faults.{Rose, count_after};
 ghost use Rattle.et_graph.specs.Graph.{Graph, Decides};
@@ -7,12 +7,13 @@ ghost use Rattle.et_program.specs.Entries.{Linked};
 ghost use Rattle.et_bench.specs.Listing.{bench_listing};
 ghost use Rattle.et_bench.specs.Totals.{summary_text};
 ghost use Rattle.et_files.specs.Loaded.{IsListingProgram};
-ghost use Rattle.et_top.specs.Bench.{IsReadBack, IsNotReadBack};
 ghost use Rattle.et_files.specs.Faults.{Fault};
 ghost use Rattle.et_files.specs.Status.{is_read_status, is_write_status};
 ghost use Rattle.et_files.specs.Told.{Tells, IsOfBytes, cause_of};
-ghost use Rattle.et_top.specs.Top.{benches, GivesBench, GivesDefined};
-ghost use Rattle.et_top.specs.Visits.{IsBeforeBench, IsNoTrace};
+ghost use Rattle.et_top.specs.Answers.{AnswersBench};
+ghost use Rattle.et_top.specs.Bench.{AreBenchNumbers, IsReadBack, IsNotReadBack};
+ghost use Rattle.et_top.specs.Top.{GivesBench};
+ghost use Rattle.et_top.specs.Visits.{IsBeforeBench};
 
 use crate::answers::answer_fault;
 use crate::discard::Discard;
@@ -44,9 +45,7 @@ fn program_of_bench<'a>(
     cells: u32,
     rounds: u32,
 ) -> Result<Program, Refusal<'a>>
-    requires number { number < 2 ^ 63 }
-    requires cells { (1 ≤ cells) × (cells ≤ 50000) }
-    requires rounds { rounds ≤ 40000 }
+    requires { AreBenchNumbers number cells rounds }
     ensures tells { (p : Result Linked Fault) →
         IsListingProgram (bench_listing number cells rounds) p →
         Tells ⊥ (λ program. program) p result }
@@ -141,7 +140,6 @@ fn put_summary<O: Sink, E: Sink>(
     ensures write_fault { O.faults out.new
         ≡ count_after (is_write_status result) (O.faults out.old) }
     ensures no_read { is_read_status result ≡ false }
-    ensures usage { result ≡ Status.Usage → ⊥ }
     ensures of_run { IsBeforeBench result → ⊥ }
 {
     match put_all(out, summary.text.as_bytes()) {
@@ -164,7 +162,6 @@ fn sum_up<O: Sink, E: Sink, L: Ledger>(
     ensures write_fault { O.faults out.new
         ≡ count_after (is_write_status result) (O.faults out.old) }
     ensures no_read { is_read_status result ≡ false }
-    ensures usage { result ≡ Status.Usage → ⊥ }
     ensures of_run { IsBeforeBench result → ⊥ }
 {
     match summary_of(alloc, program, visits) {
@@ -187,22 +184,8 @@ pub fn bench<O: Sink, E: Sink, L: Ledger>(
     err: &mut E,
     visits: &mut Steps<L>,
 ) -> Status
-    requires number { number < 2 ^ 63 }
-    requires cells { (1 ≤ cells) × (cells ≤ 50000) }
-    requires rounds { rounds ≤ 40000 }
-    ensures gives { (p : Result Linked Fault) →
-        IsListingProgram (bench_listing number cells rounds) p →
-        (reached : Graph → ℕ → Bool) → Decides reached → GivesDefined reached (O.taken out.old)
-        (O.taken out.new) visits.old visits.new ⊥ (Rose (O.faults out.old) (O.faults out.new))
-        (benches p) result }
-    ensures write_fault { O.faults out.new
-        ≡ count_after (is_write_status result) (O.faults out.old) }
-    ensures no_read { is_read_status result ≡ false }
-    ensures usage { result ≡ Status.Usage → ⊥ }
-    ensures no_visits { IsBeforeBench result → visits.new ≡ visits.old }
-    ensures no_trace { (p : Result Linked Fault) →
-        IsListingProgram (bench_listing number cells rounds) p →
-        IsNoTrace (benches p) → visits.new ≡ visits.old }
+    requires { AreBenchNumbers number cells rounds }
+    ensures { AnswersBench O.Sink out.old out.new visits.old visits.new number cells rounds result }
 {
     match program_of_bench(alloc, number, cells, rounds) {
         Ok(program) => sum_up(alloc, &program, out, err, visits),
@@ -225,22 +208,8 @@ pub fn bench_run<O: Sink, L: Ledger>(
     out: &mut O,
     visits: &mut Steps<L>,
 ) -> Status
-    requires number { number < 2 ^ 63 }
-    requires cells { (1 ≤ cells) × (cells ≤ 50000) }
-    requires rounds { rounds ≤ 40000 }
-    ensures gives { (p : Result Linked Fault) →
-        IsListingProgram (bench_listing number cells rounds) p →
-        (reached : Graph → ℕ → Bool) → Decides reached → GivesDefined reached (O.taken out.old)
-        (O.taken out.new) visits.old visits.new ⊥ (Rose (O.faults out.old) (O.faults out.new))
-        (benches p) result }
-    ensures write_fault { O.faults out.new
-        ≡ count_after (is_write_status result) (O.faults out.old) }
-    ensures no_read { is_read_status result ≡ false }
-    ensures usage { result ≡ Status.Usage → ⊥ }
-    ensures no_visits { IsBeforeBench result → visits.new ≡ visits.old }
-    ensures no_trace { (p : Result Linked Fault) →
-        IsListingProgram (bench_listing number cells rounds) p →
-        IsNoTrace (benches p) → visits.new ≡ visits.old }
+    requires { AreBenchNumbers number cells rounds }
+    ensures { AnswersBench O.Sink out.old out.new visits.old visits.new number cells rounds result }
 {
     let mut unheard = MemSink::begin(alloc, u64::MAX);
     bench(alloc, number, cells, rounds, out, &mut unheard, visits)

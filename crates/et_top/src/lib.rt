@@ -7,7 +7,6 @@ mod commands;
 mod discard;
 pub mod laws;
 mod models;
-mod prints;
 mod process;
 mod programs;
 mod top;

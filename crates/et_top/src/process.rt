@@ -1,17 +1,11 @@
 //! What a process does: its words, the top call with the four models and a counter of its own, and its output handed
 //! on.
-ghost use Rattle.std.specs.Prelude.{◌≡◌, ◌⊎◌, ◌<◌, ℕ, Bool, None, IsTrue, IfOk, IfErr, OnErr, false, map, drop, option_map, string_bytes};
+ghost use Rattle.std.specs.Prelude.{◌≡◌, ◌<◌, IsTrue, IfOk, OnErr, false, map, drop, option_map, string_bytes};
 ghost use Rattle.std.specs.Vec.Iter.{into_iter_items};
-ghost use Rattle.et_io.specs.Faults.{Rose, count_after};
-ghost use Rattle.et_io.specs.Files.{Held};
+ghost use Rattle.et_io.specs.Faults.{count_after};
 ghost use Rattle.et_io.specs.Sink.{taken_bytes};
-ghost use Rattle.et_graph.specs.Graph.{Graph, Decides};
-ghost use Rattle.et_command.specs.Command.{command};
-ghost use Rattle.et_top.specs.Process.{model_kinds, status_of_words, EndsAs};
-ghost use Rattle.et_files.specs.Reads.{ReadsInOrder};
-ghost use Rattle.et_top.specs.Paths.{paths_of, most_of};
+ghost use Rattle.et_top.specs.Process.{AnswersProcess, AnswersWords, EndsAs};
 ghost use Rattle.et_files.specs.Status.{is_read_status, is_write_status, is_whole};
-ghost use Rattle.et_top.specs.Top.{Defined, IsDefined, GivesDefined};
 
 use crate::top::elephant;
 use et_base::{NoMemory, Steps};
@@ -68,23 +62,12 @@ fn with_models<F: Files, O: Sink, E: Sink, L: Ledger>(
     requires name { blank.name ≡ L.name }
     requires parts { blank.parts ≡ L.parts }
     requires counts { 0 < L.parts }
-    ensures answers { IfOk result (λ status. (held : Held) → F.agrees files.new (F.asked files.old)
-        held → (d : Defined) → IsDefined model_kinds (map string_bytes words.now) held d →
-        (reached : Graph → ℕ → Bool) → Decides reached → (visits : ℕ) × GivesDefined reached
-        (O.taken out.old) (O.taken out.new) 0 visits
-        (Rose (F.faults files.old) (F.faults files.new))
-        (Rose (O.faults out.old) (O.faults out.new)) d status) }
-    ensures usage { IfOk result
-        (λ status. status ≡ Status.Usage → command (map string_bytes words.now) ≡ None) }
-    ensures no_command { IfOk result (λ status. command (map string_bytes words.now) ≡ None →
-        (status ≡ Status.Usage) ⊎ (status ≡ Status.NoMemory)) }
+    ensures words { IfOk result (AnswersWords F.Files O.Sink files.old files.new out.old out.new
+        (map string_bytes words.now)) }
     ensures read_fault { IfOk result (λ status. F.faults files.new
         ≡ count_after (is_read_status status) (F.faults files.old)) }
     ensures write_fault { IfOk result (λ status. O.faults out.new
         ≡ count_after (is_write_status status) (O.faults out.old)) }
-    ensures reads { IfOk result (λ status. ReadsInOrder (F.agrees files.new (F.asked files.old))
-        (F.asked files.old) (F.asked files.new) (most_of (command (map string_bytes words.now)))
-        (paths_of (command (map string_bytes words.now))) status) }
     ensures files { OnErr result (files.new ≡ files.old) }
     ensures out { OnErr result (out.new ≡ out.old) }
 {
@@ -110,26 +93,7 @@ pub fn run_elephant<F: Files, O: Sink, E: Sink>(
     out: &mut O,
     err: &mut E,
 ) -> Status
-    ensures answers { IfOk words (λ some. (held : Held) → F.agrees files.new (F.asked files.old)
-        held → (d : Defined) → IsDefined model_kinds (map string_bytes some.items) held d →
-        (reached : Graph → ℕ → Bool) → Decides reached → (visits : ℕ) × GivesDefined reached
-        (O.taken out.old) (O.taken out.new) 0 visits
-        (Rose (F.faults files.old) (F.faults files.new))
-        (Rose (O.faults out.old) (O.faults out.new)) d result) }
-    ensures usage { IfOk words
-        (λ some. result ≡ Status.Usage → command (map string_bytes some.items) ≡ None) }
-    ensures no_command { IfOk words (λ some. command (map string_bytes some.items) ≡ None →
-        (result ≡ Status.Usage) ⊎ (result ≡ Status.NoMemory)) }
-    ensures read_fault { F.faults files.new
-        ≡ count_after (is_read_status result) (F.faults files.old) }
-    ensures write_fault { O.faults out.new
-        ≡ count_after (is_write_status result) (O.faults out.old) }
-    ensures reads { IfOk words (λ some. ReadsInOrder (F.agrees files.new (F.asked files.old))
-        (F.asked files.old) (F.asked files.new) (most_of (command (map string_bytes some.items)))
-        (paths_of (command (map string_bytes some.items))) result) }
-    ensures no_words { IfErr words (λ fault. result ≡ status_of_words fault) }
-    ensures no_file { OnErr words (files.new ≡ files.old) }
-    ensures nothing { OnErr words (out.new ≡ out.old) }
+    ensures { AnswersProcess F.Files O.Sink files.old files.new out.old out.new words result }
 {
     match words {
         Ok(words) => {
@@ -177,28 +141,9 @@ pub fn run_process<F: Files, O: GatheringSink, E: Sink>(
     out: &mut O,
     err: &mut E,
 ) -> Status
-    ensures answers { IfOk words (λ some. (held : Held) → F.agrees files.new (F.asked files.old)
-        held → (d : Defined) → IsDefined model_kinds (map string_bytes some.items) held d →
-        (reached : Graph → ℕ → Bool) → Decides reached → (visits : ℕ) × GivesDefined reached
-        (O.taken out.old) (O.taken out.new) 0 visits
-        (Rose (F.faults files.old) (F.faults files.new))
-        (Rose (O.faults out.old) (O.faults out.new)) d result) }
+    ensures process { AnswersProcess F.Files O.Sink files.old files.new out.old out.new words result }
     ensures handed { IsTrue (is_whole result) →
         O.handed out.new ≡ option_map taken_bytes (O.taken out.new) }
-    ensures usage { IfOk words
-        (λ some. result ≡ Status.Usage → command (map string_bytes some.items) ≡ None) }
-    ensures no_command { IfOk words (λ some. command (map string_bytes some.items) ≡ None →
-        (result ≡ Status.Usage) ⊎ (result ≡ Status.NoMemory)) }
-    ensures read_fault { F.faults files.new
-        ≡ count_after (is_read_status result) (F.faults files.old) }
-    ensures write_fault { O.faults out.new
-        ≡ count_after (is_write_status result) (O.faults out.old) }
-    ensures reads { IfOk words (λ some. ReadsInOrder (F.agrees files.new (F.asked files.old))
-        (F.asked files.old) (F.asked files.new) (most_of (command (map string_bytes some.items)))
-        (paths_of (command (map string_bytes some.items))) result) }
-    ensures no_words { IfErr words (λ fault. result ≡ status_of_words fault) }
-    ensures no_file { OnErr words (files.new ≡ files.old) }
-    ensures nothing { OnErr words (out.new ≡ out.old) }
 {
     let status = run_elephant(alloc, words, files, out, err);
     hand_on_whole(alloc, out, err, status)

@@ -1,21 +1,23 @@
 //! The top call: all that the program does.
-ghost use Rattle.std.specs.Prelude.{◌≡◌, ◌⊎◌, ℕ, Bool, Some, None, All, map, string_bytes};
+ghost use Rattle.std.specs.Prelude.{◌≡◌, ◌⊎◌, ℕ, Bool, None, All, map, string_bytes};
 ghost use Rattle.et_io.specs.Faults.{Rose, count_after};
 ghost use Rattle.et_io.specs.Files.{Held};
 ghost use Rattle.et_graph.specs.Graph.{Graph, Decides};
 ghost use Rattle.et_command.specs.Command.{command};
 ghost use Rattle.et_command.specs.Asked.{asked_by, AreInRange};
 ghost use Rattle.et_files.specs.Reads.{ReadsInOrder};
+ghost use Rattle.et_top.specs.Answers.{Answers};
 ghost use Rattle.et_top.specs.Paths.{paths_of, most_of};
 ghost use Rattle.et_files.specs.Status.{is_read_status, is_write_status};
-ghost use Rattle.et_top.specs.Top.{Defined, IsAskedDefined, IsDefined, GivesDefined};
+ghost use Rattle.et_top.specs.Top.{Defined, IsDefined, GivesDefined};
 ghost use Rattle.et_top.specs.Visits.{IsWithoutRun, IsNoTrace, HasUnread};
 
 use crate::bench::{CELLS, ROUNDS, bench};
-use crate::commands::{assemble, convert, curve, replay, run, snapshot, trace, verify};
+use crate::commands::{assemble, convert, curve, replay, snapshot, verify};
+use crate::programs::{Output, run};
 use et_base::Steps;
 use et_command::{Command, read_words};
-use et_files::{Refusal, Status, refuse};
+use et_files::{Refusal, Status, load_program, refuse};
 use et_io::{Files, Sink};
 use et_replay::HeapModel;
 use std::alloc::Global;
@@ -33,32 +35,18 @@ fn perform<F: Files, O: Sink, E: Sink, L: Ledger>(
 ) -> Status
     requires new { All (λ b. is_new b) models.items }
     requires range { AreInRange command.now }
-    ensures gives { (held : Held) → F.agrees files.new (F.asked files.old) held → (d : Defined) →
-        IsAskedDefined (map (λ b. kind_of b) models.items) (Some (asked_by command.now)) held d →
-        (reached : Graph → ℕ → Bool) → Decides reached → GivesDefined reached (O.taken out.old)
-        (O.taken out.new) visits.old visits.new (Rose (F.faults files.old) (F.faults files.new))
-        (Rose (O.faults out.old) (O.faults out.new)) d result }
-    ensures usage { result ≡ Status.Usage → ⊥ }
-    ensures read_fault { F.faults files.new
-        ≡ count_after (is_read_status result) (F.faults files.old) }
-    ensures write_fault { O.faults out.new
-        ≡ count_after (is_write_status result) (O.faults out.old) }
-    ensures reads { ReadsInOrder (F.agrees files.new (F.asked files.old)) (F.asked files.old)
-        (F.asked files.new) (most_of (Some (asked_by command.now)))
-        (paths_of (Some (asked_by command.now))) result }
-    ensures no_visits { IsWithoutRun (Some (asked_by command.now)) result →
-        visits.new ≡ visits.old }
-    ensures no_trace { (held : Held) → F.agrees files.new (F.asked files.old) held → (d : Defined) →
-        IsAskedDefined (map (λ b. kind_of b) models.items) (Some (asked_by command.now)) held d →
-        IsNoTrace d → visits.new ≡ visits.old }
-    ensures unread { HasUnread (F.asked files.old) (F.asked files.new)
-        (paths_of (Some (asked_by command.now))) → visits.new ≡ visits.old }
+    ensures { Answers F.Files O.Sink files.old files.new out.old out.new visits.old visits.new
+        (map (λ b. kind_of b) models.items) (asked_by command.now) result }
 {
     match command {
         Command::Trace { options, paths } => {
-            trace(alloc, options, *paths, files, out, err, visits)
+            let loaded = load_program(alloc, *paths, files);
+            run(alloc, Output::Trace, options, loaded, out, err, visits)
         }
-        Command::Run { options, paths } => { run(alloc, options, *paths, files, out, err, visits) }
+        Command::Run { options, paths } => {
+            let loaded = load_program(alloc, *paths, files);
+            run(alloc, Output::Prints, options, loaded, out, err, visits)
+        }
         Command::Assemble(path) => assemble(alloc, *path, files, out, err),
         Command::Verify(paths) => verify(alloc, *paths, files, out, err),
         Command::Replay {

@@ -28,9 +28,9 @@ fn verified_line(alloc: Global, count: u32) -> Result<String, NoMemory>
 /// Writes the line of a program whose methods, so many, have typings.
 fn put_count<O: Sink, E: Sink>(alloc: Global, count: u32, out: &mut O, err: &mut E) -> Status
     ensures gives { (p : Linked) → IsVerified p → count ≡ verified_count p →
-        (reached : Graph → ℕ → Bool) (old new : ℕ) → GivesDefined reached (O.taken out.old)
-        (O.taken out.new) old new ⊥ (Rose (O.faults out.old) (O.faults out.new)) (Verifies p)
-        result }
+        (reached : Graph → ℕ → Bool) (old new from to : ℕ) →
+        GivesDefined reached (O.taken out.old) (O.taken out.new) old new (Rose from to)
+        (Rose (O.faults out.old) (O.faults out.new)) (Verifies p) result }
     ensures write_fault { O.faults out.new
         ≡ count_after (is_write_status result) (O.faults out.old) }
     ensures no_read { is_read_status result ≡ false }
@@ -75,9 +75,9 @@ pub fn tell_verdict<O: Sink, E: Sink>(
     out: &mut O,
     err: &mut E,
 ) -> Status
-    ensures gives { (reached : Graph → ℕ → Bool) (old new : ℕ) → GivesDefined reached
-        (O.taken out.old) (O.taken out.new) old new ⊥ (Rose (O.faults out.old) (O.faults out.new))
-        (Verifies program.now) result }
+    ensures gives { (reached : Graph → ℕ → Bool) (old new from to : ℕ) →
+        GivesDefined reached (O.taken out.old) (O.taken out.new) old new (Rose from to)
+        (Rose (O.faults out.old) (O.faults out.new)) (Verifies program.now) result }
     ensures write_fault { O.faults out.new
         ≡ count_after (is_write_status result) (O.faults out.old) }
     ensures no_read { is_read_status result ≡ false }

@@ -1,21 +1,21 @@
-use Rattle.std.proofs.Common.{sym, subst}
+use Rattle.std.proofs.Common.{refl, sym, subst}
+use Rattle.et_command.specs.Command as words
+use Rattle.et_convert.specs.Conversions.{converted_bytes}
 use Rattle.et_convert.specs.Spellings.{SpellsTrace}
-use Rattle.et_io.specs.Faults.{Rose}
-use Rattle.et_top.proofs.FaultLemmas.{rose_writing}
-use Rattle.et_top.proofs.TopLemmas.{text_gives, refused_text}
+use Rattle.et_files.specs.Loaded.{file_bytes, most_of_trace, IsTraceOf}
+use Rattle.et_top.proofs.AnswerLemmas.{text_answers, text_refused}
 use Rattle.et_top.proofs.commands.convert.Goals as goal
 
-pub returns-in-Ok-clause-gives : goal.returns-in-Ok-clause-gives
-returns-in-Ok-clause-gives g c held told kinds d defined reached decides old new =
-    let t = c.in-Ok.ensures.tells held told defined.0 defined.1 in
+pub returns-in-Ok : goal.returns-in-Ok
+returns-in-Ok g c kinds visits =
+    text_answers g.F.Files g.O.Sink _ _ kinds (words.Convert c.args.path.now) c.args.path.now refl (λ held found. IsTraceOf (file_bytes most_of_trace (held c.args.path.now)) found) (λ reached lines. converted_bytes lines) (λ held d h. h) _ _ visits c.in-Ok.bytes c.convert_bytes.result c.written.result c.written.ensures.status c.written.ensures.no_read c.written.ensures.writes c.convert_bytes.ensures.write c.in-Ok.ensures.loads.read
+    (λ held told found is.
+    let t = c.in-Ok.ensures.loads.tells held told found is in
     let s = subst (SpellsTrace t.0) (sym c.deref.ensures.value) t.2 in
-    text_gives reached (g.O.Sink.taken c.args.out.now) (g.O.Sink.taken c.convert_bytes.new.sink) old new (Rose (g.F.Files.faults c.args.files.now) (g.F.Files.faults c.load_bytes.new.files)) (Rose (g.O.Sink.faults c.args.out.now) (g.O.Sink.faults c.convert_bytes.new.sink)) _ defined.0 t.0 d c.convert_bytes.result c.written.result defined.2 t.1 c.written.ensures.status
-    (c.convert_bytes.ensures.ok t.0 s) (c.convert_bytes.ensures.err t.0 s) (rose_writing c.convert_bytes.result _ _ c.convert_bytes.ensures.write)
+    (t.0, t.1, λ reached decides. (c.convert_bytes.ensures.ok t.0 s, c.convert_bytes.ensures.err t.0 s)))
 
-pub returns-in-Err-clause-gives : goal.returns-in-Err-clause-gives
-returns-in-Err-clause-gives g c held told kinds d defined reached decides old new =
-    refused_text reached (g.O.Sink.taken c.args.out.now) old new (Rose (g.F.Files.faults c.args.files.now) (g.F.Files.faults c.load_bytes.new.files)) (Rose (g.O.Sink.faults c.args.out.now) (g.O.Sink.faults c.args.out.now))
-    _ defined.0 c.in-Err.refusal d c.refuse.result defined.2 (c.in-Err.ensures.tells held told defined.0 defined.1) c.refuse.ensures.status
+pub returns-in-Err : goal.returns-in-Err
+returns-in-Err g c kinds visits = text_refused g.F.Files g.O.Sink _ _ kinds (words.Convert c.args.path.now) c.args.path.now refl (λ held found. IsTraceOf (file_bytes most_of_trace (held c.args.path.now)) found) (λ reached lines. converted_bytes lines) (λ held d h. h) _ visits c.in-Err.refusal c.refuse.result c.refuse.ensures.status c.in-Err.ensures.loads.read c.in-Err.ensures.loads.tells
 
 pub convert_bytes-requires : goal.convert_bytes-requires
 convert_bytes-requires g c = let t = c.in-Ok.ensures.trace in record { trace = (t.0, subst (SpellsTrace t.0) (sym c.deref.ensures.value) t.1, t.2) }

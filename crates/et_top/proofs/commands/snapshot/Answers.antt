@@ -1,15 +1,19 @@
+use Rattle.std.proofs.Common.{◌≡◌, refl, sym, subst, ◌∙◌, List, Result}
+use Rattle.et_base.specs.declared.line.TraceLine.{TraceLine}
+use Rattle.et_command.specs.Command as words
+use Rattle.et_snapshot.specs.Snapshot.{snapshot_text}
+use Rattle.et_files.specs.Faults.{Fault}
+use Rattle.et_files.specs.Loaded.{file_bytes, most_of_trace, IsTraceOf, reaching}
 use Rattle.et_io.specs.Faults.{Rose}
-use Rattle.et_files.specs.Loaded.{reaching}
-use Rattle.et_top.proofs.FaultLemmas.{rose_writing}
-use Rattle.et_top.proofs.TopLemmas.{text_gives, refused_text}
+use Rattle.et_files.specs.Told.{IsCause, cause_of}
+use Rattle.et_top.proofs.AnswerLemmas.{text_answers, text_refused}
 use Rattle.et_top.proofs.commands.snapshot.Goals as goal
 
-pub returns-in-Ok-clause-gives : goal.returns-in-Ok-clause-gives
-returns-in-Ok-clause-gives g c held told kinds d defined reached decides old new =
-    text_gives reached (g.O.Sink.taken c.args.out.now) (g.O.Sink.taken c.snapshot_lines.new.sink) old new (Rose (g.F.Files.faults c.args.files.now) (g.F.Files.faults c.load_trace_to.new.files)) (Rose (g.O.Sink.faults c.args.out.now) (g.O.Sink.faults c.snapshot_lines.new.sink)) _ (reaching c.args.event defined.0) c.in-Ok.trace d c.snapshot_lines.result c.written.result defined.2 (c.in-Ok.ensures.tells held told defined.0 defined.1) c.written.ensures.status
-    c.snapshot_lines.ensures.ok c.snapshot_lines.ensures.err (rose_writing c.snapshot_lines.result _ _ c.snapshot_lines.ensures.write)
+pub returns-in-Ok : goal.returns-in-Ok
+returns-in-Ok g c kinds visits =
+    text_answers g.F.Files g.O.Sink _ _ kinds (words.Snapshot c.args.path.now c.args.event) c.args.path.now refl (λ held found. (trace : Result (List TraceLine) Fault) × IsTraceOf (file_bytes most_of_trace (held c.args.path.now)) trace × (found ≡ reaching c.args.event trace)) (λ reached lines. snapshot_text lines c.args.event) (λ held d h. (reaching c.args.event h.0, (h.0, h.1, refl), h.2)) _ _ visits c.in-Ok.trace c.snapshot_lines.result c.written.result c.written.ensures.status c.written.ensures.no_read c.written.ensures.writes c.snapshot_lines.ensures.write c.in-Ok.ensures.read
+    (λ held told found is. (c.in-Ok.trace, is.2 ∙ c.in-Ok.ensures.tells held told is.0 is.1, λ reached decides. (c.snapshot_lines.ensures.ok, c.snapshot_lines.ensures.err)))
 
-pub returns-in-Err-clause-gives : goal.returns-in-Err-clause-gives
-returns-in-Err-clause-gives g c held told kinds d defined reached decides old new =
-    refused_text reached (g.O.Sink.taken c.args.out.now) old new (Rose (g.F.Files.faults c.args.files.now) (g.F.Files.faults c.load_trace_to.new.files)) (Rose (g.O.Sink.faults c.args.out.now) (g.O.Sink.faults c.args.out.now))
-    _ (reaching c.args.event defined.0) c.in-Err.refusal d c.refuse.result defined.2 (c.in-Err.ensures.tells held told defined.0 defined.1) c.refuse.ensures.status
+pub returns-in-Err : goal.returns-in-Err
+returns-in-Err g c kinds visits = text_refused g.F.Files g.O.Sink _ _ kinds (words.Snapshot c.args.path.now c.args.event) c.args.path.now refl (λ held found. (trace : Result (List TraceLine) Fault) × IsTraceOf (file_bytes most_of_trace (held c.args.path.now)) trace × (found ≡ reaching c.args.event trace)) (λ reached lines. snapshot_text lines c.args.event) (λ held d h. (reaching c.args.event h.0, (h.0, h.1, refl), h.2)) _ visits c.in-Err.refusal c.refuse.result c.refuse.ensures.status c.in-Err.ensures.read
+    (λ held told found is. subst (λ f. IsCause (Rose (g.F.Files.faults c.args.files.now) (g.F.Files.faults c.load_trace_to.new.files)) f (cause_of c.in-Err.refusal)) (sym is.2) (c.in-Err.ensures.tells held told is.0 is.1))

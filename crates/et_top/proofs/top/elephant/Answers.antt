@@ -64,3 +64,12 @@ returns-in-None-clause-read_fault g c = same_count (is_read_status c.refuse-in-N
 
 pub returns-in-None-clause-write_fault : goal.returns-in-None-clause-write_fault
 returns-in-None-clause-write_fault g c = same_count (is_write_status c.refuse-in-None.result) _ _ refl (ap is_write_status c.refuse-in-None.ensures.status)
+
+pub returns-in-Some-clause-usage : goal.returns-in-Some-clause-usage
+returns-in-Some-clause-usage g c e = absurd (c.perform.ensures.usage e)
+
+pub returns-in-Some-clause-read_fault : goal.returns-in-Some-clause-read_fault
+returns-in-Some-clause-read_fault g c = c.perform.ensures.read_fault
+
+pub returns-in-Some-clause-write_fault : goal.returns-in-Some-clause-write_fault
+returns-in-Some-clause-write_fault g c = c.perform.ensures.write_fault

@@ -1,125 +1,59 @@
-use Rattle.std.proofs.Common.{[], refl, sym, subst, arith}
-use Rattle.std.specs.Prelude.{Some}
-use Rattle.et_command.specs.declared.command.Command.{Command}
-use Rattle.et_command.specs.Asked.{asked_by}
-use Rattle.et_top.specs.Visits.{IsWithoutRun, IsNoTrace, HasUnread}
-use Rattle.et_files.specs.Reads.{ReadsInOrder}
-use Rattle.et_top.specs.Paths.{paths_of, most_of}
-use Rattle.et_files.specs.Status.{is_read_status}
-use Rattle.et_top.specs.Top.{GivesDefined}
+use Rattle.std.proofs.Common.{[], refl, sym, subst, arith, rules}
+use Rattle.et_command.specs.Asked.{AreInRange}
 use Rattle.et_io.specs.Faults.{Rose}
-use Rattle.et_top.proofs.BenchHistory.{bench_more}
+use Rattle.et_files.specs.Status.{is_read_status}
 use Rattle.et_files.proofs.FaultLemmas.{same_count}
-use Rattle.et_files.proofs.ReadLemmas.{one_read, none_read}
-use Rattle.et_top.proofs.TopLemmas.{by_arm}
+use Rattle.et_files.proofs.ReadLemmas.{none_read}
+use Rattle.et_top.specs.Top.{GivesDefined}
+use Rattle.et_top.specs.Visits.{IsNoTrace}
+use Rattle.et_top.specs.declared.programs.Output.TheVariants as output
+use Rattle.et_top.proofs.AnswerLemmas.{of_arm, run_answers}
+use Rattle.et_top.proofs.BenchHistory.{bench_more}
 use Rattle.et_top.proofs.top.perform.Goals as goal
 
-pub returns-in-Trace-clause-gives : goal.returns-in-Trace-clause-gives
-returns-in-Trace-clause-gives g c held told d defined reached decides =
-    c.trace.ensures.gives held told [] d (by_arm _ held d _ _ c.in-Trace.is defined) reached decides
+pub returns-in-Trace : goal.returns-in-Trace
+returns-in-Trace g c = of_arm _ _ _ _ _ _ _ _ _ _ _ _ c.in-Trace.is (run_answers g.F.Files g.O.Sink _ _ _ _ _ _ _ _ _ output.Trace c.load_program-loaded.result c.run.result c.load_program-loaded.ensures.tells c.load_program-loaded.ensures.reads
+    c.run.ensures.gives c.run.ensures.usage c.run.ensures.read_fault c.run.ensures.write_fault c.run.ensures.refused c.run.ensures.no_visits c.run.ensures.unread)
 
-pub returns-in-Assemble-clause-gives : goal.returns-in-Assemble-clause-gives
-returns-in-Assemble-clause-gives g c held told d defined reached decides =
-    c.assemble.ensures.gives held told [] d (by_arm _ held d _ _ c.in-Assemble.is defined) reached decides _ _
+pub returns-in-Run : goal.returns-in-Run
+returns-in-Run g c = of_arm _ _ _ _ _ _ _ _ _ _ _ _ c.in-Run.is (run_answers g.F.Files g.O.Sink _ _ _ _ _ _ _ _ _ output.Prints c.load_program-loaded-in-Run.result c.run-in-Run.result c.load_program-loaded-in-Run.ensures.tells c.load_program-loaded-in-Run.ensures.reads
+    c.run-in-Run.ensures.gives c.run-in-Run.ensures.usage c.run-in-Run.ensures.read_fault c.run-in-Run.ensures.write_fault c.run-in-Run.ensures.refused c.run-in-Run.ensures.no_visits c.run-in-Run.ensures.unread)
 
-pub returns-in-Verify-clause-gives : goal.returns-in-Verify-clause-gives
-returns-in-Verify-clause-gives g c held told d defined reached decides =
-    c.verify.ensures.gives held told [] d (by_arm _ held d _ _ c.in-Verify.is defined) reached decides _ _
+pub returns-in-Assemble : goal.returns-in-Assemble
+returns-in-Assemble g c = of_arm _ _ _ _ _ _ _ _ _ _ _ _ c.in-Assemble.is (c.assemble.ensures _ _)
 
-pub returns-in-Verify-clause-reads : goal.returns-in-Verify-clause-reads
-returns-in-Verify-clause-reads g c = subst (λ (x : Command). ReadsInOrder (g.F.Files.agrees c.verify.new.files (g.F.Files.asked c.args.files.now)) (g.F.Files.asked c.args.files.now) (g.F.Files.asked c.verify.new.files) (most_of (Some (asked_by x))) (paths_of (Some (asked_by x))) c.verify.result) (sym c.in-Verify.is) c.verify.ensures.reads
+pub returns-in-Verify : goal.returns-in-Verify
+returns-in-Verify g c = of_arm _ _ _ _ _ _ _ _ _ _ _ _ c.in-Verify.is (c.verify.ensures _ _)
 
-pub returns-in-Replay-clause-gives : goal.returns-in-Replay-clause-gives
-returns-in-Replay-clause-gives g c held told d defined reached decides =
-    c.replay.ensures.gives held told d (by_arm _ held d _ _ c.in-Replay.is defined) reached decides _ _
+pub returns-in-Convert : goal.returns-in-Convert
+returns-in-Convert g c = of_arm _ _ _ _ _ _ _ _ _ _ _ _ c.in-Convert.is (c.convert.ensures _ _)
 
-pub returns-in-Convert-clause-gives : goal.returns-in-Convert-clause-gives
-returns-in-Convert-clause-gives g c held told d defined reached decides =
-    c.convert.ensures.gives held told [] d (by_arm _ held d _ _ c.in-Convert.is defined) reached decides _ _
+pub returns-in-Curve : goal.returns-in-Curve
+returns-in-Curve g c = of_arm _ _ _ _ _ _ _ _ _ _ _ _ c.in-Curve.is (c.curve.ensures _ _)
 
-pub returns-in-Curve-clause-gives : goal.returns-in-Curve-clause-gives
-returns-in-Curve-clause-gives g c held told d defined reached decides =
-    c.curve.ensures.gives held told [] d (by_arm _ held d _ _ c.in-Curve.is defined) reached decides _ _
+pub returns-in-Snapshot : goal.returns-in-Snapshot
+returns-in-Snapshot g c = of_arm _ _ _ _ _ _ _ _ _ _ _ _ c.in-Snapshot.is (c.snapshot.ensures _ _)
 
-pub returns-in-Snapshot-clause-gives : goal.returns-in-Snapshot-clause-gives
-returns-in-Snapshot-clause-gives g c held told d defined reached decides =
-    c.snapshot.ensures.gives held told [] d (by_arm _ held d _ _ c.in-Snapshot.is defined) reached decides _ _
+pub returns-in-Replay : goal.returns-in-Replay
+returns-in-Replay g c = of_arm _ _ _ _ _ _ _ _ _ _ _ _ c.in-Replay.is (c.replay.ensures _)
 
-pub returns-in-Trace-clause-no_visits : goal.returns-in-Trace-clause-no_visits
-returns-in-Trace-clause-no_visits g c without =
-    c.trace.ensures.no_visits (subst (λ (x : Command). IsWithoutRun (Some (asked_by x)) c.trace.result) c.in-Trace.is without)
+pub returns-in-Bench : goal.returns-in-Bench
+returns-in-Bench g c = of_arm g.F.Files g.O.Sink c.args.files.now c.args.files.now c.args.out.now c.bench.new.out c.args.visits.now c.bench.new.visits _ _ _ c.bench.result c.in-Bench.is (record {
+  gives = λ held told d defined reached decides.
+      let before = g.O.Sink.taken c.args.out.now in
+      let after = g.O.Sink.taken c.bench.new.out in
+      let read = Rose (g.F.Files.faults c.args.files.now) (g.F.Files.faults c.args.files.now) in
+      let written = Rose (g.O.Sink.faults c.args.out.now) (g.O.Sink.faults c.bench.new.out) in
+      subst (λ x. GivesDefined reached before after c.args.visits.now c.bench.new.visits read written x c.bench.result) (sym defined.2)
+      (bench_more reached before after c.args.visits.now c.bench.new.visits read written defined.0 c.bench.result (c.bench.ensures.gives defined.0 defined.1 reached decides));
+  usage = c.bench.ensures.usage;
+  read_fault = same_count (is_read_status c.bench.result) _ _ refl c.bench.ensures.no_read;
+  write_fault = c.bench.ensures.write_fault;
+  reads = none_read _ _ _ [] c.bench.result (λ late. refl);
+  no_visits = c.bench.ensures.no_visits;
+  no_trace = λ held told d defined none. c.bench.ensures.no_trace defined.0 defined.1 (subst IsNoTrace defined.2 none);
+  unread = λ few. absurd (omega (arith, few));
+})
 
-pub returns-in-Trace-clause-no_trace : goal.returns-in-Trace-clause-no_trace
-returns-in-Trace-clause-no_trace g c held told d defined none =
-    c.trace.ensures.no_trace held told [] d (by_arm _ held d _ _ c.in-Trace.is defined) none
-
-pub returns-in-Trace-clause-unread : goal.returns-in-Trace-clause-unread
-returns-in-Trace-clause-unread g c few =
-    c.trace.ensures.unread (subst (λ (x : Command). HasUnread (g.F.Files.asked c.args.files.now) (g.F.Files.asked c.trace.new.files) (paths_of (Some (asked_by x)))) c.in-Trace.is few)
-
-pub returns-in-Trace-clause-reads : goal.returns-in-Trace-clause-reads
-returns-in-Trace-clause-reads g c = subst (λ (x : Command). ReadsInOrder (g.F.Files.agrees c.trace.new.files (g.F.Files.asked c.args.files.now)) (g.F.Files.asked c.args.files.now) (g.F.Files.asked c.trace.new.files) (most_of (Some (asked_by x))) (paths_of (Some (asked_by x))) c.trace.result) (sym c.in-Trace.is) c.trace.ensures.reads
-
-pub returns-in-Assemble-clause-reads : goal.returns-in-Assemble-clause-reads
-returns-in-Assemble-clause-reads g c = subst (λ (x : Command). ReadsInOrder (g.F.Files.agrees c.assemble.new.files (g.F.Files.asked c.args.files.now)) (g.F.Files.asked c.args.files.now) (g.F.Files.asked c.assemble.new.files) (most_of (Some (asked_by x))) (paths_of (Some (asked_by x))) c.assemble.result) (sym c.in-Assemble.is) (one_read _ _ _ _ _ _ c.assemble.ensures.asked)
-
-pub returns-in-Replay-clause-reads : goal.returns-in-Replay-clause-reads
-returns-in-Replay-clause-reads g c = subst (λ (x : Command). ReadsInOrder (g.F.Files.agrees c.replay.new.files (g.F.Files.asked c.args.files.now)) (g.F.Files.asked c.args.files.now) (g.F.Files.asked c.replay.new.files) (most_of (Some (asked_by x))) (paths_of (Some (asked_by x))) c.replay.result) (sym c.in-Replay.is) (one_read _ _ _ _ _ _ c.replay.ensures.asked)
-
-pub returns-in-Convert-clause-reads : goal.returns-in-Convert-clause-reads
-returns-in-Convert-clause-reads g c = subst (λ (x : Command). ReadsInOrder (g.F.Files.agrees c.convert.new.files (g.F.Files.asked c.args.files.now)) (g.F.Files.asked c.args.files.now) (g.F.Files.asked c.convert.new.files) (most_of (Some (asked_by x))) (paths_of (Some (asked_by x))) c.convert.result) (sym c.in-Convert.is) (one_read _ _ _ _ _ _ c.convert.ensures.asked)
-
-pub returns-in-Curve-clause-reads : goal.returns-in-Curve-clause-reads
-returns-in-Curve-clause-reads g c = subst (λ (x : Command). ReadsInOrder (g.F.Files.agrees c.curve.new.files (g.F.Files.asked c.args.files.now)) (g.F.Files.asked c.args.files.now) (g.F.Files.asked c.curve.new.files) (most_of (Some (asked_by x))) (paths_of (Some (asked_by x))) c.curve.result) (sym c.in-Curve.is) (one_read _ _ _ _ _ _ c.curve.ensures.asked)
-
-pub returns-in-Snapshot-clause-reads : goal.returns-in-Snapshot-clause-reads
-returns-in-Snapshot-clause-reads g c = subst (λ (x : Command). ReadsInOrder (g.F.Files.agrees c.snapshot.new.files (g.F.Files.asked c.args.files.now)) (g.F.Files.asked c.args.files.now) (g.F.Files.asked c.snapshot.new.files) (most_of (Some (asked_by x))) (paths_of (Some (asked_by x))) c.snapshot.result) (sym c.in-Snapshot.is) (one_read _ _ _ _ _ _ c.snapshot.ensures.asked)
-
-pub returns-in-Bench-clause-gives : goal.returns-in-Bench-clause-gives
-returns-in-Bench-clause-gives g c held told d defined reached decides =
-    let is = by_arm _ held d _ _ c.in-Bench.is defined in
-    let before = g.O.Sink.taken c.args.out.now in
-    let after = g.O.Sink.taken c.bench.new.out in
-    let read = Rose (g.F.Files.faults c.args.files.now) (g.F.Files.faults c.args.files.now) in
-    let written = Rose (g.O.Sink.faults c.args.out.now) (g.O.Sink.faults c.bench.new.out) in
-    subst (λ x. GivesDefined reached before after c.args.visits.now c.bench.new.visits read written x c.bench.result) (sym is.2)
-    (bench_more reached before after c.args.visits.now c.bench.new.visits read written is.0 c.bench.result (c.bench.ensures.gives is.0 is.1 reached decides))
-
-pub returns-in-Bench-clause-read_fault : goal.returns-in-Bench-clause-read_fault
-returns-in-Bench-clause-read_fault g c = same_count (is_read_status c.bench.result) _ _ refl c.bench.ensures.no_read
-
-pub returns-in-Bench-clause-reads : goal.returns-in-Bench-clause-reads
-returns-in-Bench-clause-reads g c = subst (λ (x : Command). ReadsInOrder (g.F.Files.agrees c.args.files.now (g.F.Files.asked c.args.files.now)) (g.F.Files.asked c.args.files.now) (g.F.Files.asked c.args.files.now) (most_of (Some (asked_by x))) (paths_of (Some (asked_by x))) c.bench.result) (sym c.in-Bench.is) (none_read _ _ _ [] c.bench.result (λ late. refl))
-
-pub returns-in-Bench-clause-no_visits : goal.returns-in-Bench-clause-no_visits
-returns-in-Bench-clause-no_visits g c without =
-    c.bench.ensures.no_visits (subst (λ (x : Command). IsWithoutRun (Some (asked_by x)) c.bench.result) c.in-Bench.is without)
-
-pub returns-in-Bench-clause-no_trace : goal.returns-in-Bench-clause-no_trace
-returns-in-Bench-clause-no_trace g c held told d defined none =
-    let is = by_arm _ held d _ _ c.in-Bench.is defined in
-    c.bench.ensures.no_trace is.0 is.1 (subst IsNoTrace is.2 none)
-
-pub returns-in-Bench-clause-unread : goal.returns-in-Bench-clause-unread
-returns-in-Bench-clause-unread g c few =
-    let few' = subst (λ (x : Command). HasUnread (g.F.Files.asked c.args.files.now) (g.F.Files.asked c.args.files.now) (paths_of (Some (asked_by x)))) c.in-Bench.is few in
-    absurd (omega (arith, few'))
-
-pub returns-in-Run-clause-gives : goal.returns-in-Run-clause-gives
-returns-in-Run-clause-gives g c held told d defined reached decides =
-    c.run.ensures.gives held told [] d (by_arm _ held d _ _ c.in-Run.is defined) reached decides
-
-pub returns-in-Run-clause-no_visits : goal.returns-in-Run-clause-no_visits
-returns-in-Run-clause-no_visits g c without =
-    c.run.ensures.no_visits (subst (λ (x : Command). IsWithoutRun (Some (asked_by x)) c.run.result) c.in-Run.is without)
-
-pub returns-in-Run-clause-no_trace : goal.returns-in-Run-clause-no_trace
-returns-in-Run-clause-no_trace g c held told d defined none =
-    c.run.ensures.no_trace held told [] d (by_arm _ held d _ _ c.in-Run.is defined) none
-
-pub returns-in-Run-clause-unread : goal.returns-in-Run-clause-unread
-returns-in-Run-clause-unread g c few =
-    c.run.ensures.unread (subst (λ (x : Command). HasUnread (g.F.Files.asked c.args.files.now) (g.F.Files.asked c.run.new.files) (paths_of (Some (asked_by x)))) c.in-Run.is few)
-
-pub returns-in-Run-clause-reads : goal.returns-in-Run-clause-reads
-returns-in-Run-clause-reads g c = subst (λ (x : Command). ReadsInOrder (g.F.Files.agrees c.run.new.files (g.F.Files.asked c.args.files.now)) (g.F.Files.asked c.args.files.now) (g.F.Files.asked c.run.new.files) (most_of (Some (asked_by x))) (paths_of (Some (asked_by x))) c.run.result) (sym c.in-Run.is) c.run.ensures.reads
+pub bench-requires : goal.bench-requires
+bench-requires g c = record { choices = subst AreInRange c.in-Bench.is c.requires.range; size = (first_of (search rules, omega arith), first_of (search rules, omega arith)); turns = first_of (search rules, omega arith) }
