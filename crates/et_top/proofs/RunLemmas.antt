@@ -1,5 +1,5 @@
 -- A HISTORY THAT WAS RUN, whose trace was written, or what it prints.
-use Rattle.std.proofs.Common.{◌≡◌, ℕ, ◌+◌, ◌≤◌, Bool, Result, Ok, Err, IfOk, refl, sym, subst}
+use Rattle.std.proofs.Common.{◌≡◌, ℕ, Bool, Result, Ok, Err, IfOk, refl, sym, subst}
 use Rattle.std.specs.Prelude.{OnErr}
 use Rattle.et_base.specs.declared.value.End.{End}
 use Rattle.et_base.specs.declared.value.End.TheVariants as ends
@@ -9,9 +9,7 @@ use Rattle.et_io.specs.declared.putting.RunFault.{RunFault}
 use Rattle.et_io.specs.declared.putting.RunFault.TheVariants as write
 use Rattle.et_state.specs.declared.options.Options.{Options}
 use Rattle.et_loop.specs.declared.options.Ran.{Ran}
-use Rattle.et_loop.specs.Said.{Says, SaysPrefix, IsCutSaid}
-use Rattle.et_loop.specs.Traced.{WritesTrace, WritesPrefix}
-use Rattle.et_loop.specs.Visits.{allowed_visits, IsCut}
+use Rattle.et_loop.specs.Ends.{IsOver, IsCutOff}
 use Rattle.et_program.specs.Entries.{Linked}
 use Rattle.et_run.specs.Start.{start_records}
 use Rattle.et_run.specs.Settings.{said_by}
@@ -40,30 +38,30 @@ of_fault P failed memory write.Write = failed
 of_fault P failed memory write.NoMemory = memory
 
 module _ (reached : Graph → ℕ → Bool) (before after : Log) (old new : ℕ) (read written : Type 0) (options : Options) (program : Linked) where
-  -- the counter allows for the visits of a history that ended so
-  abbrev Counts : Ran → Type 0
-  Counts ran = new ≤ old + allowed_visits reached (whole_setting program options) whole_visits_of (whole_start program) (start_records program) ran.event
+  -- the run came to the end of the history, by what the sink of the trace took and by what that of the prints took
+  abbrev Over : (wrote writes heard hears : Log) → Ran → Type 0
+  Over wrote writes heard hears ran =
+      IsOver reached (whole_setting program options) (whole_said (said_by program)) whole_visits_of (whole_start program) (start_records program) wrote writes heard hears old new ran
+
+  -- .. or it was cut off before
+  abbrev CutOff : (wrote writes heard hears : Log) → Type 0
+  CutOff wrote writes heard hears =
+      IsCutOff reached (whole_setting program options) (whole_said (said_by program)) whole_visits_of (whole_start program) (start_records program) wrote writes heard hears old new
 
   abbrev Given : Defined → Status → Type 0
   Given d answer = GivesDefined reached before after old new read written d answer
 
-  pub trace_gives : (ran : Result Ran RunFault) → IfOk ran (λ r. WritesTrace reached (whole_setting program options) (whole_start program) (start_records program) r before after) → IfOk ran Counts
-      → OnErr ran (WritesPrefix reached (whole_setting program options) (whole_start program) (start_records program) before after)
-      → OnErr ran (IsCut reached (whole_setting program options) whole_visits_of (whole_start program) (start_records program) before after old new)
-      → (ran ≡ Err write.Write → written) → Given (Traces program options) (status_of_run ran)
-  trace_gives (Ok ran) wrote visits front cut rose =
-      of_end (λ s. WritesHistory reached before after old new program options s → Given (Traces program options) s) (λ h. h) (λ h. h) (λ h. h) ran.end (record { ran = ran; ended = refl; wrote = wrote; visits = visits })
-  trace_gives (Err write.Write) wrote visits front cut rose = (rose refl, record { wrote = front; visits = cut })
-  trace_gives (Err write.NoMemory) wrote visits front cut rose = record { wrote = front; visits = cut }
+  pub trace_gives : (heard hears : Log) (ran : Result Ran RunFault) → IfOk ran (Over before after heard hears) → OnErr ran (CutOff before after heard hears) → (ran ≡ Err write.Write → written) → Given (Traces program options) (status_of_run ran)
+  trace_gives heard hears (Ok ran) over cut_off rose =
+      of_end (λ s. WritesHistory reached before after old new program options s → Given (Traces program options) s) (λ h. h) (λ h. h) (λ h. h) ran.end (record { ran = ran; ended = refl; wrote = over.trace; visits = over.visits })
+  trace_gives heard hears (Err write.Write) over cut_off rose = (rose refl, record { wrote = cut_off.prefix; visits = cut_off.cut })
+  trace_gives heard hears (Err write.NoMemory) over cut_off rose = record { wrote = cut_off.prefix; visits = cut_off.cut }
 
-  pub print_gives : (ran : Result Ran RunFault) → IfOk ran (λ r. Says reached (whole_setting program options) (whole_said (said_by program)) (whole_start program) (start_records program) r before after) → IfOk ran Counts
-      → OnErr ran (SaysPrefix reached (whole_setting program options) (whole_said (said_by program)) (whole_start program) (start_records program) before after)
-      → OnErr ran (IsCutSaid reached (whole_setting program options) (whole_said (said_by program)) (whole_start program) (start_records program) whole_visits_of before after old new)
-      → (ran ≡ Err write.Write → written) → Given (Prints program options) (status_of_run ran)
-  print_gives (Ok ran) says visits front cut rose =
-      of_end (λ s. PrintsHistory reached before after old new program options s → Given (Prints program options) s) (λ h. h) (λ h. h) (λ h. h) ran.end (record { ran = ran; ended = refl; printed = says; visits = visits })
-  print_gives (Err write.Write) says visits front cut rose = (rose refl, record { printed = front; visits = cut })
-  print_gives (Err write.NoMemory) says visits front cut rose = record { printed = front; visits = cut }
+  pub print_gives : (wrote writes : Log) (ran : Result Ran RunFault) → IfOk ran (Over wrote writes before after) → OnErr ran (CutOff wrote writes before after) → (ran ≡ Err write.Write → written) → Given (Prints program options) (status_of_run ran)
+  print_gives wrote writes (Ok ran) over cut_off rose =
+      of_end (λ s. PrintsHistory reached before after old new program options s → Given (Prints program options) s) (λ h. h) (λ h. h) (λ h. h) ran.end (record { ran = ran; ended = refl; printed = over.said; visits = over.visits })
+  print_gives wrote writes (Err write.Write) over cut_off rose = (rose refl, record { printed = cut_off.said_prefix; visits = cut_off.said_cut })
+  print_gives wrote writes (Err write.NoMemory) over cut_off rose = record { printed = cut_off.said_prefix; visits = cut_off.said_cut }
 
   -- what is given of the history is what is defined where the program was found
   pub run_gives : (o : Output) (found : Result Linked Fault) (answer : Status) → found ≡ Ok program → Given (history_of o options program) answer → Given (defines o options found) answer

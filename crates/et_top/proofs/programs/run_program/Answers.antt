@@ -8,8 +8,8 @@ use Rattle.et_top.proofs.programs.run_program.Goals as goal
 pub returns-in-Trace-clause-gives : goal.returns-in-Trace-clause-gives
 returns-in-Trace-clause-gives g c from to reached decides =
     rw (c.in-Trace.is, c.answer_run.ensures.status)
-    (trace_gives reached (g.O.Sink.taken c.args.out.now) (g.O.Sink.taken c.run-ran.new.trace) c.args.visits.now c.run-ran.new.visits (Rose from to) (Rose (g.O.Sink.faults c.args.out.now) (g.O.Sink.faults c.run-ran.new.trace)) c.args.options.now c.args.program.now c.run-ran.result (c.run-ran.ensures.trace reached decides) (c.run-ran.ensures.visits reached decides)
-    (c.run-ran.ensures.prefix reached decides) (c.run-ran.ensures.cut reached decides) (rose_writing c.run-ran.result _ _ (counted_alone (is_write_fault c.run-ran.result) _ _ c.run-ran.ensures.write)))
+    (trace_gives reached (g.O.Sink.taken c.args.out.now) (g.O.Sink.taken c.run-ran.new.trace) c.args.visits.now c.run-ran.new.visits (Rose from to) (Rose (g.O.Sink.faults c.args.out.now) (g.O.Sink.faults c.run-ran.new.trace)) c.args.options.now c.args.program.now _ _ c.run-ran.result
+    (c.run-ran.ensures.over reached decides) (c.run-ran.ensures.cut_off reached decides) (rose_writing c.run-ran.result _ _ (counted_alone (is_write_fault c.run-ran.result) _ _ c.run-ran.ensures.write)))
 
 pub returns-in-Trace-clause-write_fault : goal.returns-in-Trace-clause-write_fault
 returns-in-Trace-clause-write_fault g c =
@@ -18,8 +18,8 @@ returns-in-Trace-clause-write_fault g c =
 pub returns-in-Prints-clause-gives : goal.returns-in-Prints-clause-gives
 returns-in-Prints-clause-gives g c from to reached decides =
     rw (c.in-Prints.is, c.answer_run-in-Prints.ensures.status)
-    (print_gives reached (g.O.Sink.taken c.args.out.now) (g.O.Sink.taken c.run-ran-in-Prints.new.printed) c.args.visits.now c.run-ran-in-Prints.new.visits (Rose from to) (Rose (g.O.Sink.faults c.args.out.now) (g.O.Sink.faults c.run-ran-in-Prints.new.printed)) c.args.options.now c.args.program.now c.run-ran-in-Prints.result (c.run-ran-in-Prints.ensures.said reached decides) (c.run-ran-in-Prints.ensures.visits reached decides)
-    (c.run-ran-in-Prints.ensures.said_prefix reached decides) (c.run-ran-in-Prints.ensures.said_cut reached decides) (rose_writing c.run-ran-in-Prints.result _ _ (counted_beside (is_write_fault c.run-ran-in-Prints.result) _ _ c.run-ran-in-Prints.ensures.write)))
+    (print_gives reached (g.O.Sink.taken c.args.out.now) (g.O.Sink.taken c.run-ran-in-Prints.new.printed) c.args.visits.now c.run-ran-in-Prints.new.visits (Rose from to) (Rose (g.O.Sink.faults c.args.out.now) (g.O.Sink.faults c.run-ran-in-Prints.new.printed)) c.args.options.now c.args.program.now _ _ c.run-ran-in-Prints.result
+    (c.run-ran-in-Prints.ensures.over reached decides) (c.run-ran-in-Prints.ensures.cut_off reached decides) (rose_writing c.run-ran-in-Prints.result _ _ (counted_beside (is_write_fault c.run-ran-in-Prints.result) _ _ c.run-ran-in-Prints.ensures.write)))
 
 pub returns-in-Prints-clause-write_fault : goal.returns-in-Prints-clause-write_fault
 returns-in-Prints-clause-write_fault g c =
