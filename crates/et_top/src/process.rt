@@ -4,7 +4,8 @@ ghost use Rattle.std.specs.Prelude.{◌≡◌, ◌<◌, IsTrue, IfOk, OnErr, fal
 ghost use Rattle.std.specs.Vec.Iter.{into_iter_items};
 ghost use Rattle.et_io.specs.Faults.{count_after};
 ghost use Rattle.et_io.specs.Sink.{taken_bytes};
-ghost use Rattle.et_top.specs.Process.{AnswersProcess, AnswersWords, EndsAs};
+ghost use Rattle.et_top.specs.Process.{AnswersProcess, AnswersWords, EndsAs, status_of_words};
+ghost use Rattle.et_files.specs.Refusals.{status_of};
 ghost use Rattle.et_files.specs.Status.{is_read_status, is_write_status, is_whole};
 
 use crate::top::elephant;
@@ -80,6 +81,16 @@ fn with_models<F: Files, O: Sink, E: Sink, L: Ledger>(
     Ok(elephant(alloc, words, files, out, err, models, &mut visits))
 }
 
+/// What is said of words that are not there.
+fn of_words<'a>(fault: WordsFault) -> Refusal<'a>
+    ensures { status_of result ≡ status_of_words fault }
+{
+    match fault {
+        WordsFault::NotUtf8 => Refusal::Usage,
+        WordsFault::NoMemory => Refusal::NoMemory,
+    }
+}
+
 /// All that a process does, and the status with which it ends: the top call on its words, with four models of a heap
 /// in the order of their lines, mark-sweep, semispace, generational and refcount, and a counter of visits that is
 /// dropped then.
@@ -102,8 +113,7 @@ pub fn run_elephant<F: Files, O: Sink, E: Sink>(
                 Err(_) => refuse(alloc, err, &Refusal::NoMemory),
             }
         }
-        Err(WordsFault::NotUtf8) => refuse(alloc, err, &Refusal::Usage),
-        Err(WordsFault::NoMemory) => refuse(alloc, err, &Refusal::NoMemory),
+        Err(fault) => refuse(alloc, err, &of_words(fault)),
     }
 }
 

@@ -1,4 +1,4 @@
-use Rattle.std.proofs.Common.{refl, subst}
+use Rattle.std.proofs.Common.{◌≡◌, refl, subst}
 use Rattle.std.specs.Prelude.{OnOk, OnErr}
 use Rattle.et_io.specs.Sink.{with_more, TakesPrefix}
 use Rattle.et_command.specs.Command as words
