@@ -151,7 +151,8 @@ pub fn run_process<F: Files, O: GatheringSink, E: Sink>(
     out: &mut O,
     err: &mut E,
 ) -> Status
-    ensures process { AnswersProcess F.Files O.Sink files.old files.new out.old out.new words result }
+    ensures process { AnswersProcess
+        F.Files O.Sink files.old files.new out.old out.new words result }
     ensures handed { IsTrue (is_whole result) →
         O.handed out.new ≡ option_map taken_bytes (O.taken out.new) }
 {
