@@ -4,12 +4,13 @@ use Rattle.std.specs.Prelude.{position, option_map, unwrap_or}
 use Rattle.std.proofs.lemmas.Bool.{leb-true}
 use Rattle.std.proofs.lemmas.List.{take-append-drop}
 use Rattle.std.proofs.lemmas.List.Sums.{fold-append}
+use Rattle.et_code.proofs.Keeping.{front, back}
 use Rattle.et_listing.specs.declared.entry.Entry.{Entry}
 use Rattle.et_listing.specs.declared.line.Parsed.{Parsed}
 use Rattle.et_asm.specs.Along.{along_from}
 use Rattle.et_asm.specs.Code.{Labels, size, place_behind, defines, labels_of, label_place, catch_count}
 use Rattle.et_asm.specs.Listings.{body_marks_at, listed_body_marks}
-use Rattle.et_asm.proofs.Held.{AllHold, front_holds, rest_holds}
+use Rattle.et_asm.proofs.Held.{AllHold}
 
 pub record IsWithin (entries : List Entry) (body : List Parsed) : Type 0 where
   pub code : place_behind entries body ≤ 65535
@@ -20,8 +21,8 @@ module _ (entries : List Entry) (labels : Labels) (number : ℕ) where
   unfolding along_from
   within_from before [] h w = subst (IsWithin entries) (sym (append-nil before)) w
   within_from before (p ∷ more) h w =
-      let rules = front_holds (body_marks_at entries labels number before p more) (along_from (body_marks_at entries labels number) (before ++ p ∷ []) more) h in
-      let rest = rest_holds (body_marks_at entries labels number before p more) (along_from (body_marks_at entries labels number) (before ++ p ∷ []) more) h in
+      let rules = front (body_marks_at entries labels number before p more) (along_from (body_marks_at entries labels number) (before ++ p ∷ []) more) h in
+      let rest = back (body_marks_at entries labels number before p more) (along_from (body_marks_at entries labels number) (before ++ p ∷ []) more) h in
       subst (IsWithin entries) (append_assoc before (p ∷ []) more)
       (within_from (before ++ p ∷ []) more rest (record { code = leb-true _ _ rules.1.1.1.0; handlers = leb-true _ _ rules.1.1.1.1.0 }))
 

@@ -1,6 +1,7 @@
 -- What the lines of a listing without faults keep.
 use Rattle.std.proofs.Common.{◌≡◌, ◌+◌, Bool, true, false, cond, List, [], ◌∷◌, ◌++◌, refl, sym, subst, inl, inr, append_assoc, append-nil, None}
 use Rattle.std.proofs.lemmas.Bool.{cases_Bool}
+use Rattle.et_code.proofs.Keeping.{front, back}
 use Rattle.et_base.specs.Marks.{Mark, MarksAre}
 use Rattle.et_listing.specs.declared.entry.Entry.{Entry}
 use Rattle.et_listing.specs.declared.line.Parsed.{Parsed}
@@ -20,14 +21,6 @@ all_hold (m ∷ ms) h = elim (cases_Bool m.holds) [
   | inr broken ↦ absurd (h m.place m.kind (inl (broken, refl, refl)))
 ]
 
-pub front_holds : (xs ys : List Mark) → AllHold (xs ++ ys) → AllHold xs
-front_holds [] ys h = tt
-front_holds (x ∷ xs) ys h = (h.0, front_holds xs ys h.1)
-
-pub rest_holds : (xs ys : List Mark) → AllHold (xs ++ ys) → AllHold ys
-rest_holds [] ys h = h
-rest_holds (x ∷ xs) ys h = rest_holds xs ys h.1
-
 -- a line keeps its rules, and so does the body that it opens
 pub record LineHolds (entries : List Entry) (before : List Parsed) (p : Parsed) (behind : List Parsed) : Type 0 where
   pub stands : may_stand (stage_of before) p.line ≡ true
@@ -45,14 +38,14 @@ line_holds entries before p behind h =
     let number = number_behind before in
     let own = own_marks entries number (stage_of before) (counts_fit (before ++ p ∷ [])) p in
     let outside = outside_marks entries number p behind in
-    let ours = front_holds own (cond (is_inside (stage_of before)) [] outside) h in
-    let rules = rest_holds (fault_marks number p.fault) _ ours in
+    let ours = front own (cond (is_inside (stage_of before)) [] outside) h in
+    let rules = back (fault_marks number p.fault) _ ours in
     record {
       stands = rules.0;
       fits = rules.1.0;
       few = rules.1.1.0;
       body = λ out opening.
-          let all : AllHold outside = subst (λ (b : Bool). AllHold (cond b [] outside)) out (rest_holds own (cond (is_inside (stage_of before)) [] outside) h) in
+          let all : AllHold outside = subst (λ (b : Bool). AllHold (cond b [] outside)) out (back own (cond (is_inside (stage_of before)) [] outside) h) in
           subst (λ (b : Bool). AllHold (cond b (listed_body_marks entries (number + 1) (lines_of_body behind)) [])) opening all.1;
     }
 
@@ -64,8 +57,8 @@ lines_from entries before (p ∷ more) h =
     let others = along_from (line_marks entries) (before ++ p ∷ []) more in
     let end = end_mark (before ++ p ∷ more) ∷ [] in
     let split = subst AllHold (append_assoc marks others end) h in (
-      line_holds entries before p more (front_holds marks (others ++ end) split),
-      lines_from entries (before ++ p ∷ []) more (subst (λ (ps : List Parsed). AllHold (others ++ end_mark ps ∷ [])) (sym (append_assoc before (p ∷ []) more)) (rest_holds marks (others ++ end) split)),
+      line_holds entries before p more (front marks (others ++ end) split),
+      lines_from entries (before ++ p ∷ []) more (subst (λ (ps : List Parsed). AllHold (others ++ end_mark ps ∷ [])) (sym (append_assoc before (p ∷ []) more)) (back marks (others ++ end) split)),
     )
 
 pub lines_hold : (entries : List Entry) (lines : List Parsed) → AllHold (along_from (line_marks entries) [] lines ++ end_mark lines ∷ []) → LinesHold entries [] lines

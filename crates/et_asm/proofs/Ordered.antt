@@ -3,6 +3,7 @@ use Rattle.std.proofs.Common.{◌≡◌, ℕ, Bool, true, false, cond, ◌||◌,
 use Rattle.std.specs.List.{flat_map, list_any}
 use Rattle.std.proofs.lemmas.List.Sums.{fold-append}
 use Rattle.std.proofs.lemmas.Grind.{flat_map-append}
+use Rattle.std.proofs.lemmas.Bool.{or_right, or_cases, or_left}
 use Rattle.et_listing.specs.declared.entry.Entry.{Entry}
 use Rattle.et_listing.specs.declared.line.Line.{Line}
 use Rattle.et_listing.specs.declared.line.Line.TheVariants as line
@@ -15,7 +16,7 @@ use Rattle.et_asm.specs.Pool.{same_entry, parts, header_entries, body_uses, outs
 use Rattle.et_asm.proofs.Once.{laws}
 use Rattle.et_asm.proofs.Sets.{sets}
 use Rattle.et_asm.proofs.Slots.{any_append, one_entry}
-use Rattle.et_asm.proofs.Within.{Has, or_cases, there, or_first, or_last, front, front_then}
+use Rattle.et_asm.proofs.Within.{Has, there, front, front_then}
 use Rattle.et_asm.proofs.Held.{LinesHold}
 
 pub stage_push : (before : List Parsed) (p : Parsed) → stage_of (before ++ p ∷ []) ≡ step (stage_of before) p.line
@@ -124,13 +125,13 @@ has_moved xs ys (e ∷ es) f h = (f e h.0, has_moved xs ys es f h.1)
 
 own_part : (e : Entry) → Has (parts e) e
 own_part e =
-    ap (list_any (same_entry e)) (front_then e) ∙ (any_append (same_entry e) (front e) (e ∷ []) ∙ or_last (list_any (same_entry e) (front e)) (list_any (same_entry e) (e ∷ [])) (ap (λ b. b || false) (laws.refl e)))
+    ap (list_any (same_entry e)) (front_then e) ∙ (any_append (same_entry e) (front e) (e ∷ []) ∙ or_right (list_any (same_entry e) (front e)) (list_any (same_entry e) (e ∷ [])) (ap (λ b. b || false) (laws.refl e)))
 
 has_used : (us : List Entry) → AllHas (flat_map parts us) us
 has_used [] = tt
 has_used (u ∷ us) = (
-  any_append (same_entry u) (parts u) (flat_map parts us) ∙ or_first (list_any (same_entry u) (parts u)) (list_any (same_entry u) (flat_map parts us)) (own_part u),
-  has_moved (flat_map parts us) (parts u ++ flat_map parts us) us (λ e h. any_append (same_entry e) (parts u) (flat_map parts us) ∙ or_last (list_any (same_entry e) (parts u)) (list_any (same_entry e) (flat_map parts us)) h) (has_used us),
+  any_append (same_entry u) (parts u) (flat_map parts us) ∙ or_left (list_any (same_entry u) (parts u)) (list_any (same_entry u) (flat_map parts us)) (own_part u),
+  has_moved (flat_map parts us) (parts u ++ flat_map parts us) us (λ e h. any_append (same_entry e) (parts u) (flat_map parts us) ∙ or_right (list_any (same_entry e) (parts u)) (list_any (same_entry e) (flat_map parts us)) h) (has_used us),
 )
 
 pool_used : (lines : List Parsed) → AllHas (pool lines) (uses lines)
@@ -140,8 +141,8 @@ used_has : (us : List Entry) (e : Entry) → Has us e → Has (flat_map parts us
 used_has [] e h = h
 used_has (u ∷ us) e h =
     any_append (same_entry e) (parts u) (flat_map parts us) ∙ (elim (or_cases (same_entry e u) (list_any (same_entry e) us) h) [
-      | inl here ↦ or_first (list_any (same_entry e) (parts u)) (list_any (same_entry e) (flat_map parts us)) (there (parts u) e u (one_entry e u here) (own_part u))
-      | inr later ↦ or_last (list_any (same_entry e) (parts u)) (list_any (same_entry e) (flat_map parts us)) (used_has us e later)
+      | inl here ↦ or_left (list_any (same_entry e) (parts u)) (list_any (same_entry e) (flat_map parts us)) (there (parts u) e u (one_entry e u here) (own_part u))
+      | inr later ↦ or_right (list_any (same_entry e) (parts u)) (list_any (same_entry e) (flat_map parts us)) (used_has us e later)
     ])
 
 -- the pool has each entry that lines name

@@ -1,17 +1,16 @@
 -- A pool has each used entry once.
-use Rattle.std.proofs.Common.{◌≡◌, ℕ, zero, suc, ◌+◌, ◌<◌, ◌≤◌, Bool, true, false, not, cond, ◌||◌, List, [], ◌∷◌, length, get_or, take, filter, Option, Some, None, refl, sym, ap, ◌∙◌, arith, inl, inr, true≢false}
+use Rattle.std.proofs.Common.{◌≡◌, ℕ, zero, suc, ◌<◌, Bool, true, false, not, cond, ◌||◌, List, [], ◌∷◌, length, get_or, take, filter, Some, None, refl, sym, ap, ◌∙◌, arith, inl, inr, true≢false}
 use Rattle.std.specs.Prelude.{All, AllPairs, nat_lt, position}
 use Rattle.std.specs.List.{list_any, position_or_len}
 use Rattle.std.specs.Option.{option_map_or}
-use Rattle.std.proofs.lemmas.Bool.{cases_Bool, lt-ltb}
+use Rattle.std.proofs.lemmas.Bool.{cases_Bool, lt-ltb, not-true}
 use Rattle.std.proofs.lemmas.List.Elements.{filter_passes}
 use Rattle.std.proofs.lemmas.List.Kept.{AllPairs-filter}
 use Rattle.std.proofs.lemmas.List.Sums.{position_or_len_is}
 use Rattle.et_listing.specs.declared.entry.Entry.{Entry}
-use Rattle.et_listing.specs.declared.line.Parsed.{Parsed}
 use Rattle.std.specs.List.{flat_map}
 use Rattle.et_asm.specs.Pool.{same_entry, parts, each_once, uses, pool, index_behind, entry_index}
-use Rattle.et_asm.specs.Laws.{IsSetOf, PoolsAreSets, IndicesName}
+use Rattle.et_asm.specs.Laws.{PoolsAreSets, IndicesName}
 use Rattle.et_asm.proofs.Once.{laws}
 
 abbrev Differ : Entry → Entry → Type 0
@@ -20,15 +19,11 @@ Differ a b = same_entry a b ≡ false
 abbrev other : Entry → Entry → Bool
 other x y = not (same_entry x y)
 
-not_true : (b : Bool) → not b ≡ true → b ≡ false
-not_true false h = refl
-not_true true h = absurd (true≢false (sym h))
-
 -- ONCE
 
 apart_cons : (x : Entry) (ys : List Entry) → All (λ y. other x y ≡ true) ys → AllPairs Differ ys → AllPairs Differ (x ∷ ys)
 apart_cons x ys others apart zero zero d lt small = absurd (omega arith)
-apart_cons x ys others apart zero (suc j) d lt small = not_true (same_entry x (get_or ys j d)) (others j d (omega arith))
+apart_cons x ys others apart zero (suc j) d lt small = not-true (same_entry x (get_or ys j d)) (others j d (omega arith))
 apart_cons x ys others apart (suc i) zero d lt small = absurd (omega arith)
 apart_cons x ys others apart (suc i) (suc j) d lt small = apart i j d (omega arith) (omega arith)
 

@@ -9,6 +9,7 @@ use Rattle.std.proofs.lemmas.Bool.Decides.{Decides-int_eq}
 use Rattle.std.proofs.lemmas.List.{get_or-append-add}
 use Rattle.std.proofs.lemmas.List.Sums.{sum_by-cons}
 use Rattle.std.proofs.lemmas.Grind.{flat_map-append}
+use Rattle.et_base.proofs.Tests.{and_first, and_second}
 use Rattle.et_pool.specs.Entries.{Item, slots_of_item}
 use Rattle.et_pool.specs.Looks.{slot_bytes, slot_at, named_by, text_of_slot}
 use Rattle.et_pool.specs.declared.tags.TheConstants.{CLASS, STRING}
@@ -90,24 +91,16 @@ spelled lines =
 
 -- LOOK-UPS
 
-pub and_left : (a b : Bool) → (a && b) ≡ true → a ≡ true
-and_left true b h = refl
-and_left false b h = h
-
-pub and_right : (a b : Bool) → (a && b) ≡ true → b ≡ true
-and_right true b h = h
-and_right false b h = absurd (true≢false (sym h))
-
 pub one_text : (a b : List ℕ) → same_word a b ≡ true → a ≡ b
 one_text a b h = same_text a b (sym h)
 
 one_pair : (a b c d : List ℕ) → (same_word a c && same_word b d) ≡ true → (a ≡ c) × (b ≡ d)
-one_pair a b c d h = (one_text a c (and_left (same_word a c) (same_word b d) h), one_text b d (and_right (same_word a c) (same_word b d) h))
+one_pair a b c d h = (one_text a c (and_first (same_word a c) (same_word b d) h), one_text b d (and_second (same_word a c) (same_word b d) h))
 
 one_member : (make : List ℕ → List ℕ → List ℕ → Entry) (a b c d e f : List ℕ) → (same_word a d && (same_word b e && same_word c f)) ≡ true → make a b c ≡ make d e f
 one_member make a b c d e f h =
-    let first = one_text a d (and_left (same_word a d) (same_word b e && same_word c f) h) in
-    let others = one_pair b c e f (and_right (same_word a d) (same_word b e && same_word c f) h) in
+    let first = one_text a d (and_first (same_word a d) (same_word b e && same_word c f) h) in
+    let others = one_pair b c e f (and_second (same_word a d) (same_word b e && same_word c f) h) in
     ap (λ x. make x b c) first ∙ (ap (λ x. make d x c) others.0 ∙ ap (make d e) others.1)
 
 -- entries that are the same are one

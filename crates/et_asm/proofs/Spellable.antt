@@ -5,11 +5,12 @@ use Rattle.std.specs.List.{flat_map, list_all}
 use Rattle.std.specs.Int.{w32, w64, cast_unsigned}
 use Rattle.std.proofs.lemmas.Bool.{leb-true}
 use Rattle.std.proofs.lemmas.List.Elements.{All-nil, All-cons, All-append}
+use Rattle.et_base.proofs.Tests.{and_first, and_second}
 use Rattle.et_pool.specs.Entries.{Item, slots_of}
 use Rattle.et_pool.specs.Looks.{slot_bytes}
 use Rattle.et_pool.specs.Spelling.{IsEntry}
 use Rattle.et_pool.proofs.Spelled.{Fits, pool_stands}
-use Rattle.et_class.specs.Layout.{AttributeOf, MemberOf, ClassOf}
+use Rattle.et_class.specs.Layout.{AttributeOf, ClassOf}
 use Rattle.et_class.specs.Layout as class
 use Rattle.et_class.specs.Reading.{IsRead}
 use Rattle.et_class.specs.Spelling.{IsAttribute, IsCounted, IsMember, IsIndex, CanBeSpelled}
@@ -27,7 +28,7 @@ use Rattle.et_asm.specs.Order.{opens, lines_of_body, stage_of, is_inside}
 use Rattle.et_asm.specs.Pool.{pool, index_behind, entry_index}
 use Rattle.et_asm.specs.Spelled.{pool_item_of, entry_slots}
 use Rattle.et_asm.specs.Listings.{is_short_text, is_interface_line, is_field_line, is_method_line, count, counts_fit, number_behind, listed_class_bytes}
-use Rattle.et_asm.proofs.Slots.{and_left, and_right, slots_length}
+use Rattle.et_asm.proofs.Slots.{slots_length}
 use Rattle.et_asm.proofs.Within.{pool_within, pool_short, pool_numbers, index_within}
 use Rattle.et_asm.proofs.Used.{uses_fit, uses_numbers}
 use Rattle.et_asm.proofs.Held.{LineHolds, LinesHold}
@@ -63,8 +64,8 @@ module _ (entries : List Entry) (low : index_behind entries ≤ 65535) where
   items_fit : (es : List Entry) → list_all is_short_text es ≡ true → list_all is_number es ≡ true → All Fits (map (pool_item_of entries) es)
   items_fit [] short fit = All-nil Fits
   items_fit (e ∷ es) short fit =
-      All-cons Fits (pool_item_of entries e) (map (pool_item_of entries) es) (item_fits e (and_left (is_short_text e) (list_all is_short_text es) short) (and_left (is_number e) (list_all is_number es) fit))
-      (items_fit es (and_right (is_short_text e) (list_all is_short_text es) short) (and_right (is_number e) (list_all is_number es) fit))
+      All-cons Fits (pool_item_of entries e) (map (pool_item_of entries) es) (item_fits e (and_first (is_short_text e) (list_all is_short_text es) short) (and_first (is_number e) (list_all is_number es) fit))
+      (items_fit es (and_second (is_short_text e) (list_all is_short_text es) short) (and_second (is_number e) (list_all is_number es) fit))
 
   -- MEMBERS
 
@@ -132,11 +133,11 @@ record Counts (lines : List Parsed) : Type 0 where
 counts : (entries : List Entry) (lines : List Parsed) → LinesHold entries [] lines → Counts lines
 counts entries lines h =
     let all = counts_from entries [] lines h refl in
-    let two = and_left (nat_le (count is_interface_line lines) 65535 && nat_le (count is_field_line lines) 65535) (nat_le (count is_method_line lines) 65535) all in
+    let two = and_first (nat_le (count is_interface_line lines) 65535 && nat_le (count is_field_line lines) 65535) (nat_le (count is_method_line lines) 65535) all in
     record {
-      interfaces = leb-true _ _ (and_left (nat_le (count is_interface_line lines) 65535) (nat_le (count is_field_line lines) 65535) two);
-      fields = leb-true _ _ (and_right (nat_le (count is_interface_line lines) 65535) (nat_le (count is_field_line lines) 65535) two);
-      methods = leb-true _ _ (and_right (nat_le (count is_interface_line lines) 65535 && nat_le (count is_field_line lines) 65535) (nat_le (count is_method_line lines) 65535) all);
+      interfaces = leb-true _ _ (and_first (nat_le (count is_interface_line lines) 65535) (nat_le (count is_field_line lines) 65535) two);
+      fields = leb-true _ _ (and_second (nat_le (count is_interface_line lines) 65535) (nat_le (count is_field_line lines) 65535) two);
+      methods = leb-true _ _ (and_second (nat_le (count is_interface_line lines) 65535 && nat_le (count is_field_line lines) 65535) (nat_le (count is_method_line lines) 65535) all);
     }
 
 -- THE CLASS

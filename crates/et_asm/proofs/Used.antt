@@ -2,6 +2,7 @@
 use Rattle.std.proofs.Common.{◌≡◌, ℕ, Bool, true, false, cond, ◌&&◌, Option, Some, None, List, [], ◌∷◌, ◌++◌, refl, sym, ap, ◌∙◌}
 use Rattle.std.specs.List.{flat_map, list_all}
 use Rattle.std.proofs.lemmas.List.Folds.{list_all-append}
+use Rattle.et_base.proofs.Tests.{and_first, and_second}
 use Rattle.et_listing.specs.declared.entry.Entry.{Entry}
 use Rattle.et_listing.specs.declared.entry.Entry.TheVariants as entry
 use Rattle.et_listing.specs.declared.instruction.Instruction.{Instruction}
@@ -14,7 +15,6 @@ use Rattle.et_asm.specs.Along.{along_from}
 use Rattle.et_asm.specs.Order.{opens, is_end_line, lines_of_body, stage_of, is_inside}
 use Rattle.et_asm.specs.Pool.{operand_entries, constant_entries, attribute_entries, header_entries, code_entries, catch_entries, body_uses, outside_uses, line_uses, uses}
 use Rattle.et_asm.specs.Listings.{entry_fits, line_entries, line_fits}
-use Rattle.et_asm.proofs.Slots.{and_left, and_right}
 use Rattle.et_asm.proofs.Held.{LinesHold}
 
 module _ (t : Entry → Bool) where
@@ -28,17 +28,17 @@ module _ (t : Entry → Bool) where
   both xs ys h k = list_all-append t xs ys ∙ (ap (λ b. b && list_all t ys) h ∙ k)
 
   front : (xs ys : List Entry) → Fit (xs ++ ys) → Fit xs
-  front xs ys h = and_left (list_all t xs) (list_all t ys) (sym (list_all-append t xs ys) ∙ h)
+  front xs ys h = and_first (list_all t xs) (list_all t ys) (sym (list_all-append t xs ys) ∙ h)
 
   rest : (xs ys : List Entry) → Fit (xs ++ ys) → Fit ys
-  rest xs ys h = and_right (list_all t xs) (list_all t ys) (sym (list_all-append t xs ys) ∙ h)
+  rest xs ys h = and_second (list_all t xs) (list_all t ys) (sym (list_all-append t xs ys) ∙ h)
 
   body_fits : (more : List Parsed) → AllFit more → AllFit (lines_of_body more)
   body_fits [] h = refl
   body_fits (p ∷ more) h =
       by (is_end_line p.line)
-      (ap (λ b. b && list_all (λ q. list_all t (line_entries q.line)) (lines_of_body more)) (and_left (list_all t (line_entries p.line)) (list_all (λ q. list_all t (line_entries q.line)) more) h)
-      ∙ body_fits more (and_right (list_all t (line_entries p.line)) (list_all (λ q. list_all t (line_entries q.line)) more) h))
+      (ap (λ b. b && list_all (λ q. list_all t (line_entries q.line)) (lines_of_body more)) (and_first (list_all t (line_entries p.line)) (list_all (λ q. list_all t (line_entries q.line)) more) h)
+      ∙ body_fits more (and_second (list_all t (line_entries p.line)) (list_all (λ q. list_all t (line_entries q.line)) more) h))
     where
       by : (b : Bool) → AllFit (p ∷ lines_of_body more) → AllFit (cond b [] (p ∷ lines_of_body more))
       by true k = refl
@@ -47,8 +47,8 @@ module _ (t : Entry → Bool) where
   of_lines : (f : Line → List Entry) → ((l : Line) → list_all t (line_entries l) ≡ true → Fit (f l)) → (body : List Parsed) → AllFit body → Fit (flat_map (λ p. f p.line) body)
   of_lines f each [] h = refl
   of_lines f each (p ∷ body) h =
-      both (f p.line) (flat_map (λ q. f q.line) body) (each p.line (and_left (list_all t (line_entries p.line)) (list_all (λ q. list_all t (line_entries q.line)) body) h))
-      (of_lines f each body (and_right (list_all t (line_entries p.line)) (list_all (λ q. list_all t (line_entries q.line)) body) h))
+      both (f p.line) (flat_map (λ q. f q.line) body) (each p.line (and_first (list_all t (line_entries p.line)) (list_all (λ q. list_all t (line_entries q.line)) body) h))
+      (of_lines f each body (and_second (list_all t (line_entries p.line)) (list_all (λ q. list_all t (line_entries q.line)) body) h))
 
   in_header : (l : Line) → list_all t (line_entries l) ≡ true → Fit (header_entries l)
   in_header l h = front (header_entries l) (code_entries l ++ catch_entries l) h
@@ -74,8 +74,8 @@ module _ (t : Entry → Bool) where
   unfolding along_from
   uses_from before [] h = refl
   uses_from before (p ∷ more) h =
-      let here = and_left (list_all t (line_entries p.line)) (list_all (λ q. list_all t (line_entries q.line)) more) h in
-      let behind = and_right (list_all t (line_entries p.line)) (list_all (λ q. list_all t (line_entries q.line)) more) h in
+      let here = and_first (list_all t (line_entries p.line)) (list_all (λ q. list_all t (line_entries q.line)) more) h in
+      let behind = and_second (list_all t (line_entries p.line)) (list_all (λ q. list_all t (line_entries q.line)) more) h in
       both (line_uses before p more) (along_from line_uses (before ++ p ∷ []) more)
       (outside (is_inside (stage_of before)) (outside_uses p.line more) (both (header_entries p.line) (cond (opens p.line) (body_uses (lines_of_body more)) []) (in_header p.line here) (maybe (opens p.line) (body_uses (lines_of_body more)) (of_body (lines_of_body more) (body_fits more behind)))))
       (uses_from (before ++ p ∷ []) more behind)

@@ -4,10 +4,12 @@ use Rattle.std.specs.Prelude.{nat_le, sum_by, position}
 use Rattle.std.specs.Option.{option_map_or}
 use Rattle.std.specs.List.{flat_map, list_any, list_all}
 use Rattle.std.proofs.Math.Seq.{get_or-append_seam}
-use Rattle.std.proofs.lemmas.Bool.{cases_Bool, leb-true}
+use Rattle.std.proofs.lemmas.Bool.{cases_Bool, leb-true, or_right, or_cases, or_left}
 use Rattle.std.proofs.lemmas.List.{take_at, take-append-drop}
 use Rattle.std.proofs.lemmas.List.Folds.{list_all-append}
 use Rattle.std.proofs.lemmas.List.Sums.{fold-append, sum_by-append}
+use mathlib.Core.Bool.{or_assoc}
+use Rattle.et_base.proofs.Tests.{and_first, and_second}
 use Rattle.indexmap.specs.IndexSet.{insert_key, insert_all}
 use Rattle.et_listing.specs.declared.entry.Entry.{Entry}
 use Rattle.et_listing.specs.declared.entry.Entry.TheVariants.{Utf8, Integer, Long, Class, Text, NameAndType, Field, Method, InterfaceMethod}
@@ -19,7 +21,7 @@ use Rattle.et_asm.specs.Listings.{is_short_text, entry_fits}
 use Rattle.et_asm.specs.Symbols.{entry_added}
 use Rattle.et_asm.proofs.Once.{laws, lacks, gather, pool_once}
 use Rattle.et_asm.proofs.Sets.{named}
-use Rattle.et_asm.proofs.Slots.{and_left, and_right, one_entry, class_parts, text_parts, any_append}
+use Rattle.et_asm.proofs.Slots.{one_entry, class_parts, text_parts, any_append}
 
 -- an entry is one of these
 abbrev pub Has : List Entry → Entry → Type 0
@@ -36,18 +38,14 @@ only_one q x h = elim (one_of q x false h) [ inl e ↦ e | inr f ↦ absurd (tru
 
 -- THE PARTS OF A PART ARE PARTS
 
-pub or_last : (b c : Bool) → c ≡ true → (b || c) ≡ true
-or_last true c h = refl
-or_last false c h = h
-
 same_self : (a : List ℕ) → same_word a a ≡ true
 same_self a = laws.refl (Utf8 a)
 
 name_among : (c d e : List ℕ) → (same_word d c || (same_word d d || (same_word d e || false))) ≡ true
-name_among c d e = or_last (same_word d c) _ (ap (λ b. b || (same_word d e || false)) (same_self d))
+name_among c d e = or_right (same_word d c) _ (ap (λ b. b || (same_word d e || false)) (same_self d))
 
 type_among : (c d e : List ℕ) → (same_word e c || (same_word e d || (same_word e e || false))) ≡ true
-type_among c d e = or_last (same_word e c) _ (or_last (same_word e d) _ (ap (λ b. b || false) (same_self e)))
+type_among c d e = or_right (same_word e c) _ (or_right (same_word e d) _ (ap (λ b. b || false) (same_self e)))
 
 names_are : (a b c d : List ℕ) → NameAndType a b ≡ NameAndType c d → a ≡ c
 names_are a b c d e = cc
@@ -63,7 +61,7 @@ name_parts a b (InterfaceMethod c d e) h = subst (λ (x : List ℕ). (same_word 
 name_parts a b e h = absurd (true≢false (sym h))
 
 type_parts : (a b : List ℕ) (e : Entry) → Has (parts e) (NameAndType a b) → Has (parts e) (Utf8 b)
-type_parts a b (NameAndType c d) h = subst (λ (x : List ℕ). (same_word x c || (same_word x d || false)) ≡ true) (sym (types_are a b c d (only_one (NameAndType a b) (NameAndType c d) h))) (or_last (same_word d c) _ (ap (λ t. t || false) (same_self d)))
+type_parts a b (NameAndType c d) h = subst (λ (x : List ℕ). (same_word x c || (same_word x d || false)) ≡ true) (sym (types_are a b c d (only_one (NameAndType a b) (NameAndType c d) h))) (or_right (same_word d c) _ (ap (λ t. t || false) (same_self d)))
 type_parts a b (Field c d e) h = subst (λ (x : List ℕ). (same_word x c || (same_word x d || (same_word x e || false))) ≡ true) (sym (types_are a b d e (only_one (NameAndType a b) (NameAndType d e) h))) (type_among c d e)
 type_parts a b (Method c d e) h = subst (λ (x : List ℕ). (same_word x c || (same_word x d || (same_word x e || false))) ≡ true) (sym (types_are a b d e (only_one (NameAndType a b) (NameAndType d e) h))) (type_among c d e)
 type_parts a b (InterfaceMethod c d e) h = subst (λ (x : List ℕ). (same_word x c || (same_word x d || (same_word x e || false))) ≡ true) (sym (types_are a b d e (only_one (NameAndType a b) (NameAndType d e) h))) (type_among c d e)
@@ -167,10 +165,6 @@ key_has ks x q = elim (cases_Bool (list_any (same_entry x) ks)) [
     old true e had = let all = there ks q x (one_entry q x e) had in all ∙ sym (ap (λ b. b || same_entry q x) all)
     old false e had = or_false (list_any (same_entry q) ks) ∙ ap (λ b. list_any (same_entry q) ks || b) (sym e)
 
-or_assoc : (a b c : Bool) → ((a || b) || c) ≡ (a || (b || c))
-or_assoc true b c = refl
-or_assoc false b c = refl
-
 or_nothing : (b : Bool) → b ≡ (b || false)
 or_nothing true = refl
 or_nothing false = refl
@@ -183,20 +177,12 @@ all_has ks (x ∷ xs) q = all_has (insert_key same_entry ks x) xs q ∙ (ap (λ 
 abbrev Closed : List Entry → Type 0
 Closed ks = (d q : Entry) → Has ks d → Has (parts d) q → Has ks q
 
-pub or_cases : (a b : Bool) → (a || b) ≡ true → (a ≡ true) ⊎ (b ≡ true)
-or_cases true b h = inl refl
-or_cases false b h = inr h
-
-pub or_first : (a b : Bool) → a ≡ true → (a || b) ≡ true
-or_first true b h = refl
-or_first false b h = absurd (true≢false (sym h))
-
 closed_more : (ks : List Entry) (e : Entry) → Closed ks → Closed (insert_all same_entry ks (parts e))
 closed_more ks e closed d q h k =
     let now : (list_any (same_entry d) ks || list_any (same_entry d) (parts e)) ≡ true = sym (all_has ks (parts e) d) ∙ h in
     all_has ks (parts e) q ∙ (elim (or_cases (list_any (same_entry d) ks) (list_any (same_entry d) (parts e)) now) [
-      | inl before ↦ or_first (list_any (same_entry q) ks) (list_any (same_entry q) (parts e)) (closed d q before k)
-      | inr part ↦ or_last (list_any (same_entry q) ks) (list_any (same_entry q) (parts e)) (parts_closed e d q part k)
+      | inl before ↦ or_left (list_any (same_entry q) ks) (list_any (same_entry q) (parts e)) (closed d q before k)
+      | inr part ↦ or_right (list_any (same_entry q) ks) (list_any (same_entry q) (parts e)) (parts_closed e d q part k)
     ])
 
 -- ONE USE MORE
@@ -204,8 +190,8 @@ closed_more ks e closed d q h k =
 no_more_keys : (ks xs : List Entry) → ((q : Entry) → Has xs q → Has ks q) → insert_all same_entry ks xs ≡ ks
 no_more_keys ks [] all = refl
 no_more_keys ks (x ∷ xs) all =
-    let had : Has ks x = all x (or_first (same_entry x x) (list_any (same_entry x) xs) (laws.refl x)) in
-    ap (λ b. insert_all same_entry (cond b ks (ks ++ x ∷ [])) xs) had ∙ no_more_keys ks xs (λ q h. all q (or_last (same_entry q x) (list_any (same_entry q) xs) h))
+    let had : Has ks x = all x (or_left (same_entry x x) (list_any (same_entry x) xs) (laws.refl x)) in
+    ap (λ b. insert_all same_entry (cond b ks (ks ++ x ∷ [])) xs) had ∙ no_more_keys ks xs (λ q h. all q (or_right (same_entry q x) (list_any (same_entry q) xs) h))
 
 -- nothing is added, or the entry itself comes last
 abbrev Comes : List Entry → Entry → Type 0
@@ -236,9 +222,9 @@ within lines [] ks closed is fit le = omega (arith, ap index_behind is)
 within lines (u ∷ us) ks closed is fit le =
     let now = insert_all same_entry ks (parts u) in
     let then : pool lines ≡ insert_all same_entry now (flat_map parts us) = is ∙ fold-append (insert_key same_entry) ks (parts u) (flat_map parts us) in
-    let rest = and_right (entry_fits (pool lines) u) (list_all (entry_fits (pool lines)) us) fit in
-    let here = and_left (entry_fits (pool lines) u) (list_all (entry_fits (pool lines)) us) fit in
-    let low : entry_index (pool lines) u + width u ≤ 65535 = leb-true _ _ (and_right (list_all is_short_text (parts u)) (nat_le (entry_index (pool lines) u + width u) 65535) here) in
+    let rest = and_second (entry_fits (pool lines) u) (list_all (entry_fits (pool lines)) us) fit in
+    let here = and_first (entry_fits (pool lines) u) (list_all (entry_fits (pool lines)) us) fit in
+    let low : entry_index (pool lines) u + width u ≤ 65535 = leb-true _ _ (and_second (list_all is_short_text (parts u)) (nat_le (entry_index (pool lines) u + width u) 65535) here) in
     within lines us now (closed_more ks u closed) then rest (elim (comes ks u closed) [
       | inl same_word ↦ omega (arith, ap index_behind same_word)
       | inr last ↦
@@ -260,9 +246,9 @@ pool_within lines fit = within lines (uses lines) [] (λ d q h k. absurd (true�
 all_filter : (p q : Entry → Bool) (xs : List Entry) → list_all p xs ≡ true → list_all p (filter q xs) ≡ true
 all_filter p q [] h = refl
 all_filter p q (x ∷ xs) h =
-    let rest = all_filter p q xs (and_right (p x) (list_all p xs) h) in
+    let rest = all_filter p q xs (and_second (p x) (list_all p xs) h) in
     elim (cases_Bool (q x)) [
-      | inl kept ↦ ap (λ b. list_all p (cond b (x ∷ filter q xs) (filter q xs))) kept ∙ (ap (λ b. b && list_all p (filter q xs)) (and_left (p x) (list_all p xs) h) ∙ rest)
+      | inl kept ↦ ap (λ b. list_all p (cond b (x ∷ filter q xs) (filter q xs))) kept ∙ (ap (λ b. b && list_all p (filter q xs)) (and_first (p x) (list_all p xs) h) ∙ rest)
       | inr gone ↦ ap (λ b. list_all p (cond b (x ∷ filter q xs) (filter q xs))) gone ∙ rest
     ]
 
@@ -270,14 +256,14 @@ all_once : (p : Entry → Bool) (xs : List Entry) → list_all p xs ≡ true →
 unfolding each_once
 all_once p [] h = refl
 all_once p (x ∷ xs) h =
-    ap (λ b. b && list_all p (filter (λ other. not (same_entry x other)) (each_once xs))) (and_left (p x) (list_all p xs) h)
-    ∙ all_filter p (λ other. not (same_entry x other)) (each_once xs) (all_once p xs (and_right (p x) (list_all p xs) h))
+    ap (λ b. b && list_all p (filter (λ other. not (same_entry x other)) (each_once xs))) (and_first (p x) (list_all p xs) h)
+    ∙ all_filter p (λ other. not (same_entry x other)) (each_once xs) (all_once p xs (and_second (p x) (list_all p xs) h))
 
 all_parts : (entries us : List Entry) → list_all (entry_fits entries) us ≡ true → list_all is_short_text (flat_map parts us) ≡ true
 all_parts entries [] h = refl
 all_parts entries (u ∷ us) h =
-    let here = and_left (list_all is_short_text (parts u)) (nat_le (entry_index entries u + width u) 65535) (and_left (entry_fits entries u) (list_all (entry_fits entries) us) h) in
-    list_all-append is_short_text (parts u) (flat_map parts us) ∙ (ap (λ b. b && list_all is_short_text (flat_map parts us)) here ∙ all_parts entries us (and_right (entry_fits entries u) (list_all (entry_fits entries) us) h))
+    let here = and_first (list_all is_short_text (parts u)) (nat_le (entry_index entries u + width u) 65535) (and_first (entry_fits entries u) (list_all (entry_fits entries) us) h) in
+    list_all-append is_short_text (parts u) (flat_map parts us) ∙ (ap (λ b. b && list_all is_short_text (flat_map parts us)) here ∙ all_parts entries us (and_second (entry_fits entries u) (list_all (entry_fits entries) us) h))
 
 -- the texts of the pool are not too long
 pub pool_short : (lines : List Parsed) → list_all (entry_fits (pool lines)) (uses lines) ≡ true → list_all is_short_text (pool lines) ≡ true
@@ -302,7 +288,7 @@ numbers_parts : (us : List Entry) → list_all is_number us ≡ true → list_al
 numbers_parts [] h = refl
 numbers_parts (u ∷ us) h =
     list_all-append is_number (parts u) (flat_map parts us)
-    ∙ (ap (λ b. b && list_all is_number (flat_map parts us)) (own_number u (and_left (is_number u) (list_all is_number us) h)) ∙ numbers_parts us (and_right (is_number u) (list_all is_number us) h))
+    ∙ (ap (λ b. b && list_all is_number (flat_map parts us)) (own_number u (and_first (is_number u) (list_all is_number us) h)) ∙ numbers_parts us (and_second (is_number u) (list_all is_number us) h))
   where
     own_number : (e : Entry) → is_number e ≡ true → list_all is_number (parts e) ≡ true
     own_number (Integer value) k = ap (λ b. b && true) k

@@ -1,6 +1,7 @@
 -- The first broken rule is one, and the fold finds it.
 use Rattle.std.proofs.Common.{◌≡◌, ℕ, Bool, true, false, cond, List, [], ◌∷◌, ◌++◌, Option, Some, None, refl, sym, ap, subst, ◌∙◌, arith, ◌⊎◌, inl, inr}
 use Rattle.std.proofs.lemmas.Bool.{cases_lt, ltb-true, ltb-false}
+use Rattle.std.proofs.lemmas.Option.{same_Some, none-some}
 use Rattle.et_base.specs.Marks.{Mark, Breaks, IsUpTo, MarksAre, IsTheOne, is_mark_before, marked, first_from}
 
 -- what was found before, or is broken among these
@@ -46,13 +47,7 @@ UpTo x y = IsUpTo x.0 x.1 y.0 y.1
 self : (x : ℕ × ℕ) → UpTo x x
 self x = inr (refl, omega arith)
 
-some_is : (x y : ℕ × ℕ) → Some x ≡ Some y → x ≡ y
-some_is x y e = cc
-
-none_some : (x : ℕ × ℕ) → None ≡ Some x → ⊥
-none_some x e = cc
-
-true_false : true ≡ false → ⊥
+pub true_false : true ≡ false → ⊥
 true_false e = cc
 
 -- the earlier of two is one of them, and up to both
@@ -61,13 +56,13 @@ pick true x y e = (x, refl, self x, before_true x.0 x.1 y.0 y.1 e)
 pick false x y e = (y, refl, before_false x.0 x.1 y.0 y.1 e, self y)
 
 either : (b : Bool) (x y z : ℕ × ℕ) → cond b (Some x) (Some y) ≡ Some z → (x ≡ z) ⊎ (y ≡ z)
-either true x y z e = inl (some_is x z e)
-either false x y z e = inr (some_is y z e)
+either true x y z e = inl (same_Some x z e)
+either false x y z e = inr (same_Some y z e)
 
 -- the first so far, behind a mark, is an old one or that mark's
 from_marked : (acc : Option (ℕ × ℕ)) (place kind : ℕ) (holds : Bool) (z : ℕ × ℕ) → marked acc (record { place = place; kind = kind; holds = holds }) ≡ Some z → (acc ≡ Some z) ⊎ ((holds ≡ false) × (place ≡ z.0) × (kind ≡ z.1))
 from_marked acc place kind true z e = inl e
-from_marked None place kind false z e = let same = some_is (place, kind) z e in inr (refl, ap (λ (x : ℕ × ℕ). x.0) same, ap (λ (x : ℕ × ℕ). x.1) same)
+from_marked None place kind false z e = let same = same_Some (place, kind) z e in inr (refl, ap (λ (x : ℕ × ℕ). x.0) same, ap (λ (x : ℕ × ℕ). x.1) same)
 from_marked (Some y) place kind false z e =
     elim (either (is_mark_before (place, kind) y) (place, kind) y z e) [
       | inl same ↦ inr (refl, ap (λ (x : ℕ × ℕ). x.0) same, ap (λ (x : ℕ × ℕ). x.1) same)
@@ -77,10 +72,10 @@ from_marked (Some y) place kind false z e =
 -- and it is up to each of them
 to_old : (acc : Option (ℕ × ℕ)) (place kind : ℕ) (holds : Bool) (z : ℕ × ℕ) → acc ≡ Some z → (q : ℕ × ℕ) × (marked acc (record { place = place; kind = kind; holds = holds }) ≡ Some q) × UpTo q z
 to_old acc place kind true z e = (z, e, self z)
-to_old None place kind false z e = absurd (none_some z e)
+to_old None place kind false z e = absurd (none-some z e)
 to_old (Some y) place kind false z e =
     let p = pick (is_mark_before (place, kind) y) (place, kind) y refl in
-    (p.0, p.1, subst (λ w. UpTo p.0 w) (some_is y z e) p.3)
+    (p.0, p.1, subst (λ w. UpTo p.0 w) (same_Some y z e) p.3)
 
 to_mark : (acc : Option (ℕ × ℕ)) (place kind : ℕ) (holds : Bool) → holds ≡ false → (q : ℕ × ℕ) × (marked acc (record { place = place; kind = kind; holds = holds }) ≡ Some q) × UpTo q (place, kind)
 to_mark acc place kind true e = absurd (true_false e)
@@ -99,9 +94,9 @@ cover acc m ms p k (inr (inr b)) = ((p, k), inr b, self (p, k))
 least : (acc : Option (ℕ × ℕ)) (ms : List Mark) → Least acc ms (first_from acc ms)
 unfolding first_from
 least acc [] = record {
-  none = λ e p k h. elim h [ inl a ↦ none_some (p, k) (sym e ∙ a) | inr b ↦ b ];
+  none = λ e p k h. elim h [ inl a ↦ none-some (p, k) (sym e ∙ a) | inr b ↦ b ];
   known = λ p k e. inl e;
-  first = λ p k e q l h. elim h [ inl a ↦ subst (λ (w : ℕ × ℕ). UpTo (p, k) w) (some_is (p, k) (q, l) (sym e ∙ a)) (self (p, k)) | inr b ↦ absurd b ];
+  first = λ p k e q l h. elim h [ inl a ↦ subst (λ (w : ℕ × ℕ). UpTo (p, k) w) (same_Some (p, k) (q, l) (sym e ∙ a)) (self (p, k)) | inr b ↦ absurd b ];
 }
 least acc (m ∷ ms) =
     let rest = least (marked acc m) ms in
@@ -114,7 +109,7 @@ least acc (m ∷ ms) =
 by_least : (marks : List Mark) (r : Option (ℕ × ℕ)) → Least None marks r → MarksAre marks r
 by_least marks None l = λ p k b. l.none refl p k (inr b)
 by_least marks (Some x) l = record {
-  broken = elim (l.known x.0 x.1 refl) [ inl e ↦ absurd (none_some x e) | inr b ↦ b ];
+  broken = elim (l.known x.0 x.1 refl) [ inl e ↦ absurd (none-some x e) | inr b ↦ b ];
   first = λ p k b. l.first x.0 x.1 refl p k (inr b);
 }
 

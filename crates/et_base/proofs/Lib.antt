@@ -3,3 +3,5 @@ pub mod Readings
 pub mod Spelling
 pub mod Lists
 pub mod Positions
+pub mod Options
+pub mod Tests

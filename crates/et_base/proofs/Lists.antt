@@ -1,8 +1,13 @@
 -- Membership in lists, by cases.
-use Rattle.std.proofs.Common.{◌≡◌, ℕ, zero, suc, ◌<◌, ◌==◌, ◌&&◌, ◌⊎◌, Bool, true, false, cond, List, [], ◌∷◌, filter, length, Contains, refl, sym, ap, ◌∙◌, subst, inl, inr, arith}
-use Rattle.std.specs.List.{list_any}
-use Rattle.std.proofs.lemmas.Bool.{cases_eq, eqb-true, eq-eqb, or_cases, or_left, or_right}
-use Rattle.std.proofs.lemmas.List.Elements.{All-contains, All-filter, filter_passes, All-contains_itself}
+use Rattle.std.proofs.Common.{◌≡◌, ℕ, zero, suc, ◌<◌, ◌==◌, ◌&&◌, ◌⊎◌, Bool, true, false, cond, List, [], ◌∷◌, filter, length, Contains, refl, sym, ap, ◌∙◌, subst, inl, inr, arith, ◌+◌, ◌++◌, get_or, replicate}
+use Rattle.std.specs.List.{list_any, list_all}
+use Rattle.std.proofs.lemmas.Bool.{cases_eq, eqb-true, eq-eqb, or_cases, or_left, or_right, cases_lt}
+use Rattle.std.proofs.lemmas.List.Elements.{All-contains, All-filter, filter_passes, All-contains_itself, Contains-push_cases}
+use Rattle.std.specs.List.Sorted.{IsStrictlyIncreasing}
+use Rattle.std.specs.Str.{bytes_eq}
+use Rattle.std.proofs.lemmas.List.{length-append, get_or_append_left, get_or_push}
+use Rattle.std.proofs.lemmas.Slice.Eq.{bytes_eq-Decides}
+use mathlib.Core.Logic.{⊎_elim}
 
 -- a fact holds or it doesn't
 abbrev pub Cases : Type 0 → Type 0
@@ -99,3 +104,32 @@ contains_has xs x c = contains_any (λ y. y == x) x (eq-eqb x x refl) xs c
 pub none_long : {X : Type 0} (xs : List X) → length xs ≡ 0 → xs ≡ []
 none_long [] e = refl
 none_long (x ∷ xs) e = absurd (omega arith)
+
+pub Contains-one : {X : Type 0} (x y : X) → Contains (x ∷ []) y → x ≡ y
+Contains-one x y c = elim (Contains-cons x [] y c) [ inl e ↦ e | inr d ↦ absurd (Contains-none y d) ]
+
+-- what is in a list with one more at its end
+pub in_longer : (xs : List ℕ) (x y : ℕ) → Contains (xs ++ x ∷ []) y → Contains xs y ⊎ (y ≡ x)
+in_longer xs x y c = elim (Contains-push_cases xs x y c) [ inl d ↦ inl d | inr e ↦ inr (sym e) ]
+
+-- a list that rises, with a greater number at its end
+pub rising_push : (xs : List ℕ) (x : ℕ) → IsStrictlyIncreasing xs → ((k : ℕ) → k < length xs → get_or xs k 0 < x) → IsStrictlyIncreasing (xs ++ x ∷ [])
+rising_push xs x rising below k lt =
+    ⊎_elim
+    (λ b. omega (arith, rising k b, get_or_append_left xs (x ∷ []) 0 k (omega arith), get_or_append_left xs (x ∷ []) 0 (k + 1) b))
+    (λ g.
+    let e : length xs ≡ k + 1 = omega (arith, length-append xs (x ∷ [])) in
+    omega (arith, below k (omega arith), get_or_append_left xs (x ∷ []) 0 k (omega arith), get_or_push xs x 0 (k + 1) e))
+    (cases_lt (k + 1) (length xs))
+
+pub all_true : (p : ℕ → Bool) (xs : List ℕ) → ((x : ℕ) → Contains xs x → p x ≡ true) → list_all p xs ≡ true
+all_true p [] h = refl
+all_true p (x ∷ xs) h = ap (λ (b : Bool). b && list_all p xs) (h x (Contains-here x xs)) ∙ all_true p xs (λ y c. h y (Contains-there x xs y c))
+
+pub all_same : {A : Type 0} (n k : ℕ) (x : A) → get_or (replicate n x) k x ≡ x
+all_same zero k x = refl
+all_same (suc n) zero x = refl
+all_same (suc n) (suc k) x = all_same n k x
+
+pub same_bytes : (a : List ℕ) → bytes_eq a a ≡ true
+same_bytes a = (bytes_eq-Decides a a).1 refl

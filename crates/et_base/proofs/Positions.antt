@@ -9,11 +9,11 @@ pub record Passes {X : Type 0} (t : X → Bool) (d : X) (i : ℕ) (xs : List X) 
   pub within : place < length xs
   pub passes : t (get_or xs place d) ≡ true
 
-shifted : {X : Type 0} (t : X → Bool) (d : X) (i : ℕ) (x : X) (xs : List X) (o : Option ℕ) → IfSome o (Passes t d (i + 1) xs) → IfSome o (Passes t d i (x ∷ xs))
+pub shifted : {X : Type 0} (t : X → Bool) (d : X) (i : ℕ) (x : X) (xs : List X) (o : Option ℕ) → IfSome o (Passes t d (i + 1) xs) → IfSome o (Passes t d i (x ∷ xs))
 shifted t d i x xs None h = tt
 shifted t d i x xs (Some j) h = let n : ℕ = h.place in record { place = suc n; is = omega (arith, h.is); within = omega (arith, h.within); passes = h.passes }
 
-by_test : {X : Type 0} (t : X → Bool) (d : X) (i : ℕ) (x : X) (xs : List X) (b : Bool) → t x ≡ b → IfSome (position_from t (i + 1) xs) (Passes t d (i + 1) xs)
+pub by_test : {X : Type 0} (t : X → Bool) (d : X) (i : ℕ) (x : X) (xs : List X) (b : Bool) → t x ≡ b → IfSome (position_from t (i + 1) xs) (Passes t d (i + 1) xs)
     → IfSome (cond b (Some i) (position_from t (i + 1) xs)) (Passes t d i (x ∷ xs))
 by_test t d i x xs true e h = record { place = 0; is = omega arith; within = omega arith; passes = e }
 by_test t d i x xs false e h = shifted t d i x xs (position_from t (i + 1) xs) h

@@ -4,6 +4,7 @@ use Rattle.std.specs.Int.{Width, w8, w16, w32, w64, byte_len, from_be_bytes, to_
 use Rattle.std.proofs.lemmas.Bool.{cases_lt, ltb-false, le-ltb}
 use Rattle.std.proofs.lemmas.List.{take_more, take_at, drop-drop, drop_at, take-append-drop, length-take, length-drop, get_or-drop, get_or-take, get_or_past}
 use Rattle.std.proofs.lemmas.Nat.{be_bytes_2, be_bytes_4, be_bytes_8, from_be_bytes-to_be_bytes_2, from_be_bytes-to_be_bytes_4, from_be_bytes-to_be_bytes_8}
+use Rattle.std.proofs.lemmas.Option.{same_Some}
 use Rattle.et_base.specs.Numbers.{number_at, bytes_at, AreBytes, Stands}
 
 -- these bytes stand at a place, and the next item behind them
@@ -93,9 +94,6 @@ wide64 = record {
   size = λ n. refl;
 }
 
-pair_of : {A : Type 0} (x y : A × ℕ) → Some x ≡ Some y → x ≡ y
-pair_of x y e = cc
-
 -- a number that is read is spelled there, and fits its width
 pub record IsNumber (w : Width) (bytes : List ℕ) (at n next : ℕ) : Type 0 where
   pub reads : Reads bytes at (to_be_bytes w n) next
@@ -106,7 +104,7 @@ number_case w wide bytes at n next true fits l e = absurd cc
 number_case w wide bytes at n next false fits l e =
     let le : at + byte_len w ≤ length bytes = ltb-false _ _ l in
     let here = AreBytes-drop at bytes fits in
-    subst (λ (x : ℕ × ℕ). IsNumber w bytes at x.0 x.1) (pair_of _ _ e)
+    subst (λ (x : ℕ × ℕ). IsNumber w bytes at x.0 x.1) (same_Some _ _ e)
     (record { reads = part bytes at (byte_len w) _ le (wide.back (drop at bytes) (omega (arith, length-drop at bytes)) here); fits = wide.fits (drop at bytes) here })
 
 pub number_reads : (w : Width) → IsWide w → (bytes : List ℕ) (at n next : ℕ) → AreBytes bytes → number_at w bytes at ≡ Some (n, next) → IsNumber w bytes at n next
@@ -136,7 +134,7 @@ run_case : (bytes : List ℕ) (size at : ℕ) (xs : List ℕ) (next : ℕ) (b : 
 run_case bytes size at xs next true l e = absurd cc
 run_case bytes size at xs next false l e =
     let le : at + size ≤ length bytes = ltb-false _ _ l in
-    subst (λ (x : List ℕ × ℕ). IsRun bytes at size x.0 x.1) (pair_of _ _ e)
+    subst (λ (x : List ℕ × ℕ). IsRun bytes at size x.0 x.1) (same_Some _ _ e)
     (record { reads = part bytes at size (take size (drop at bytes)) le refl; size_is = omega (arith, length-take size (drop at bytes), length-drop at bytes) })
 
 pub run_reads : (bytes : List ℕ) (size at : ℕ) (xs : List ℕ) (next : ℕ) → bytes_at bytes size at ≡ Some (xs, next) → IsRun bytes at size xs next

@@ -1,14 +1,16 @@
 -- A record at the front of bytes: what is read is packed so, and what is packed is read.
-use Rattle.std.proofs.Common.{◌≡◌, ℕ, suc, ◌-◌, ◌≤◌, Bool, true, false, cond, ◌||◌, eqb, List, [], ◌∷◌, ◌++◌, length, take, drop, get_or, Option, Some, None, refl, sym, ap, subst, ◌∙◌, arith, inl, inr}
-use Rattle.std.specs.Prelude.{◌⊎◌, option_map}
+use Rattle.std.proofs.Common.{◌≡◌, ℕ, suc, ◌-◌, ◌≤◌, true, false, cond, ◌||◌, eqb, List, [], ◌∷◌, ◌++◌, length, take, drop, get_or, Option, Some, None, refl, sym, ap, subst, ◌∙◌, arith, inl, inr}
+use Rattle.std.specs.Prelude.{option_map}
 use Rattle.std.proofs.lemmas.List.{take_rest}
 use Rattle.std.specs.List.{flat_map, AllByRecursion}
+use Rattle.std.proofs.lemmas.Bool.{or_cases, eqb-true}
+use Rattle.et_text.proofs.LineKinds.{body}
 use Rattle.et_base.specs.Numbers.{AreBytes}
 use Rattle.et_base.specs.declared.line.TraceLine.{TraceLine}
 use Rattle.et_base.specs.declared.line.TraceLine.TheVariants.{Header, Class, Method, Alloc, Update, Enter, Exit, Unwind, Flush, Death, Finish}
 use Rattle.et_text.specs.Spelling.{letter}
 use Rattle.et_text.specs.Ranges.{IsInRange}
-use Rattle.et_text.proofs.Numbers.{chosen, eqb-yes}
+use Rattle.et_text.proofs.Numbers.{chosen}
 use Rattle.et_binary.specs.Packing.{packed_field, packed_fields, packing}
 use Rattle.et_binary.specs.Packs.{FitsWidth, SaysTwo, IsPacked, IsNoLetter, IsMalformed, IsUnfinished}
 use Rattle.et_binary.specs.Packs.IsMalformed.{HasNoLetter, IsOutOfRange}
@@ -22,13 +24,10 @@ pub record BeginsWith (line : TraceLine) (behind bytes : List ℕ) : Type 0 wher
   pub parts : bytes ≡ packing line ++ behind
   pub rest_fits : AreBytes behind
 
-body : (b first : ℕ) (rest tail : List ℕ) → b ≡ first → rest ≡ tail → b ∷ rest ≡ first ∷ tail
-body b first rest tail e f = ap (λ (x : ℕ). x ∷ rest) e ∙ ap (λ (t : List ℕ). first ∷ t) f
-
 packed_by : (b first : ℕ) (rest : List ℕ) (x : TraceLine × List ℕ) → eqb b first ≡ true → IsRead first x.0 rest x.1 → BeginsWith x.0 x.1 (b ∷ rest)
 packed_by b first rest x e h = record {
   packed = record { version = h.version; room = h.room; packed = refl };
-  parts = body b (letter x.0) rest (flat_map packed_field (packed_fields x.0) ++ x.1) (eqb-yes b first e ∙ h.first_is) h.takes.parts;
+  parts = body b (letter x.0) rest (flat_map packed_field (packed_fields x.0) ++ x.1) (eqb-true b first e ∙ h.first_is) h.takes.parts;
   rest_fits = h.takes.rest_fits;
 }
 
@@ -98,16 +97,12 @@ front_of line bytes first behind e p = ap record_front (e ∙ ap (λ (t : List �
 
 -- LETTERS
 
-either_true : (a b : Bool) → (a || b) ≡ true → (a ≡ true) ⊎ (b ≡ true)
-either_true true b e = inl refl
-either_true false b e = inr e
-
 letter_is : (b k : ℕ) (line : TraceLine) → k ≡ letter line → eqb b k ≡ true → (line : TraceLine) × (b ≡ letter line)
-letter_is b k line l h = (line, eqb-yes b k h ∙ l)
+letter_is b k line l h = (line, eqb-true b k h ∙ l)
 
 letter_of : (b : ℕ) → is_record_letter b ≡ true → (line : TraceLine) × (b ≡ letter line)
 letter_of b e =
-    elim (either_true (eqb b 72 || eqb b 67 || eqb b 78 || eqb b 65 || eqb b 85 || eqb b 77 || eqb b 69 || eqb b 88 || eqb b 70 || eqb b 68) (eqb b 90) e) [ inl z ↦ elim (either_true (eqb b 72 || eqb b 67 || eqb b 78 || eqb b 65 || eqb b 85 || eqb b 77 || eqb b 69 || eqb b 88 || eqb b 70) (eqb b 68) z) [ inl z ↦ elim (either_true (eqb b 72 || eqb b 67 || eqb b 78 || eqb b 65 || eqb b 85 || eqb b 77 || eqb b 69 || eqb b 88) (eqb b 70) z) [ inl z ↦ elim (either_true (eqb b 72 || eqb b 67 || eqb b 78 || eqb b 65 || eqb b 85 || eqb b 77 || eqb b 69) (eqb b 88) z) [ inl z ↦ elim (either_true (eqb b 72 || eqb b 67 || eqb b 78 || eqb b 65 || eqb b 85 || eqb b 77) (eqb b 69) z) [ inl z ↦ elim (either_true (eqb b 72 || eqb b 67 || eqb b 78 || eqb b 65 || eqb b 85) (eqb b 77) z) [ inl z ↦ elim (either_true (eqb b 72 || eqb b 67 || eqb b 78 || eqb b 65) (eqb b 85) z) [ inl z ↦ elim (either_true (eqb b 72 || eqb b 67 || eqb b 78) (eqb b 65) z) [ inl z ↦ elim (either_true (eqb b 72 || eqb b 67) (eqb b 78) z) [ inl z ↦ elim (either_true (eqb b 72) (eqb b 67) z) [ inl z ↦ letter_is b 72 (Header 0 0) refl z | inr z ↦ letter_is b 67 (Class 0 []) refl z ] | inr z ↦ letter_is b 78 (Method 0 0 [] []) refl z ] | inr z ↦ letter_is b 65 (Alloc 0 0 0 0 0 0) refl z ] | inr z ↦ letter_is b 85 (Update 0 0 0 0 0 0) refl z ] | inr z ↦ letter_is b 77 (Enter 0 0 0 0) refl z ] | inr z ↦ letter_is b 69 (Exit 0 0 0) refl z ] | inr z ↦ letter_is b 88 (Unwind 0 0 0 0) refl z ] | inr z ↦ letter_is b 70 (Flush 0 0) refl z ] | inr z ↦ letter_is b 68 (Death 0 0) refl z ] | inr z ↦ letter_is b 90 (Finish 0 0) refl z ]
+    elim (or_cases (eqb b 72 || eqb b 67 || eqb b 78 || eqb b 65 || eqb b 85 || eqb b 77 || eqb b 69 || eqb b 88 || eqb b 70 || eqb b 68) (eqb b 90) e) [ inl z ↦ elim (or_cases (eqb b 72 || eqb b 67 || eqb b 78 || eqb b 65 || eqb b 85 || eqb b 77 || eqb b 69 || eqb b 88 || eqb b 70) (eqb b 68) z) [ inl z ↦ elim (or_cases (eqb b 72 || eqb b 67 || eqb b 78 || eqb b 65 || eqb b 85 || eqb b 77 || eqb b 69 || eqb b 88) (eqb b 70) z) [ inl z ↦ elim (or_cases (eqb b 72 || eqb b 67 || eqb b 78 || eqb b 65 || eqb b 85 || eqb b 77 || eqb b 69) (eqb b 88) z) [ inl z ↦ elim (or_cases (eqb b 72 || eqb b 67 || eqb b 78 || eqb b 65 || eqb b 85 || eqb b 77) (eqb b 69) z) [ inl z ↦ elim (or_cases (eqb b 72 || eqb b 67 || eqb b 78 || eqb b 65 || eqb b 85) (eqb b 77) z) [ inl z ↦ elim (or_cases (eqb b 72 || eqb b 67 || eqb b 78 || eqb b 65) (eqb b 85) z) [ inl z ↦ elim (or_cases (eqb b 72 || eqb b 67 || eqb b 78) (eqb b 65) z) [ inl z ↦ elim (or_cases (eqb b 72 || eqb b 67) (eqb b 78) z) [ inl z ↦ elim (or_cases (eqb b 72) (eqb b 67) z) [ inl z ↦ letter_is b 72 (Header 0 0) refl z | inr z ↦ letter_is b 67 (Class 0 []) refl z ] | inr z ↦ letter_is b 78 (Method 0 0 [] []) refl z ] | inr z ↦ letter_is b 65 (Alloc 0 0 0 0 0 0) refl z ] | inr z ↦ letter_is b 85 (Update 0 0 0 0 0 0) refl z ] | inr z ↦ letter_is b 77 (Enter 0 0 0 0) refl z ] | inr z ↦ letter_is b 69 (Exit 0 0 0) refl z ] | inr z ↦ letter_is b 88 (Unwind 0 0 0 0) refl z ] | inr z ↦ letter_is b 70 (Flush 0 0) refl z ] | inr z ↦ letter_is b 68 (Death 0 0) refl z ] | inr z ↦ letter_is b 90 (Finish 0 0) refl z ]
 
 pub no_letter : (b : ℕ) → is_record_letter b ≡ false → IsNoLetter b
 no_letter b h (Header v interval) e = let x : is_record_letter 72 ≡ false = subst (λ (k : ℕ). is_record_letter k ≡ false) e h in absurd cc

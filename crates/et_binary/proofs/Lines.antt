@@ -2,12 +2,13 @@
 use Rattle.std.proofs.Common.{◌≡◌, ℕ, ◌^◌, List, [], ◌∷◌, ◌++◌, length, Option, Some, refl, ap, subst, ◌∙◌, append_assoc}
 use Rattle.std.specs.List.{flat_map, AllByRecursion}
 use Rattle.std.specs.Int.{Width, w8, w32, w64, byte_len, to_be_bytes}
+use Rattle.std.proofs.lemmas.Option.{same_Some}
 use Rattle.et_base.specs.Numbers.{AreBytes}
 use Rattle.et_base.specs.declared.line.TraceLine.{TraceLine}
 use Rattle.et_base.specs.declared.line.TraceLine.TheVariants.{Header, Class, Method, Alloc, Update, Enter, Exit, Unwind, Flush, Death, Finish}
 use Rattle.et_text.specs.Reading.{◌>>=◌}
 use Rattle.et_text.specs.Spelling.{letter}
-use Rattle.et_text.proofs.Numbers.{bind_some, some_is}
+use Rattle.et_text.proofs.Numbers.{bind_some}
 use Rattle.et_binary.specs.Packing.{PackedField, Fixed, Prefixed, packed_field, packed_fields}
 use Rattle.et_binary.specs.Packs.{FitsWidth, SaysTwo}
 use Rattle.et_binary.specs.Fronts.{number_front, name_front, turn_front, header_front, class_front, method_front, alloc_front, update_front, enter_front, exit_front, unwind_front, flush_front, death_front, finish_front}
@@ -66,7 +67,7 @@ read_as first fs line bytes rest x is at same =
       first_is = is.first_is;
       takes = subst (λ (l : List PackedField). Takes bytes (flat_map packed_field l) rest) is.fields_are at.takes;
     } in
-    subst (is_read first bytes) (some_is (line, rest) x same) one
+    subst (is_read first bytes) (same_Some (line, rest) x same) one
 
 -- two numbers
 abbrev read_two : (v w : Width) → (ℕ → ℕ → TraceLine) → List ℕ → Option (TraceLine × List ℕ)

@@ -3,11 +3,12 @@ use Rattle.std.proofs.Common.{◌≡◌, ◌≢◌, ℕ, ◌+◌, ◌<◌, true,
 use Rattle.std.specs.Prelude.{reverse}
 use Rattle.std.specs.List.{flat_map, AllByRecursion}
 use Rattle.std.proofs.lemmas.List.{append-nil, reverse-append, reverse-reverse}
+use Rattle.std.proofs.lemmas.Option.{same_Some}
+use Rattle.et_text.proofs.OneAnswer.{back}
 use Rattle.et_base.specs.declared.line.TraceLine.{TraceLine}
 use Rattle.et_text.specs.Spelling.{letter}
 use Rattle.et_text.specs.Ranges.{IsInRange}
 use Rattle.et_text.specs.Rules.{has_ended, next_fault, AreFine}
-use Rattle.et_text.proofs.Numbers.{some_is}
 use Rattle.et_binary.specs.Packing.{packing, opening, pack}
 use Rattle.et_binary.specs.Packs.{IsPacked, IsMalformed, IsUnfinished, BreaksRecord, IsUnpackedTo, ShowsPackFault, LacksRecord, IsPackFault, IsPackOf}
 use Rattle.et_binary.specs.Packs.IsMalformed.{HasNoLetter, IsOutOfRange}
@@ -22,7 +23,7 @@ pub one_record : (a b : TraceLine) (x y more rest : List ℕ) → IsPacked a x �
 one_record a b x y more rest pa pb e =
     let p = front_of a (x ++ more) x more refl pa in
     let q = front_of b (x ++ more) y rest e pb in
-    let both = some_is (a, more) (b, rest) (sym p ∙ q) in
+    let both = same_Some (a, more) (b, rest) (sym p ∙ q) in
     (ap (λ (t : TraceLine × List ℕ). t.0) both, ap (λ (t : TraceLine × List ℕ). t.1) both)
 
 in_range_once : (a b : TraceLine) (more rest : List ℕ) → IsInRange 2 a → IsInRange 2 b → packing a ++ more ≡ packing b ++ rest → (a ≡ b) × (more ≡ rest)
@@ -94,9 +95,6 @@ are_packed (a ∷ past) h = subst ArePacked (sym (reverse-append (a ∷ []) past
 pub cancel : (a x y : List ℕ) → a ++ x ≡ a ++ y → x ≡ y
 cancel [] x y e = e
 cancel (h ∷ a) x y e = cancel a x y (cc)
-
-back : (p q : List TraceLine) → reverse p ≡ reverse q → p ≡ q
-back p q e = sym (reverse-reverse p) ∙ (ap reverse e ∙ reverse-reverse q)
 
 fine_back : (p : List TraceLine) → AreFine 2 p → AreFine 2 (reverse (reverse p))
 fine_back p h = subst (AreFine 2) (sym (reverse-reverse p)) h

@@ -2,6 +2,7 @@
 use Rattle.std.proofs.Common.{◌≡◌, ℕ, ◌+◌, ◌<◌, Bool, true, false, Option, Some, None, Result, Ok, Err, List, [], ◌∷◌, ◌++◌, length, refl, sym, ap, subst, ◌∙◌, append_assoc, arith, inr, length-append}
 use Rattle.std.specs.Prelude.{reverse, IfOk, IfErr, OnOk}
 use Rattle.std.proofs.lemmas.List.{append-nil, length-reverse, reverse-reverse}
+use Rattle.et_text.proofs.Pieces.{number_is}
 use Rattle.et_base.specs.declared.line.TraceLine.{TraceLine}
 use Rattle.et_text.specs.Rules.{has_ended, AreFine}
 use Rattle.et_text.specs.Stream.{Reading}
@@ -43,9 +44,6 @@ refused_by old new line behind bytes (faults.At kind number) w h = record { brea
 
 unpacked_to : (lines : List TraceLine) (rest bytes : List ℕ) → AreFine 2 (reverse lines) → bytes ≡ pack lines ++ rest → IsUnpackedTo (reverse lines) rest bytes
 unpacked_to lines rest bytes f e = record { fine = f; parts = e ∙ ap (λ (t : List TraceLine). pack t ++ rest) (sym (reverse-reverse lines)) }
-
-number_is : (lines : List TraceLine) (number : ℕ) → number ≡ length lines + 1 → number ≡ length (reverse lines) + 1
-number_is lines number n = n ∙ ap (λ (k : ℕ). k + 1) (sym (length-reverse lines))
 
 -- a record that is refused behind those that were taken
 pub shown_behind : (fault : TraceFault) (old now : Taken) (bytes rest : List ℕ) → pack now.lines ++ rest ≡ pack old.lines ++ bytes → AreFine 2 (reverse now.lines) → RefusesFront now rest fault → ShowsIn (unpacked_bytes true old bytes) fault

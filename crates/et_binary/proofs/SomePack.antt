@@ -2,12 +2,11 @@
 use Rattle.std.proofs.Common.{◌≡◌, ◌≢◌, ℕ, zero, suc, ◌+◌, ◌<◌, ◌≤◌, min, Bool, true, false, eqb, List, [], ◌∷◌, ◌++◌, length, take, drop, Option, Some, None, refl, sym, ap, subst, ◌∙◌, append_assoc, arith, inl, inr, length-append}
 use Rattle.std.specs.Prelude.{reverse, ◌⊎◌}
 use Rattle.std.specs.List.{flat_map}
-use Rattle.std.proofs.lemmas.Bool.Decides.{nat_tests}
 use Rattle.std.proofs.lemmas.List.{append-nil, length-drop, length-take-le, reverse-append, reverse-reverse, take-append-drop, take_all}
 use Rattle.std.proofs.lemmas.Slice.Eq.{bytes_eq-Decides}
 use Rattle.std.proofs.Math.Nat.{min-eq_left, min-eq_right, min-le_left, min-le_right}
 use Rattle.std.proofs.lemmas.Grind.{flat_map-append}
-use Rattle.std.proofs.lemmas.Bool.{cases_lt}
+use Rattle.std.proofs.lemmas.Bool.{cases_lt, eqb-false, eqb-true}
 use Rattle.et_base.specs.Numbers.{AreBytes}
 use Rattle.et_base.specs.declared.line.TraceLine.{TraceLine}
 use Rattle.et_text.specs.Rules.{has_ended, next_fault, AreFine}
@@ -25,12 +24,6 @@ use Rattle.et_binary.proofs.Beginnings.{BeginsWith, front_takes, front_by, malfo
 
 -- THE OPENING
 
-eq_no : (a b : ℕ) → eqb a b ≡ false → a ≢ b
-eq_no a b e = grind (arith, nat_tests)
-
-eq_yes : (a b : ℕ) → eqb a b ≡ true → a ≡ b
-eq_yes a b e = grind (arith, nat_tests)
-
 -- the first byte that is another than the one at its place
 record Differs (wanted found : List ℕ) : Type 0 where
   pub front : List ℕ
@@ -47,9 +40,9 @@ later w ws fs d = record { front = w ∷ d.front; byte = d.byte; wrong = d.wrong
 
 -- .. at the front or behind it
 differs_by : (w f : ℕ) (ws fs : List ℕ) (same : Bool) → eqb f w ≡ same → (ws ≢ fs → Differs ws fs) → w ∷ ws ≢ f ∷ fs → Differs (w ∷ ws) (f ∷ fs)
-differs_by w f ws fs false e behind n = record { front = []; byte = w; wrong = f; wanting = ws; behind = fs; wanted_is = refl; found_is = refl; other = eq_no f w e }
+differs_by w f ws fs false e behind n = record { front = []; byte = w; wrong = f; wanting = ws; behind = fs; wanted_is = refl; found_is = refl; other = eqb-false f w e }
 differs_by w f ws fs true e behind n =
-    let same : f ≡ w = eq_yes f w e in
+    let same : f ≡ w = eqb-true f w e in
     subst (λ (x : ℕ). Differs (w ∷ ws) (x ∷ fs)) (sym same) (later w ws fs (behind (λ h. n (ap (λ (x : ℕ). x ∷ ws) (sym same) ∙ ap (λ (t : List ℕ). f ∷ t) h))))
 
 differs : (ws fs : List ℕ) → length fs ≡ length ws → ws ≢ fs → Differs ws fs

@@ -7,10 +7,11 @@ use Rattle.std.proofs.lemmas.Bool.{cases_lt, ltb-false, le-ltb}
 use Rattle.std.proofs.lemmas.List.{take_at, drop_at, take-append-drop, length-append, length-take, get_or-drop, get_or-take, get_or_past}
 use Rattle.std.proofs.lemmas.List.Elements.{All-from_recursion}
 use Rattle.std.proofs.lemmas.Nat.{be_bytes_4, be_bytes_8, from_be_bytes-to_be_bytes_4, from_be_bytes-to_be_bytes_8}
+use Rattle.std.proofs.lemmas.Option.{same_Some}
 use Rattle.et_base.specs.Numbers.{AreBytes}
 use Rattle.et_text.specs.Reading.{◌>>=◌}
 use Rattle.et_text.specs.Ranges.{IsShort}
-use Rattle.et_text.proofs.Numbers.{bind_some, some_is}
+use Rattle.et_text.proofs.Numbers.{bind_some}
 use Rattle.et_binary.specs.Packing.{Prefixed, packed_field}
 use Rattle.et_binary.specs.Fronts.{number_front, name_front, turn_front}
 
@@ -34,7 +35,7 @@ all_small bytes h = All-from_recursion (λ b. b < 256) bytes (by_recursion bytes
 -- a test that did not fail
 guard_none : {A : Type 0} (b : Bool) (x y : A) → cond b None (Some x) ≡ Some y → (b ≡ false) × (x ≡ y)
 guard_none true x y e = absurd cc
-guard_none false x y e = (refl, some_is x y e)
+guard_none false x y e = (refl, same_Some x y e)
 
 -- what was taken from the front
 pub record Takes (bytes text rest : List ℕ) : Type 0 where
@@ -152,7 +153,7 @@ turn_takes bytes event thread rest fits e =
     let p = number_takes w64 (2 ^ 64) wide64 bytes a.0.0 a.0.1 fits a.1 in
     let q = number_takes w8 (2 ^ 8) wide8 a.0.1 b.0.0 b.0.1 p.0.rest_fits b.1 in
     let one : IsTurnTaken bytes a.0.0 b.0.0 b.0.1 = record { mid = a.0.1; first = p.0; second = q.0; event_fits = p.1; thread_fits = q.1 } in
-    subst (turn_taken bytes) (some_is ((a.0.0, b.0.0), b.0.1) ((event, thread), rest) b.2) one
+    subst (turn_taken bytes) (same_Some ((a.0.0, b.0.0), b.0.1) ((event, thread), rest) b.2) one
 
 pub turn_again : (event thread : ℕ) (rest : List ℕ) → event < 2 ^ 64 → thread < 2 ^ 8 → turn_front (to_be_bytes w64 event ++ (to_be_bytes w8 thread ++ rest)) ≡ Some ((event, thread), rest)
 unfolding turn_front

@@ -1,9 +1,9 @@
 -- The pool of each class is read: it is spelled there.
-use Rattle.std.proofs.Common.{◌≡◌, ℕ, ◌<◌, ◌^◌, Bool, true, false, ◌||◌, ◌⊎◌, inl, inr, List, [], ◌∷◌, length, refl, sym, subst, lit<, arith, append-nil}
+use Rattle.std.proofs.Common.{◌≡◌, ℕ, ◌<◌, ◌^◌, Bool, true, ◌||◌, inl, inr, List, [], ◌∷◌, length, refl, sym, subst, lit<, arith, append-nil}
 use Rattle.std.specs.Prelude.{All}
 use Rattle.std.specs.List.{list_all}
 use Rattle.std.specs.Str.{bytes_eq}
-use Rattle.std.proofs.lemmas.Bool.{and_parts}
+use Rattle.std.proofs.lemmas.Bool.{and_parts, or_cases}
 use Rattle.std.proofs.lemmas.List.Elements.{All-nil, All-cons, All-from_recursion}
 use Rattle.std.proofs.lemmas.Slice.Eq.{bytes_eq-Decides}
 use Rattle.et_pool.specs.Entries.{Item, slots_of}
@@ -33,10 +33,6 @@ thread_is_read = read thread_pool fits (lit< tt)
 
 -- EACH CLASS has the pool without entries or that of Thread
 
-either : (a b : Bool) → (a || b) ≡ true → (a ≡ true) ⊎ (b ≡ true)
-either true b h = inl refl
-either false b h = inr h
-
 abbrev is_one_of_two : BootClassOf → Bool
 is_one_of_two c = bytes_eq c.pool (pool_bytes []) || bytes_eq c.pool thread.pool
 
@@ -49,7 +45,7 @@ of_bytes c entries e p =
     record { slots = slots_of entries; read = subst (λ (bytes : List ℕ). IsPool bytes 0 (slots_of entries) (length bytes)) same p }
 
 of_class : (c : BootClassOf) → is_one_of_two c ≡ true → HasPool c
-of_class c h = elim (either (bytes_eq c.pool (pool_bytes [])) (bytes_eq c.pool thread.pool) h) [
+of_class c h = elim (or_cases (bytes_eq c.pool (pool_bytes [])) (bytes_eq c.pool thread.pool) h) [
   | inl e ↦ of_bytes c [] e (read [] (All-nil IsEntry) (lit< tt))
   | inr e ↦ of_bytes c thread_pool e thread_is_read
 ]

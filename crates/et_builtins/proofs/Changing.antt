@@ -3,6 +3,7 @@ use Rattle.std.proofs.Common.{◌≡◌, ℕ, zero, suc, ◌+◌, ◌<◌, ◌�
 use Rattle.std.specs.Prelude.{if◌then◌else◌}
 use Rattle.std.specs.List.{position_from}
 use Rattle.std.proofs.lemmas.List.{length-set}
+use Rattle.et_heap.proofs.References.{few_references}
 use Rattle.et_base.specs.declared.value.Value.{Value}
 use Rattle.et_base.specs.declared.value.Value.TheVariants.{Unset, Int, Long, LongHigh, Null, Ref}
 use Rattle.et_base.proofs.Lists.{Contains-none}
@@ -46,30 +47,12 @@ passed_is m t n pc m₁ m₂ m₃ has e₁ e₂ e₃ =
     let is₂ : m₂ ≡ steps_top (begun m) t (popped n f) l = e₂ ∙ ap (λ (x : MachineState). steps_top x t (popped n (top x.guest t)) (refs_of (take n (top x.guest t).operands))) e₁ in
     then_top (at_pc pc) (λ g. []) (begun m) t (popped n f) l m₂ m₃ has.thread is₂ e₃ ∙ ap (λ (os : List ℕ). steps_top (begun m) t (replaced n [] pc f) os) (append-nil l)
 
-one_value : (v : Value) → length (refs_of_value v) ≤ 1
-one_value Unset = omega arith
-one_value (Int n) = omega arith
-one_value (Long n) = omega arith
-one_value LongHigh = omega arith
-one_value Null = omega arith
-one_value (Ref o) = omega arith
-
 length_both : (xs ys : List ℕ) → length (xs ++ ys) ≡ length xs + length ys
 length_both [] ys = omega arith
 length_both (x ∷ xs) ys = let h : length (xs ++ ys) ≡ length xs + length ys = length_both xs ys in omega arith
 
-refs_few : (n : ℕ) (vs : List Value) → length (refs_of (take n vs)) ≤ n
-refs_few zero vs = omega arith
-refs_few (suc n) [] = omega arith
-refs_few (suc n) (v ∷ vs) =
-    let one : length (refs_of_value v) ≤ 1 = one_value v in
-    let more : length (refs_of (take n vs)) ≤ n = refs_few n vs in
-    let both : length (refs_of_value v ++ refs_of (take n vs)) ≡ length (refs_of_value v) + length (refs_of (take n vs)) = length_both (refs_of_value v) (refs_of (take n vs)) in
-    let whole : length (refs_of (take (suc n) (v ∷ vs))) ≡ length (refs_of_value v ++ refs_of (take n vs)) = refl in
-    omega arith
-
 pub passed_few : (m : MachineState) (t n pc : ℕ) (b : MachineState) → b ≡ passed_by m t n pc → length b.lost ≤ n
-passed_few m t n pc b e = subst (λ (x : MachineState). length x.lost ≤ n) (sym e) (refs_few n (top m.guest t).operands)
+passed_few m t n pc b e = subst (λ (x : MachineState). length x.lost ≤ n) (sym e) (few_references n (top m.guest t).operands)
 
 abbrev pub PassedOver : MachineState → ℕ → ℕ → ℕ → MachineState → Type 0
 PassedOver m t n pc b = Did (kept_of m) (begun m) t (replaced n [] pc (top m.guest t)) (refs_of (take n (top m.guest t).operands)) b

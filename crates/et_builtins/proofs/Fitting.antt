@@ -7,6 +7,7 @@ use Rattle.std.proofs.lemmas.Bool.Decides.{nat_tests}
 use Rattle.std.proofs.lemmas.List.{length-reverse, length-drop}
 use Rattle.et_base.specs.declared.value.Value.{Value}
 use Rattle.et_base.specs.declared.value.Value.TheVariants.{Int, Long, LongHigh, Null, Ref}
+use Rattle.et_base.proofs.Options.{same_by_test}
 use Rattle.et_pool.specs.Descriptors.{MethodType, width_of}
 use Rattle.et_pool.specs.Operands.{Shape, shape_of, return_of, entries_returned}
 use Rattle.et_pool.proofs.Returns.{width_returned}
@@ -122,10 +123,6 @@ none_counted n depth e = small (nat_le n depth) n depth refl e
     small true n depth b e = cc
     small false n depth b e = grind (arith, nat_tests)
 
-some_counted : (b : Bool) (n count : ℕ) → Some count ≡ (if b then Some n else None) → count ≡ n
-some_counted true n count e = cc
-some_counted false n count e = cc
-
 pub count_refused : (e : Moment) (static : Bool) (shape : Shape) (type : MethodType) (entries depth : ℕ) → shape ≡ shape_of type → entries ≡ shape.entries → depth ≡ length (current_frame e).operands
     → None ≡ (if nat_le (counted entries static) depth then Some (counted entries static) else None) → None ≡ fitting e static (Some type)
 count_refused e static shape type entries depth is same deep none =
@@ -136,7 +133,7 @@ count_refused e static shape type entries depth is same deep none =
 pub passes_by : (e : Moment) (static : Bool) (shape : Shape) (type : MethodType) (entries depth count : ℕ) (passes : Bool) → shape ≡ shape_of type → entries ≡ shape.entries
     → Some count ≡ (if nat_le (counted entries static) depth then Some (counted entries static) else None) → is_passing (current_frame e) static shape count ≡ passes → (if passes then Some count else None) ≡ fitting e static (Some type)
 passes_by e static shape type entries depth count passes is same some by =
-    let n : count ≡ entry_count static type = some_counted (nat_le (counted entries static) depth) (counted entries static) count some ∙ counted_is entries static shape type same is in
+    let n : count ≡ entry_count static type = same_by_test (nat_le (counted entries static) depth) (counted entries static) count some ∙ counted_is entries static shape type same is in
     let fits : passes ≡ call_fits e static type = sym by ∙ (ap (λ (x : Shape). is_passing (current_frame e) static x count) is ∙ passing_type e static type count n) in
     ap (λ (b : Bool). if b then Some count else None) fits ∙ ap (λ (k : ℕ). if call_fits e static type then Some k else None) n
 

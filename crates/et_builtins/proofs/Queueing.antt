@@ -2,11 +2,9 @@
 use Rattle.std.proofs.Common.{◌≡◌, ℕ, ◌≤◌, List, [], ◌∷◌, ◌++◌, length, take, Option, Some, None, refl, sym, ◌∙◌, ap, subst, Contains, append-nil, inl, inr}
 use Rattle.std.proofs.lemmas.List.{length-set}
 use Rattle.et_base.specs.declared.value.Value.{Value}
-use Rattle.et_base.specs.declared.value.Value.TheVariants.{Unset, Int, Long, LongHigh, Null, Ref}
 use Rattle.et_base.proofs.Lists.{Contains-none, Contains-here, Contains-cons}
 use Rattle.et_heap.specs.Objects.{ObjectState, IsHeld, object_at, with_referent, with_queue, referent_of, referent_value}
 use Rattle.et_heap.specs.Queues.{IsWhole, first_value, polled}
-use Rattle.std.specs.Option.{option_to_list}
 use Rattle.et_heap.specs.Refs.{refs_of_value, refs_of}
 use Rattle.et_heap.proofs.HeapLists.{held_set, held_within}
 use Rattle.et_state.specs.Threads.{FrameState, pushed}
@@ -37,15 +35,7 @@ losing_none m v e = sym (ap (λ (os : List ℕ). losing m os) e ∙ ap (λ (os :
 
 -- A WEAK REFERENCE IS MADE
 
-queue_refs : (v : Value) (o : ℕ) → Contains (option_to_list (referent_of v)) o → Contains (refs_of_value v) o
-queue_refs Unset o c = c
-queue_refs (Int n) o c = c
-queue_refs (Long n) o c = c
-queue_refs LongHigh o c = c
-queue_refs Null o c = c
-queue_refs (Ref r) o c = c
-
-queue_named : (q : Option ℕ) (o : ℕ) → Contains (refs_of_value (referent_value q)) o → q ≡ Some o
+pub queue_named : (q : Option ℕ) (o : ℕ) → Contains (refs_of_value (referent_value q)) o → q ≡ Some o
 queue_named None o c = absurd (Contains-none o c)
 queue_named (Some u) o c = elim (Contains-cons u [] o c) [ inl e ↦ ap (λ (k : ℕ). Some k) e | inr d ↦ absurd (Contains-none o d) ]
 
@@ -69,8 +59,8 @@ reference_made p t n pc o v w m b b₁ b₂ at out sound has le same inside held
     let was : (x : ℕ) → Contains (refs_of_value (referent_value (object_at c₁.heap o).queue)) x → WasThere s (kept_of c₁) x = λ x c.
     inl (reached_by_pair s o x (reached o inside) (queue_pair m.heap o x (queue_named (object_at m.heap o).queue x (subst (λ (k : Option ℕ). Contains (refs_of_value (referent_value k)) x) now c)))) in
     let way₂ : IsOnWay s (next c₁) =
-    on_set_queue s c₁ o q way₁ (held_set m.heap o y o held held) (inl (reached o inside)) (λ x c. held_set m.heap o y x held (sound.roots x (root x (value₂ x (queue_refs w x c)))))
-    (λ x c. inl (reached x (value₂ x (queue_refs w x c)))) was in
+    on_set_queue s c₁ o q way₁ (held_set m.heap o y o held held) (inl (reached o inside)) (λ x c. held_set m.heap o y x held (sound.roots x (root x (value₂ x (referent_refs w x c)))))
+    (λ x c. inl (reached x (value₂ x (referent_refs w x c)))) was in
     let is₁ : b₁ ≡ c₁ = e₁ ∙ ap (λ (x : MachineState). with_object x o (with_referent r (object_at x.heap o))) e in
     let is₂ : b₂ ≡ next c₁ = e₂ ∙ ap next is₁ in
     let long : length (next c₁).heap ≡ length m.heap = length-set c₁.heap o (Some (with_queue q (object_at c₁.heap o))) ∙ length-set m.heap o (Some y) in

@@ -2,6 +2,7 @@
 use Rattle.std.proofs.Common.{◌≡◌, ℕ, ◌==◌, Bool, true, List, Option, Some, None, is_some, refl, sym, ◌∙◌, ap, subst}
 use Rattle.std.specs.Prelude.{Result, Ok, Err, IfOk, option_map, option_and_then}
 use Rattle.std.specs.Result.{result_ok}
+use Rattle.std.proofs.lemmas.Option.{same_Some}
 use Rattle.et_pool.specs.Entries.{Item}
 use Rattle.et_pool.specs.Looks.{tag_at}
 use Rattle.et_pool.specs.declared.tags.TheConstants.{INTERFACE_METHODREF}
@@ -30,13 +31,10 @@ referred_is p class index at pool same =
     ap (λ (s : List (Option Item)). option_map (method_of_member p (tag_at s index == INTERFACE_METHODREF)) (member_described s index)) (sym pool)
     ∙ ap (λ (i : ℕ). option_map (method_of_member p (tag_at at.pool i == INTERFACE_METHODREF)) (member_described at.pool i)) same
 
-same_answer : (a b : Result NamedMethod LinkError) → Some a ≡ Some b → a ≡ b
-same_answer a b e = cc
-
 pub method_found : (p : Linked) (class index : ℕ) (at : Site) (answer : Result NamedMethod LinkError) → at.pool ≡ pool_of_class p class → index ≡ pool_index at → Some answer ≡ method_referred p class index
     → (m : Member) → site_member at ≡ Some m → answer ≡ method_of_member p (names_interface at) m
 method_found p class index at answer pool same found m is =
-    same_answer answer (method_of_member p (names_interface at) m) (found ∙ (referred_is p class index at pool same ∙ ap (option_map (method_of_member p (names_interface at))) is))
+    same_Some answer (method_of_member p (names_interface at) m) (found ∙ (referred_is p class index at pool same ∙ ap (option_map (method_of_member p (names_interface at))) is))
 
 nothing_there : (f : Member → Result NamedMethod LinkError) (o : Option Member) → None ≡ option_map f o → is_some o ≡ true → ⊥
 nothing_there f None none some = absurd (cc)

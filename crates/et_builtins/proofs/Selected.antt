@@ -1,10 +1,11 @@
 -- What the table says of a built-in method, by the tests of its receiver.
-use Rattle.std.proofs.Common.{◌≡◌, ℕ, ◌<◌, Bool, true, false, List, [], length, Option, Some, None, refl, sym, ◌∙◌, ap, subst, arith}
+use Rattle.std.proofs.Common.{◌≡◌, ℕ, ◌<◌, Bool, true, false, List, [], length, Option, None, sym, ◌∙◌, ap, subst, arith}
 use Rattle.std.specs.Prelude.{nat_lt}
 use Rattle.std.specs.Option.{is_some}
 use Rattle.std.proofs.lemmas.Bool.Decides.{nat_tests}
 use Rattle.et_state.specs.Threads.{most_threads}
 use Rattle.et_base.specs.declared.value.Value.{Value}
+use Rattle.et_base.proofs.Options.{is_none}
 use Rattle.et_state.specs.State.{Kept, MachineState}
 use Rattle.et_state.specs.declared.records.Record.{Record}
 use Rattle.et_state.specs.declared.ends.EventEnd.{EventEnd}
@@ -52,10 +53,6 @@ made_by p m m' call at o end out r r' q q' is same a =
 few_test : (n : ℕ) → n < most_threads → nat_lt n most_threads ≡ true
 few_test n lt = grind (arith, nat_tests)
 
-none_of : (r : Option ℕ) → is_some r ≡ false → r ≡ None
-none_of None h = refl
-none_of (Some k) h = cc
-
 pub started_answers : (e : Moment) (o : ℕ) (go : Outcome Kept) (r : Option ℕ) (end : EventEnd) (m m' : MachineState) (out out' : List Record) → r ≡ None → length e.before.guest.threads < most_threads
     → EventAnswers go end m m' out out' → EventAnswers (starts_thread e (begins e) o go r) end m m' out out'
 started_answers e o go r end m m' out out' none few a =
@@ -63,7 +60,7 @@ started_answers e o go r end m m' out out' none few a =
     (sym (ap (λ (q : Option ℕ). starts_thread e (begins e) o go q) none ∙ ap (λ (b : Bool). throws_unless e (begins e) OutOfMemoryError b go) (few_test (length e.before.guest.threads) few))) a
 
 pub none_is : (r : Option ℕ) (b : Bool) → b ≡ is_some r → b ≡ false → r ≡ None
-none_is r b e h = none_of r (sym e ∙ h)
+none_is r b e h = is_none r (sym e ∙ h)
 
 pub joined_answers : (e : Moment) (b : Bool) (go : Outcome Kept) (end : EventEnd) (m m' : MachineState) (out out' : List Record) → b ≡ true → EventAnswers go end m m' out out' → EventAnswers (waits_unless e b go) end m m' out out'
 joined_answers e b go end m m' out out' h a = subst (λ (c : Bool). EventAnswers (waits_unless e c go) end m m' out out') (sym h) a

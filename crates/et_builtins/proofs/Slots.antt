@@ -1,10 +1,10 @@
 -- The slots that the machine itself uses, and what stands in them.
-use Rattle.std.proofs.Common.{◌≡◌, ℕ, suc, ◌+◌, ◌<◌, ◌≤◌, Bool, true, false, List, [], ◌∷◌, length, Option, Some, None, refl, sym, ◌∙◌, ap, subst, arith, Contains, inl, inr}
+use Rattle.std.proofs.Common.{◌≡◌, ℕ, suc, ◌+◌, ◌<◌, ◌≤◌, Bool, true, false, List, [], ◌∷◌, length, Option, Some, None, refl, sym, ◌∙◌, ap, subst, arith, Contains}
 use Rattle.std.specs.Prelude.{codes, if◌then◌else◌, IfSome}
 use Rattle.std.specs.List.{position_from}
+use Rattle.et_builtins.proofs.Queueing.{queue_named}
 use Rattle.et_base.specs.declared.value.Value.{Value}
 use Rattle.et_base.specs.declared.value.Value.TheVariants.{Unset, Int, Long, LongHigh, Null, Ref}
-use Rattle.et_base.proofs.Lists.{Contains-none, Contains-cons}
 use Rattle.et_heap.specs.Objects.{ObjectState, IsHeld, at, found, is_there, object_at, slot_of, referent_value}
 use Rattle.et_heap.specs.Refs.{refs_of_value}
 use Rattle.et_state.specs.Threads.{ThreadState, is_thread_object as is_thread_of, thread_with}
@@ -32,9 +32,6 @@ there_is (Some x) h = refl
 
 sound_object : (p : Linked) (m : MachineState) (o : ℕ) → IsSoundFor p (kept_of m) → IsHeld m.heap o → IsSoundObject p (object_at m.heap o)
 sound_object p m o sound held = (sound.objects o (found (at m.heap o)) (there_is (at m.heap o) held)).0
-
-pub class_within : (p : Linked) (m : MachineState) (o : ℕ) → IsSoundFor p (kept_of m) → IsHeld m.heap o → (object_at m.heap o).class < length p.classes
-class_within p m o sound held = (sound_object p m o sound held).class
 
 slots_kept : (p : Linked) (x : ObjectState) (count : ℕ) → IsSoundObject p x → (class_at p x.class).info.element ≡ NoArray → count ≤ (class_at p x.class).info.slots → count ≤ length x.slots
 slots_kept p x count sound bare room =
@@ -70,12 +67,8 @@ slot_or_null_held m u i v w sound lt e h o c =
     slot_held (kept_of m) u i o sound lt
     (or_null_refs (slot_of (object_at m.heap u) i) o (subst (λ (x : Value). Contains (refs_of_value (or_zero (Some operand.Reference) x)) o) e (subst (λ (x : Value). Contains (refs_of_value x) o) h c)))
 
-same_of : (r : Option ℕ) (o : ℕ) → Contains (refs_of_value (referent_value r)) o → r ≡ Some o
-same_of None o c = absurd (Contains-none o c)
-same_of (Some u) o c = elim (Contains-cons u [] o c) [ inl e ↦ ap (λ (k : ℕ). Some k) e | inr d ↦ absurd (Contains-none o d) ]
-
 pub referent_held : (m : MachineState) (u : ℕ) (v : Value) → IsSound (kept_of m) → v ≡ referent_value (object_at m.heap u).referent → (o : ℕ) → Contains (refs_of_value v) o → IsHeld m.heap o
-referent_held m u v sound e o c = sound.referents u o (same_of (object_at m.heap u).referent o (subst (λ (x : Value). Contains (refs_of_value x) o) e c))
+referent_held m u v sound e o c = sound.referents u o (queue_named (object_at m.heap u).referent o (subst (λ (x : Value). Contains (refs_of_value x) o) e c))
 
 -- THE THREAD OF A THREAD OBJECT is one that was started
 

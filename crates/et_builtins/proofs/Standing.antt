@@ -1,6 +1,7 @@
 -- Where the arguments of a call stand.
 use Rattle.std.proofs.Common.{◌≡◌, ℕ, zero, suc, ◌-◌, ◌<◌, ◌≤◌, List, [], ◌∷◌, length, get_or, take, reverse, Option, Some, None, refl, ◌∙◌, ap, arith, Contains}
 use Rattle.std.proofs.lemmas.List.{get_or-reverse, get_or-take, length-reverse}
+use Rattle.et_heap.proofs.References.{unset_past}
 use Rattle.et_base.specs.declared.value.Value.{Value}
 use Rattle.et_base.specs.declared.value.Value.TheVariants.{Unset, Ref}
 use Rattle.et_base.proofs.Lists.{Contains-here}
@@ -29,14 +30,8 @@ argument_there ops count j le lt =
     get_or-reverse (take count ops) j Unset small
     ∙ (ap (λ (k : ℕ). get_or (take count ops) (k - 1 - j) Unset) n ∙ get_or-take count ops (count - 1 - j) Unset (omega arith))
 
-past : (xs : List Value) (j : ℕ) → length xs ≤ j → get_or xs j Unset ≡ Unset
-past [] zero le = refl
-past [] (suc j) le = refl
-past (x ∷ xs) zero le = absurd (omega arith)
-past (x ∷ xs) (suc j) le = past xs j (omega arith)
-
 pub argument_past : (ops : List Value) (count j : ℕ) → count ≤ length ops → count ≤ j → get_or (reverse (take count ops)) j Unset ≡ Unset
-argument_past ops count j le past_end = past (reverse (take count ops)) j (let n : length (reverse (take count ops)) ≡ count = length_arguments ops count le in omega arith)
+argument_past ops count j le past_end = unset_past (reverse (take count ops)) j (let n : length (reverse (take count ops)) ≡ count = length_arguments ops count le in omega arith)
 
 -- THE RECEIVER
 

@@ -20,7 +20,7 @@ use et_state::Machine;
 use std::sync::ledger::Ledger;
 
 /// Whether an object is of this built-in class, or of one below it.
-#[tactic(auto, using(crate::proofs::Slots::class_within))]
+#[tactic(auto, using(crate::proofs::Planning::class_within))]
 pub fn is_of<L: Ledger>(
     program: &Program,
     machine: &Machine,

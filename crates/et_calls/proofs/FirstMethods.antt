@@ -1,6 +1,6 @@
 -- A method entered first, by its code.
 use Rattle.std.proofs.Common.{◌≡◌, ℕ, Bool, true, false, List, [], Option, Some, None, refl, sym, ◌∙◌, ap, subst, option_to_list, Contains}
-use Rattle.std.specs.Prelude.{not, Result, IfOk}
+use Rattle.std.specs.Prelude.{not}
 use Rattle.std.proofs.lemmas.List.Elements.{Contains-append_left, Contains-append_right}
 use Rattle.et_base.specs.declared.value.Value.{Value}
 use Rattle.et_class.specs.Names.{has}
@@ -23,10 +23,6 @@ use Rattle.et_event.specs.Frames.{by_code, enters_code}
 use Rattle.et_event.specs.Moments.{Moment, Doing, throws}
 use Rattle.et_calls.specs.Fresh.{IsArgument}
 use Rattle.et_calls.proofs.CalledByCode.{error_by}
-
--- an answer to the same outcome
-pub answers_alike : {E : Type 0} (r : Result EventEnd E) (x y : Outcome Kept) (m m' : MachineState) (out out' : List Record) → x ≡ y → IfOk r (λ end. EventAnswers y end m m' out out') → IfOk r (λ end. EventAnswers x end m m' out out')
-answers_alike r x y m m' out out' e h = subst (λ (z : Outcome Kept). IfOk r (λ end. EventAnswers z end m m' out out')) (sym e) h
 
 pub alike : (x y : Outcome Kept) (end : EventEnd) (m m' : MachineState) (out out' : List Record) → x ≡ y → EventAnswers y end m m' out out' → EventAnswers x end m m' out out'
 alike x y end m m' out out' e h = subst (λ (z : Outcome Kept). EventAnswers z end m m' out out') (sym e) h

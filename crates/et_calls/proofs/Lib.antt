@@ -6,7 +6,7 @@ mod EnteredFrames
 mod NewFrames
 mod Passed
 mod Calling
-mod Told
+pub mod Told
 mod CalledByCode
 mod Initial
 mod Fresh

@@ -1,13 +1,14 @@
 -- The arguments of a method that is entered, where they stand.
-use Rattle.std.proofs.Common.{◌≡◌, ℕ, zero, suc, ◌<◌, ◌≤◌, Bool, true, false, List, [], ◌∷◌, ◌++◌, length, get_or, set, take, reverse, Option, Some, None, refl, sym, ◌∙◌, ap, subst, arith, Contains, get_or-set_same, inl, inr, option_to_list, append-nil}
+use Rattle.std.proofs.Common.{◌≡◌, ℕ, ◌<◌, ◌≤◌, Bool, true, false, List, [], ◌∷◌, ◌++◌, length, get_or, set, take, Option, Some, None, refl, sym, ◌∙◌, ap, subst, arith, Contains, get_or-set_same, inl, inr, option_to_list, append-nil}
 use Rattle.std.specs.Prelude.{if◌then◌else◌, IfSome}
 use Rattle.std.proofs.lemmas.List.{length-set, set-set}
-use Rattle.std.proofs.lemmas.List.Elements.{Contains-append_left, Contains-append_right, Contains-append_cases}
+use Rattle.std.proofs.lemmas.List.Elements.{Contains-append_left, Contains-append_right}
+use Rattle.et_heap.proofs.References.{refs_taken}
 use Rattle.et_base.specs.declared.value.Value.{Value}
 use Rattle.et_base.specs.declared.value.Value.TheVariants.{Ref}
 use Rattle.et_base.proofs.Lists.{Contains-none, Contains-cons, Contains-here}
 use Rattle.et_heap.specs.Objects.{IsHeld}
-use Rattle.et_heap.specs.Refs.{refs_of_value, refs_of}
+use Rattle.et_heap.specs.Refs.{refs_of}
 use Rattle.et_state.specs.ThreadRoots.{frame_roots}
 use Rattle.et_state.specs.Threads.{FrameState, ThreadState, no_thread, as_entered, ended_roots, entered_by, popped, rest_of, with_top_of}
 use Rattle.et_state.specs.NewFrames.{entered_over, frame_with}
@@ -30,14 +31,6 @@ use Rattle.et_calls.specs.Fresh.{IsArgument, IsFresh}
 use Rattle.et_calls.proofs.Fresh.{fresh_on}
 
 -- WHAT THEY REFER TO is held
-
-pub refs_taken : (xs : List Value) (n o : ℕ) → Contains (refs_of (take n xs)) o → Contains (refs_of xs) o
-refs_taken xs zero o c = absurd (Contains-none o c)
-refs_taken [] (suc n) o c = absurd (Contains-none o c)
-refs_taken (x ∷ xs) (suc n) o c = elim (Contains-append_cases (refs_of_value x) (refs_of (take n xs)) o c) [
-  | inl d ↦ Contains-append_left (refs_of_value x) (refs_of xs) o d
-  | inr d ↦ Contains-append_right (refs_of_value x) (refs_of xs) o (refs_taken xs n o d)
-]
 
 pub operand_rooted : (f : FrameState) (o : ℕ) → Contains (refs_of f.operands) o → Contains (frame_roots f) o
 operand_rooted f o c = Contains-append_right (refs_of f.locals) _ o (Contains-append_left (refs_of f.operands) _ o c)

@@ -1,21 +1,15 @@
 -- Rules on things that stand one after the other, as loops come to them.
-use Rattle.std.proofs.Common.{◌≡◌, ℕ, ◌+◌, ◌<◌, ◌≤◌, List, [], ◌∷◌, ◌++◌, length, map, take, drop, get_or, Option, Bool, true, false, ◌||◌, refl, sym, ap, ◌∙◌, arith, append_assoc, length-append}
+use Rattle.std.proofs.Common.{◌≡◌, ℕ, ◌+◌, ◌<◌, ◌≤◌, List, [], ◌∷◌, ◌++◌, length, map, take, drop, get_or, Option, Bool, ◌||◌, refl, sym, ap, ◌∙◌, arith, append_assoc, length-append}
 use Rattle.std.specs.List.{flat_map, list_any}
 use Rattle.std.proofs.lemmas.List.{at_drop_more, at_drop_all, take_more, append-nil, map_push}
+use mathlib.Core.Bool.{or-false}
+use Rattle.et_pool.proofs.Types.{or_assoc}
 use Rattle.et_base.specs.Marks.{Mark, first_from}
 use Rattle.et_base.proofs.Firsts.{first_from-append}
 use Rattle.et_class.specs.Along.{along}
 
-or_false : (b : Bool) → (b || false) ≡ b
-or_false true = refl
-or_false false = refl
-
-or_assoc : (a b c : Bool) → (a || (b || c)) ≡ ((a || b) || c)
-or_assoc true b c = refl
-or_assoc false b c = refl
-
 pub list_any_push : {X : Type 0} (p : X → Bool) (xs : List X) (x : X) → list_any p (xs ++ x ∷ []) ≡ (list_any p xs || p x)
-list_any_push p [] x = or_false (p x)
+list_any_push p [] x = or-false (p x)
 list_any_push p (y ∷ xs) x = ap (λ b. p y || b) (list_any_push p xs x) ∙ or_assoc (p y) (list_any p xs) (p x)
 
 -- THE LOOP GOES OVER A LIST

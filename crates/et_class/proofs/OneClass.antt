@@ -1,7 +1,9 @@
 -- Any bytes are those of exactly one class file, or have exactly one first fault.
 use Rattle.std.proofs.Common.{◌≡◌, ℕ, List, Option, Some, None, Result, Ok, Err, refl, sym, ap, subst, ◌∙◌, ◌⊎◌, inl, inr}
+use Rattle.std.proofs.lemmas.Option.{same_Some}
 use Rattle.et_base.specs.Marks.{MarksAre, first_from}
 use Rattle.et_base.proofs.Firsts.{one, found_is_first}
+use Rattle.et_base.proofs.Options.{some-none}
 use Rattle.et_pool.specs.Broken.{Broken}
 use Rattle.et_pool.specs.Entries.{Item}
 use Rattle.et_pool.specs.Pools.{IsPool, BreaksPool, PoolIs}
@@ -116,22 +118,16 @@ by_head bytes (Err f) i = inr (f, InHead i)
 same_rules : (c d : ClassOf) → c ≡ d → (a b : Option (ℕ × ℕ)) → MarksAre (class_marks c) a → MarksAre (class_marks d) b → b ≡ a
 same_rules c d e a b h i = one (class_marks c) a b h (subst (λ x. MarksAre (class_marks x) b) (sym e) i)
 
-some_none : (x : ℕ × ℕ) → Some x ≡ None → ⊥
-some_none x e = cc
-
-some_is : (x y : ℕ × ℕ) → Some x ≡ Some y → x ≡ y
-some_is x y e = cc
-
 same : (bytes : List ℕ) (a b : Result ClassOf (ℕ × ℕ)) → ClassIs bytes a → ClassIs bytes b → b ≡ a
 same bytes (Ok c) (Ok d) p q = ap (λ (x : ClassOf). Ok x) (one_read bytes d c q.read p.read)
 same bytes (Ok c) (Err f) p (InFirstPass q) = absurd (no_fault bytes c f p.read q)
-same bytes (Ok c) (Err f) p (InSecondPass d r s) = absurd (some_none f (same_rules c d (one_read bytes c d p.read r) None (Some f) p.rules s))
+same bytes (Ok c) (Err f) p (InSecondPass d r s) = absurd (some-none f (same_rules c d (one_read bytes c d p.read r) None (Some f) p.rules s))
 same bytes (Err f) (Ok d) (InFirstPass p) q = absurd (no_fault bytes d f q.read p)
-same bytes (Err f) (Ok d) (InSecondPass c r s) q = absurd (some_none f (same_rules d c (one_read bytes d c q.read r) None (Some f) q.rules s))
+same bytes (Err f) (Ok d) (InSecondPass c r s) q = absurd (some-none f (same_rules d c (one_read bytes d c q.read r) None (Some f) q.rules s))
 same bytes (Err f) (Err g) (InFirstPass p) (InFirstPass q) = ap (λ (x : ℕ × ℕ). Err x) (one_fault bytes g f q p)
 same bytes (Err f) (Err g) (InFirstPass p) (InSecondPass d r s) = absurd (no_fault bytes d f r p)
 same bytes (Err f) (Err g) (InSecondPass c r s) (InFirstPass q) = absurd (no_fault bytes c g r q)
-same bytes (Err f) (Err g) (InSecondPass c r s) (InSecondPass d t u) = ap (λ (x : ℕ × ℕ). Err x) (some_is g f (same_rules c d (one_read bytes c d r t) (Some f) (Some g) s u))
+same bytes (Err f) (Err g) (InSecondPass c r s) (InSecondPass d t u) = ap (λ (x : ℕ × ℕ). Err x) (same_Some g f (same_rules c d (one_read bytes c d r t) (Some f) (Some g) s u))
 
 the : (bytes : List ℕ) (a : Result ClassOf (ℕ × ℕ)) → ClassIs bytes a → HasOneClass bytes
 the bytes a p = record { answer = a; holds = p; only = λ other q. same bytes a other p q }

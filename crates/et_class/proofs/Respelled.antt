@@ -1,13 +1,14 @@
 -- A class is read exactly where it is spelled.
-use Rattle.std.proofs.Common.{◌≡◌, ℕ, ◌+◌, ◌^◌, ◌<◌, ◌≤◌, Bool, true, false, ltb, eqb, ◌||◌, List, [], ◌∷◌, ◌++◌, length, Option, Result, Ok, Err, refl, sym, ap, subst, ◌∙◌, arith, length-append}
+use Rattle.std.proofs.Common.{◌≡◌, ℕ, ◌+◌, ◌^◌, ◌<◌, ◌≤◌, true, ltb, eqb, ◌||◌, List, [], ◌∷◌, ◌++◌, length, Option, Result, Ok, Err, refl, sym, ap, subst, ◌∙◌, arith, length-append}
 use Rattle.std.specs.List.{flat_map}
 use Rattle.std.specs.Int.{w16, w32}
-use Rattle.std.proofs.lemmas.Bool.{eqb-true, ltb-false}
+use Rattle.std.proofs.lemmas.Bool.{eqb-true, ltb-false, or_parts}
 use Rattle.std.proofs.lemmas.List.{append-nil}
 use Rattle.std.proofs.lemmas.List.Concat.{flat_map-append}
 use Rattle.et_base.specs.Numbers.{AreBytes}
 use Rattle.et_base.proofs.Readings.{by_bind, by_if}
 use Rattle.et_base.proofs.Spelling.{Reads, Reads-then, Reads-first, Reads-second, in_bytes}
+use Rattle.et_base.proofs.Lists.{none_long}
 use Rattle.et_pool.specs.Entries.{Item, Text, Word, Wide, Name, Pair, Handle, slots_of, slots_of_item, item_bytes}
 use Rattle.et_pool.specs.Looks.{slot_bytes}
 use Rattle.et_pool.specs.Spelling.{pool_bytes}
@@ -37,16 +38,12 @@ abbrev Head : List ℕ → Result (ℕ × ℕ) (ℕ × ℕ) → Type 0
 Head bytes (Ok v) = IsHead bytes v
 Head bytes (Err f) = Unit {0}
 
-neither : (a b : Bool) → (a || b) ≡ false → (a ≡ false) × (b ≡ false)
-neither true b e = absurd cc
-neither false b e = (refl, e)
-
 versions_read : (bytes : List ℕ) → AreBytes bytes → (magic : ℕ × ℕ) → number_read w32 bytes 0 ≡ Ok magic → eqb magic.0 0xCAFEBABE ≡ true → Head bytes (versions_at bytes magic.1)
 versions_read bytes fits magic h e =
     by_bind (Head bytes) (number_read w16 bytes magic.1) _ (λ f i. tt) (λ minor i.
     by_bind (Head bytes) (number_read w16 bytes minor.1) _ (λ f j. tt) (λ major j.
     by_if (Head bytes) (ltb major.0 45 || ltb 52 major.0) (Err (minor.1, VERSION)) (Ok (minor.0, major.0)) (λ t. tt) (λ t.
-    let n = neither (ltb major.0 45) (ltb 52 major.0) t in
+    let n = or_parts (ltb major.0 45) (ltb 52 major.0) t in
     let m = number_u4 bytes 0 magic.0 magic.1 fits h in
     let a = number_u2 bytes magic.1 minor.0 minor.1 fits i in
     let b = number_u2 bytes minor.1 major.0 major.1 fits j in
@@ -121,13 +118,9 @@ members_read bytes at m fits h = subst (Members bytes at) h (members_case bytes 
 
 -- THE WHOLE
 
-empty : (xs : List ℕ) → length xs ≡ 0 → xs ≡ []
-empty [] e = refl
-empty (x ∷ xs) e = absurd (omega arith)
-
 whole : (bytes xs : List ℕ) → Reads bytes 0 xs (length bytes) → bytes ≡ xs
 whole bytes xs r =
-    let none : r.stands.0 ≡ [] = empty r.stands.0 (omega (arith, ap length r.stands.1, r.next_is, length-append xs r.stands.0)) in
+    let none : r.stands.0 ≡ [] = none_long r.stands.0 (omega (arith, ap length r.stands.1, r.next_is, length-append xs r.stands.0)) in
     r.stands.1 ∙ (ap (λ (ys : List ℕ). xs ++ ys) none ∙ append-nil xs)
 
 all_there : (bytes xs : List ℕ) → bytes ≡ xs → Reads bytes 0 xs (length bytes)

@@ -1,8 +1,8 @@
 -- Where no mark is broken, each rule holds.
-use Rattle.std.proofs.Common.{◌≡◌, ℕ, ◌+◌, ◌^◌, ◌<◌, Bool, true, false, not, ◌||◌, List, [], ◌∷◌, ◌++◌, length, All, None, Result, Ok, Err, refl, sym, ap, subst, ◌∙◌, rules, inl, inr}
+use Rattle.std.proofs.Common.{◌≡◌, ℕ, ◌+◌, ◌^◌, ◌<◌, Bool, true, false, ◌||◌, List, [], ◌∷◌, ◌++◌, length, All, None, Result, Ok, Err, refl, sym, ap, subst, ◌∙◌, rules, inl, inr}
 use Rattle.std.specs.Prelude.{nat_le, nat_lt}
 use Rattle.std.specs.List.{flat_map}
-use Rattle.std.proofs.lemmas.Bool.{cases_eq, ne_eqb, and_parts, ltb-true}
+use Rattle.std.proofs.lemmas.Bool.{cases_eq, ne_eqb, and_parts, ltb-true, not-true}
 use Rattle.et_base.specs.Marks.{Mark, Breaks, MarksAre, mark}
 use Rattle.et_code.specs.declared.instr.CodeFault.{CodeFault}
 use Rattle.et_code.specs.declared.instr.CodeFault.TheVariants as fault
@@ -27,11 +27,11 @@ all_hold : (ms : List Mark) → ((p k : ℕ) → Breaks ms p k → ⊥) → AllH
 all_hold [] h = tt
 all_hold (m ∷ ms) h = (one_holds m.place m.kind m.holds ms h, all_hold ms (λ p k b. h p k (inr b)))
 
-front : (xs ys : List Mark) → AllHold (xs ++ ys) → AllHold xs
+pub front : (xs ys : List Mark) → AllHold (xs ++ ys) → AllHold xs
 front [] ys h = tt
 front (m ∷ xs) ys h = (h.0, front xs ys h.1)
 
-back : (xs ys : List Mark) → AllHold (xs ++ ys) → AllHold ys
+pub back : (xs ys : List Mark) → AllHold (xs ++ ys) → AllHold ys
 back [] ys h = h
 back (m ∷ xs) ys h = back xs ys h.1
 
@@ -43,10 +43,6 @@ at_member f (p ∷ pcs) pc e h =
       | inr other ↦ at_member f pcs pc (ap (λ a. a || has pcs pc) (sym (ne_eqb p pc other)) ∙ e) (back (f p) (flat_map f pcs) h)
     ]
 
-not_true : (b : Bool) → not b ≡ true → b ≡ false
-not_true true e = cc
-not_true false e = refl
-
 instruction : (b : Body) (tags : List ℕ) (pc : ℕ) (r : Result (Instr × ℕ) CodeFault) → instruction_at b.code pc ≡ r → AllHold (decoded_marks b tags (is_start b.code) pc r) → HasInstruction b tags pc
 instruction b tags pc (Ok x) e h = record {
   instruction = x.0;
@@ -55,9 +51,9 @@ instruction b tags pc (Ok x) e h = record {
   keeps = record {
     locals = h.0;
     named = h.1.0;
-    loaded = not_true _ h.1.1.0;
+    loaded = not-true _ h.1.1.0;
     kind = h.1.1.1.0;
-    element = not_true _ h.1.1.1.1.0;
+    element = not-true _ h.1.1.1.1.0;
     targets = h.1.1.1.1.1.0;
     keys = h.1.1.1.1.1.1.0;
   };

@@ -2,7 +2,8 @@
 use Rattle.std.proofs.Common.{◌≡◌, ℕ, zero, suc, ◌+◌, ◌-◌, ◌<◌, ◌≤◌, Bool, true, false, ◌||◌, cond, eqb, ltb, List, [], ◌∷◌, length, get_or, set, replicate, Result, Ok, Err, IsTrue, ◌↔◌, refl, sym, ap, subst, ◌∙◌, arith, rules, inl, inr}
 use Rattle.std.specs.List.{list_any}
 use Rattle.std.proofs.Math.Dec.{eqb-zero-suc, eqb-suc-zero, eqb-suc-suc}
-use Rattle.std.proofs.lemmas.Bool.{ltb-true, ltb-false, cases_lt, cases_eq, eq-eqb, ne_eqb}
+use Rattle.std.proofs.lemmas.Bool.{ltb-false, cases_lt, cases_eq, eq-eqb, ne_eqb, lt-ltb, or_right}
+use mathlib.Core.Bool.{or_assoc, or-false}
 use Rattle.et_code.specs.declared.instr.CodeFault.{CodeFault}
 use Rattle.et_code.specs.declared.instr.Instr.{Instr}
 use Rattle.et_code.specs.Decoding.{instruction_at}
@@ -20,9 +21,6 @@ true_cond b x y e = rw e refl
 false_cond : {A : Type 0} (b : Bool) (x y : A) → b ≡ false → cond b x y ≡ y
 false_cond b x y e = rw e refl
 
-lt_true : (a b : ℕ) → a < b → ltb a b ≡ true
-lt_true a b lt = search (arith, ltb-true)
-
 le_false : (a b : ℕ) → b ≤ a → ltb a b ≡ false
 le_false a b le = search (arith, ltb-false)
 
@@ -34,7 +32,7 @@ past code (suc f) pc le = false_cond _ _ _ (le_false pc (length code) le)
 
 here : (code : List ℕ) (f pc : ℕ) → pc < length code → starts_from code (suc f) pc ≡ pc ∷ bytes_behind (starts_from code f) (instruction_at code pc)
 unfolding starts_from
-here code f pc lt = true_cond _ _ _ (lt_true pc (length code) lt)
+here code f pc lt = true_cond _ _ _ (lt-ltb pc (length code) lt)
 
 -- with enough room, how much there is doesn't matter
 enough : (code : List ℕ) (f g pc : ℕ) → length code - pc ≤ f → length code - pc ≤ g → starts_from code f pc ≡ starts_from code g pc
@@ -77,18 +75,6 @@ has xs place = list_any (λ s. eqb s place) xs
 abbrev pub Flagged : List ℕ → List Bool → ℕ → Type 0
 Flagged code flags pc = (place : ℕ) → (flag flags place || has (rest code pc) place) ≡ is_start code place
 
-or_right_true : (a b : Bool) → b ≡ true → (a || b) ≡ true
-or_right_true true b e = refl
-or_right_true false b e = e
-
-or_assoc : (a b c : Bool) → ((a || b) || c) ≡ (a || (b || c))
-or_assoc true b c = refl
-or_assoc false b c = refl
-
-or_false : (a : Bool) → (a || false) ≡ a
-or_false true = refl
-or_false false = refl
-
 flag-replicate : (n place : ℕ) → flag (replicate n false) place ≡ false
 flag-replicate zero place = refl
 flag-replicate (suc n) zero = refl
@@ -96,9 +82,9 @@ flag-replicate (suc n) (suc place) = flag-replicate n place
 
 flag-set : (flags : List Bool) (pc place : ℕ) → pc < length flags → flag (set flags pc true) place ≡ (flag flags place || eqb pc place)
 flag-set [] pc place lt = absurd (omega arith)
-flag-set (x ∷ xs) zero zero lt = sym (or_right_true x true refl)
-flag-set (x ∷ xs) zero (suc place) lt = sym (ap (λ b. get_or xs place false || b) (eqb-zero-suc place) ∙ or_false (get_or xs place false))
-flag-set (x ∷ xs) (suc pc) zero lt = sym (ap (λ b. x || b) (eqb-suc-zero pc) ∙ or_false x)
+flag-set (x ∷ xs) zero zero lt = sym (or_right x true refl)
+flag-set (x ∷ xs) zero (suc place) lt = sym (ap (λ b. get_or xs place false || b) (eqb-zero-suc place) ∙ or-false (get_or xs place false))
+flag-set (x ∷ xs) (suc pc) zero lt = sym (ap (λ b. x || b) (eqb-suc-zero pc) ∙ or-false x)
 flag-set (x ∷ xs) (suc pc) (suc place) lt = flag-set xs pc place (omega arith) ∙ ap (λ b. get_or xs place false || b) (sym (eqb-suc-suc pc place))
 
 pub flags_begin : (code : List ℕ) → Flagged code (replicate (length code) false) 0
@@ -112,10 +98,10 @@ flags_more code flags pc i next lt same e all place =
 pub flags_last : (code : List ℕ) (flags : List Bool) (pc : ℕ) (f : CodeFault) → pc < length code → length flags ≡ length code → instruction_at code pc ≡ Err f → Flagged code flags pc → (place : ℕ) → flag (set flags pc true) place ≡ is_start code place
 flags_last code flags pc f lt same e all place =
     flag-set flags pc place (omega arith)
-    ∙ (ap (λ b. flag flags place || b) (sym (or_false (eqb pc place))) ∙ (ap (λ xs. flag flags place || has xs place) (sym (rest_last code pc f lt e)) ∙ all place))
+    ∙ (ap (λ b. flag flags place || b) (sym (or-false (eqb pc place))) ∙ (ap (λ xs. flag flags place || has xs place) (sym (rest_last code pc f lt e)) ∙ all place))
 
 pub flags_end : (code : List ℕ) (flags : List Bool) (pc : ℕ) → length code ≤ pc → Flagged code flags pc → (place : ℕ) → flag flags place ≡ is_start code place
-flags_end code flags pc le all place = sym (or_false (flag flags place)) ∙ (ap (λ xs. flag flags place || has xs place) (sym (rest_none code pc le)) ∙ all place)
+flags_end code flags pc le all place = sym (or-false (flag flags place)) ∙ (ap (λ xs. flag flags place || has xs place) (sym (rest_none code pc le)) ∙ all place)
 
 -- THE LIST HAS EXACTLY THE STARTS
 
@@ -147,9 +133,9 @@ inward : (code : List ℕ) (pc : ℕ) → IsStart code pc → (place : ℕ) → 
 inward code _ (Begins some) place e = ap (λ xs. has xs place) (sym (rest_all code)) ∙ e
 inward code _ (Follows pc i next s e lt) place t =
     let before : pc < length code = omega (arith, (decoded_fits code pc i next e).advances) in
-    inward code pc s place (ap (λ xs. has xs place) (rest_next code pc i next before e) ∙ or_right_true (eqb pc place) (has (rest code next) place) t)
+    inward code pc s place (ap (λ xs. has xs place) (rest_next code pc i next before e) ∙ or_right (eqb pc place) (has (rest code next) place) t)
 
-in_code : (code : List ℕ) (pc : ℕ) → IsStart code pc → pc < length code
+pub in_code : (code : List ℕ) (pc : ℕ) → IsStart code pc → pc < length code
 in_code code _ (Begins some) = some
 in_code code _ (Follows pc i next s e lt) = lt
 

@@ -1,6 +1,6 @@
 -- The table of forms has for each opcode the form of its run.
-use Rattle.std.proofs.Common.{◌≡◌, ℕ, zero, suc, ◌+◌, ◌<◌, Bool, true, false, ◌&&◌, eqb, List, [], ◌∷◌, length, get_or, refl, sym, ap, ◌∙◌, arith}
-use Rattle.std.proofs.lemmas.Bool.{eqb-true}
+use Rattle.std.proofs.Common.{◌≡◌, ℕ, zero, suc, ◌+◌, ◌<◌, Bool, true, ◌&&◌, eqb, List, [], ◌∷◌, length, get_or, refl, sym, ap, ◌∙◌, arith}
+use Rattle.std.proofs.lemmas.Bool.{eqb-true, and_parts}
 use Rattle.et_code.specs.declared.form.Form.{Form}
 use Rattle.et_code.specs.declared.form.Form.TheVariants.{Plain, U1, S1, U2, S2, S4, Increment, LongIncrement, Interface, Dimensions, Wide, Table, Lookup, Refused, Unknown}
 use Rattle.et_code.specs.declared.form.TheConstants.{FORMS}
@@ -56,16 +56,11 @@ agrees : List Form → ℕ → Bool
 agrees [] k = true
 agrees (f ∷ fs) k = eqb (number f) (number (run_of form_runs k)) && agrees fs (suc k)
 
-both : (x y : Bool) → (x && y) ≡ true → (x ≡ true) × (y ≡ true)
-both true true e = (refl, refl)
-both true false e = cc
-both false y e = cc
-
 agrees_at : (fs : List Form) (k n m : ℕ) → agrees fs k ≡ true → n < length fs → m ≡ n + k → get_or fs n Unknown ≡ run_of form_runs m
 unfolding agrees
 agrees_at [] k n m e lt s = absurd (omega arith)
-agrees_at (f ∷ fs) k zero m e lt s = let s' : m ≡ k = omega arith in rw s' (same_form f (run_of form_runs k) (both _ _ e).0)
-agrees_at (f ∷ fs) k (suc n) m e lt s = agrees_at fs (suc k) n m (both _ _ e).1 (omega arith) (omega arith)
+agrees_at (f ∷ fs) k zero m e lt s = let s' : m ≡ k = omega arith in rw s' (same_form f (run_of form_runs k) (and_parts _ _ e).0)
+agrees_at (f ∷ fs) k (suc n) m e lt s = agrees_at fs (suc k) n m (and_parts _ _ e).1 (omega arith) (omega arith)
 
 table_agrees : agrees FORMS 0 ≡ true
 unfolding agrees

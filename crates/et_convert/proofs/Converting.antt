@@ -6,6 +6,7 @@ use Rattle.std.specs.Fmt.{digit_glyph}
 use Rattle.std.proofs.lemmas.List.Folds.{flat_map-map}
 use Rattle.std.proofs.lemmas.List.{reverse-append, reverse-reverse, map-append}
 use Rattle.std.proofs.lemmas.List.Elements.{All-from_recursion}
+use Rattle.et_text.proofs.Versions.{begun_where_ended, begins}
 use Rattle.et_base.specs.declared.format.Format.{Format}
 use Rattle.et_base.specs.declared.format.Format.TheVariants as formats
 use Rattle.et_base.specs.declared.line.TraceLine.{TraceLine}
@@ -183,16 +184,12 @@ module _ (v : ℕ) where
 
 -- THE HEADER
 
-begins_with : (line : TraceLine) → next_fault [] line ≡ None → (v n : ℕ) × (line ≡ Header v n)
-begins_with (Header v n) e = (v, n, refl)
-begins_with _ e = absurd cc
-
 -- the version that fine lines say is that of the trace
 version_fine : (v : ℕ) (past : List TraceLine) → AreFine v past → has_begun past ≡ true → version_of past ≡ v
 version_fine v [] h b = absurd cc
 version_fine v (Header w n ∷ past) h b = h.1.0
 version_fine v (line ∷ []) h b =
-    let first = begins_with line h.2 in
+    let first = begins line h.2 in
     let range : IsInRange v (Header first.0 first.1) = subst (IsInRange v) first.2 h.1 in
     subst (λ l. version_of (l ∷ []) ≡ v) (sym first.2) range.0
 version_fine v (_ ∷ line ∷ past) h b = version_fine v (line ∷ past) h.0 refl
@@ -201,30 +198,26 @@ version_fine v (_ ∷ line ∷ past) h b = version_fine v (line ∷ past) h.0 re
 first_fine : (v : ℕ) (past : List TraceLine) → AreFine v past → has_begun past ≡ true → (n : ℕ) × (rest : List TraceLine) × (reverse past ≡ Header v n ∷ rest)
 first_fine v [] h b = absurd cc
 first_fine v (line ∷ []) h b =
-    let first = begins_with line h.2 in
+    let first = begins line h.2 in
     let range : IsInRange v (Header first.0 first.1) = subst (IsInRange v) first.2 h.1 in
     (first.1, [], ap (λ l. l ∷ []) (first.2 ∙ ap (λ x. Header x first.1) range.0))
 first_fine v (line ∷ before ∷ past) h b =
     let first = first_fine v (before ∷ past) h.0 refl in
     (first.0, first.1 ++ line ∷ [], reverse-append (line ∷ []) (before ∷ past) ∙ ap (λ ls. ls ++ line ∷ []) first.2)
 
-begun_ended : (past : List TraceLine) → has_ended past ≡ true → has_begun past ≡ true
-begun_ended [] e = absurd cc
-begun_ended (line ∷ past) e = refl
-
 pub version_good : (v : ℕ) (lines : List TraceLine) → IsGood v lines → version_of (reverse lines) ≡ v
-version_good v lines g = version_fine v (reverse lines) g.fine (begun_ended (reverse lines) g.ended)
+version_good v lines g = version_fine v (reverse lines) g.fine (begun_where_ended (reverse lines) g.ended)
 
 pub first_good : (v : ℕ) (lines : List TraceLine) → IsGood v lines → (n : ℕ) × (rest : List TraceLine) × (lines ≡ Header v n ∷ rest)
 first_good v lines g =
-    let first = first_fine v (reverse lines) g.fine (begun_ended (reverse lines) g.ended) in
+    let first = first_fine v (reverse lines) g.fine (begun_where_ended (reverse lines) g.ended) in
     (first.0, first.1, sym (reverse-reverse lines) ∙ first.2)
 
 -- the version of lines that were turned
 version_turned : (v w : ℕ) (past : List TraceLine) → AreFine w past → has_begun past ≡ true → version_of (turned v past) ≡ v
 version_turned v w [] h b = absurd cc
 version_turned v w (Header u n ∷ past) h b = refl
-version_turned v w (line ∷ []) h b = let first = begins_with line h.2 in subst (λ l. version_of (turned v (l ∷ [])) ≡ v) (sym first.2) refl
+version_turned v w (line ∷ []) h b = let first = begins line h.2 in subst (λ l. version_of (turned v (l ∷ [])) ≡ v) (sym first.2) refl
 version_turned v w (_ ∷ line ∷ past) h b = version_turned v w (line ∷ past) h.0 refl
 
 -- NAMES ARE SHORT
@@ -342,7 +335,7 @@ module _ (lines : List TraceLine) (bytes : List ℕ) (has : HasFormat lines byte
   said_turned : format_said (lines_in other lines) ≡ other
   said_turned =
       ap (λ past. version_format (version_of past)) (reverse_turned (header_version other) lines)
-      ∙ (ap version_format (version_turned (header_version other) (header_version has.format) (reverse lines) has.good.fine (begun_ended (reverse lines) has.good.ended)) ∙ format_back other)
+      ∙ (ap version_format (version_turned (header_version other) (header_version has.format) (reverse lines) has.good.fine (begun_where_ended (reverse lines) has.good.ended)) ∙ format_back other)
 
   says_again : other_format (format_said (converted_lines lines)) ≡ has.format
   says_again = ap other_format (ap format_said converted_is ∙ said_turned) ∙ other_twice has.format

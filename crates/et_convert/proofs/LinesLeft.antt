@@ -4,6 +4,7 @@ use Rattle.std.specs.Prelude.{reverse, All, Some, None, IfNone, OnOk, OnErr, Res
 use Rattle.std.specs.List.{flat_map}
 use Rattle.std.proofs.lemmas.List.{reverse-append, reverse-reverse, length-drop, drop_more, take_rest}
 use Rattle.std.proofs.lemmas.List.Elements.{All-nil, All-push, All-head, All-tail}
+use Rattle.et_text.proofs.OneAnswer.{lf_in}
 use Rattle.et_base.specs.declared.format.Format.{Format}
 use Rattle.et_base.specs.declared.format.Format.TheVariants as formats
 use Rattle.et_base.specs.declared.line.TraceLine.{TraceLine}
@@ -21,7 +22,7 @@ use Rattle.et_binary.specs.Packs.{IsMalformed, IsUnfinished, IsPackOf}
 use Rattle.et_binary.specs.Packs.IsMalformed.{HasNoLetter, IsOutOfRange}
 use Rattle.et_binary.specs.Unpacking.{IsFront}
 use Rattle.et_binary.proofs.Beginnings.{range_packed}
-use Rattle.et_binary.proofs.OnePack.{one_record, malformed_stops, no_record, cancel}
+use Rattle.et_binary.proofs.OnePack.{one_record, malformed_stops, no_record}
 use Rattle.et_convert.specs.Conversions.{version_format, other_format, converted_line, converted_bytes}
 use Rattle.et_convert.proofs.Converting.{bytes_convert, version_good}
 use Rattle.et_convert.specs.Rewriting.{bytes_of, AreLeft, StandsFirst, HasLines}
@@ -54,13 +55,9 @@ text_some lines bytes line behind read a f s =
     let c = cut lines bytes line behind a f in
     record { more = c.more; first = c.parts ∙ ap (λ x. x ∷ c.more) (one_line c.first read line c.spelled s); left = c.left }
 
-lf_stands : (a b : List ℕ) → NoLf (a ++ 10 ∷ b) → ⊥
-lf_stands [] b h = h.0 refl
-lf_stands (x ∷ a) b h = lf_stands a b h.1
-
 pub text_none : (lines : List TraceLine) (bytes : List ℕ) → AreLeft formats.Text lines bytes → IsOneLine bytes → lines ≡ []
 text_none [] bytes a o = refl
-text_none (x ∷ more) bytes a o = absurd (lf_stands (line_body x) (text more) (subst NoLf (a.bytes_are ∙ append_assoc (line_body x) (10 ∷ []) (text more)) (from_all (λ b. b ≢ 10) bytes o)))
+text_none (x ∷ more) bytes a o = absurd (lf_in (line_body x) (text more) (subst NoLf (a.bytes_are ∙ append_assoc (line_body x) (10 ∷ []) (text more)) (from_all (λ b. b ≢ 10) bytes o)))
 
 pub text_form : (bytes line behind : List ℕ) → HasLines formats.Text bytes → FirstLine bytes line behind → ((l : TraceLine) → IsLineSpelled l line → ⊥) → ⊥
 text_form bytes line behind h f none = let c = cut h.0 bytes line behind h.1 f in none c.first c.spelled

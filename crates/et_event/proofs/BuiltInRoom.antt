@@ -5,6 +5,7 @@ use Rattle.std.specs.List.{list_all}
 use Rattle.std.specs.Str.{bytes_eq}
 use Rattle.std.proofs.lemmas.Bool.{and_parts, leb-true}
 use Rattle.std.proofs.lemmas.Slice.Eq.{bytes_eq-Decides}
+use Rattle.std.proofs.lemmas.Option.{same_Some}
 use Rattle.et_class.specs.Descriptors.{types_of, after_dimensions, after_name}
 use Rattle.et_class.specs.Names.{has}
 use Rattle.et_class.specs.declared.flags.TheConstants.{ABSTRACT}
@@ -29,9 +30,6 @@ all_have_room = refl
 pub none_some : (b : BuiltIn) (o : Option BuiltIn) → o ≡ None → o ≡ Some b → ⊥
 none_some b o x y = cc
 
-pub some_same : (a b : BuiltIn) → Some a ≡ Some b → a ≡ b
-some_same a b e = cc
-
 room_by : (m : MethodInfo) (b : BuiltIn) (rows : List (List ℕ × List ℕ × BuiltIn)) → list_all has_room rows ≡ true → option_map (λ (row : List ℕ × List ℕ × BuiltIn). row.2) (find (is_called m.name m.descriptor) rows) ≡ Some b → entries_answered b ≤ returned_width (returned_of m)
 room_by m b [] all e = absurd (none_some b None refl e)
 room_by m b (row ∷ rows) all e = by (is_called m.name m.descriptor row) refl e (room_by m b rows parts.1)
@@ -44,7 +42,7 @@ room_by m b (row ∷ rows) all e = by (is_called m.name m.descriptor row) refl e
     by true is q more =
         let type : row.1 ≡ m.descriptor = (bytes_eq-Decides row.1 m.descriptor).0 (and_parts (bytes_eq row.0 m.name) (bytes_eq row.1 m.descriptor) is).1 in
         let few : entries_answered row.2 ≤ returned_width (returned_of (with_descriptor row.1)) = leb-true (entries_answered row.2) (returned_width (returned_of (with_descriptor row.1))) parts.0 in
-        let same : row.2 ≡ b = some_same row.2 b q in
+        let same : row.2 ≡ b = same_Some row.2 b q in
         subst (λ (k : BuiltIn). entries_answered k ≤ returned_width (returned_of m)) same (subst (λ (d : List ℕ). entries_answered row.2 ≤ returned_width (returned_of (with_descriptor d))) type few)
     by false is q more = more q
 

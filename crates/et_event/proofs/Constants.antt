@@ -4,7 +4,7 @@ use Rattle.std.specs.Prelude.{◌&&◌, pos, int_lt, IfOk, IfSome, if◌then◌e
 use Rattle.std.specs.List.{list_all}
 use Rattle.std.specs.Option.{ok_or}
 use Rattle.std.specs.Int.{Width, w8, w16, w32, byte_len, from_be_bytes, cast_signed}
-use Rattle.std.proofs.lemmas.Bool.{and_parts, ltb-true}
+use Rattle.std.proofs.lemmas.Bool.{and_parts, lt-ltb}
 use Rattle.et_base.specs.Numbers.{number_at}
 use Rattle.et_code.specs.declared.instr.CodeFault.{CodeFault}
 use Rattle.et_code.specs.declared.instr.CodeFault.TheVariants as fault
@@ -158,9 +158,6 @@ ended : {A : Type 0} (b : Bool) (x : A) (f : A → Result (Instr × ℕ) CodeFau
 ended true x f e = refl
 ended false x f e = cc
 
-past_end : (a b : ℕ) → a < b → ltb a b ≡ true
-past_end a b lt = search (arith, ltb-true)
-
 pub at_end : (code : List ℕ) (pc : ℕ) → length code ≤ pc → instruction_at code pc ≡ Err fault.Short
 unfolding instruction_at
-at_end code pc le = ended (ltb (length code) (pc + byte_len w8)) (from_be_bytes w8 (drop pc code), pc + byte_len w8) (λ o. operands_at code pc o.0 o.1 (form_of o.0)) (past_end (length code) (pc + byte_len w8) (omega arith))
+at_end code pc le = ended (ltb (length code) (pc + byte_len w8)) (from_be_bytes w8 (drop pc code), pc + byte_len w8) (λ o. operands_at code pc o.0 o.1 (form_of o.0)) (lt-ltb (length code) (pc + byte_len w8) (omega arith))

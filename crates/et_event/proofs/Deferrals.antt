@@ -17,7 +17,7 @@ none_deferred (Some m) none some = cc
 pub answered : (r : Option ℕ) (o : Outcome Kept) (end : EventEnd) (m m' : MachineState) (out out' : List Record) → r ≡ None → EventAnswers o end m m' out out' → DefersOrAnswers r o end m m' out out'
 answered r o end m m' out out' none a = subst (λ (q : Option ℕ). DefersOrAnswers q o end m m' out out') (sym none) a
 
-not_answered : (o : Outcome Kept) (method : ℕ) (m m' : MachineState) (out out' : List Record) → EventAnswers o (ends.Native method) m m' out out' → ⊥
+pub not_answered : (o : Outcome Kept) (method : ℕ) (m m' : MachineState) (out out' : List Record) → EventAnswers o (ends.Native method) m m' out out' → ⊥
 not_answered (outcome.Goes next records) method m m' out out' a = a
 not_answered (outcome.Waits next) method m m' out out' a = a
 not_answered (outcome.IllTyped k pc) method m m' out out' a = a

@@ -39,7 +39,7 @@ pub framed : (fs : List FrameState) → 0 < length fs → has_frame fs ≡ true
 framed [] h = absurd (omega arith)
 framed (f ∷ fs) h = refl
 
-not_given_up : (e : Moment) (d : Doing) → 0 < length (thread_at d.state.guest e.thread).frames → entry_given_up e d ≡ d
+pub not_given_up : (e : Moment) (d : Doing) → 0 < length (thread_at d.state.guest e.thread).frames → entry_given_up e d ≡ d
 not_given_up e d h = ap (λ (b : Bool). if b then d else with_thread_state e (as_entered (thread_at d.state.guest e.thread)) d) (framed (thread_at d.state.guest e.thread).frames h)
 
 -- what is thrown

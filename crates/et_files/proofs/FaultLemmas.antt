@@ -1,6 +1,7 @@
 -- How often reads failed, by the answer.
 use Rattle.std.proofs.Common.{◌≡◌, ℕ, ◌+◌, ◌<◌, ◌≤◌, ◌⊎◌, inl, inr, min, Bool, false, Result, Ok, Err, refl, sym, ◌∙◌, ap, arith}
 use Rattle.std.specs.Prelude.{IfErr}
+use Rattle.std.proofs.lemmas.Bool.{cases_lt}
 use Rattle.et_io.specs.Faults.{Rose, count_after, last_count}
 use Rattle.et_files.specs.Refusals.{status_of}
 use Rattle.et_files.specs.Status.{is_read_status, is_write_status}
@@ -8,11 +9,8 @@ use Rattle.et_files.specs.Told.{Cause, File, Reading, Memory, Other, IsOfBytes, 
 use Rattle.et_files.specs.declared.refusal.Refusal.{Refusal}
 use Rattle.et_files.specs.declared.refusal.Refusal.TheVariants as refusal
 
-less : (a b : ℕ) → (a < b) ⊎ (b ≤ a)
-less a b = grind arith
-
 rose_at : (last old new : ℕ) → new ≡ min (old + 1) last → (old < new) ⊎ (last ≤ new)
-rose_at last old new is = elim (less old last) [ inl lt ↦ inl (omega (arith, is, lt)) | inr le ↦ inr (omega (arith, is, le)) ]
+rose_at last old new is = elim (cases_lt old last) [ inl lt ↦ inl (omega (arith, is, lt)) | inr le ↦ inr (omega (arith, is, le)) ]
 
 -- a count with one fault more rose
 pub rose_one : (old new : ℕ) → new ≡ min (old + 1) last_count → Rose old new

@@ -1,7 +1,8 @@
 -- The code is followed from a place, straight on.
 use Rattle.std.proofs.Common.{◌≡◌, ℕ, ◌+◌, ◌*◌, ◌-◌, ◌<◌, ◌≤◌, Bool, true, false, List, [], ◌∷◌, ◌++◌, length, Option, Some, None, sym, ◌∙◌, ap, subst, inl, inr, arith, Contains}
 use Rattle.std.specs.Prelude.{IfSome}
-use Rattle.std.proofs.lemmas.List.Elements.{Contains-append_left, Contains-append_right, Contains-push, Contains-push_cases}
+use Rattle.std.proofs.lemmas.List.Elements.{Contains-append_left, Contains-append_right, Contains-push}
+use Rattle.et_base.proofs.Lists.{Contains-one}
 use Rattle.et_flow.specs.declared.search.Lead.{Lead}
 use Rattle.et_flow.specs.Types.{TypesOf}
 use Rattle.et_flow.specs.Flows.{LeadOf, Typing, IsThere, LeadsThere, IsTyping, HasTyping, IsMonotone, IsWithin, IsLeadWithin, IsStraight, HasLed, some_place, types_at, heights, HasLocals}
@@ -18,9 +19,6 @@ IsRunning leads straight entry locals states work types (Some pc) =
 abbrev pub ahead : ℕ → Option ℕ → ℕ
 ahead count None = 0
 ahead count (Some pc) = count + 1 - pc
-
-only : (k q : ℕ) → Contains (k ∷ []) q → k ≡ q
-only k q c = elim (Contains-push_cases [] k q c) [ inl none ↦ absurd (omega (arith, none.1)) | inr same ↦ same ]
 
 module _ (leads : ℕ → TypesOf → Option LeadOf) (straight : ℕ → Bool) (monotone : IsMonotone leads) (code : IsStraight leads straight) where
   pub begins : (entry : TypesOf) (locals : ℕ) (states : States) (front : List ℕ) (place : ℕ) (ts : TypesOf) → straight place ≡ false → types_at states place ≡ Some ts → Searches leads straight entry locals states (front ++ place ∷ []) → IsRunning leads straight entry locals states front ts (Some place)
@@ -50,7 +48,7 @@ module _ (leads : ℕ → TypesOf → Option LeadOf) (straight : ℕ → Bool) (
       where
         by : (on : Option ℕ) → IfSome on (λ k. straight k ≡ true) → Contains (some_place on) q → straight q ≡ true
         by None t m = absurd (omega (arith, m.1))
-        by (Some k) t m = subst (λ (n : ℕ). straight n ≡ true) (only k q m) t
+        by (Some k) t m = subst (λ (n : ℕ). straight n ≡ true) (Contains-one k q m) t
 
     -- where the code goes straight on is ahead
     pub on_ahead : IfSome x.on (λ q. (pc < q) × (q < count))

@@ -2,13 +2,12 @@
 use Rattle.std.proofs.Common.{◌≡◌, ℕ, zero, suc, ◌+◌, ◌-◌, ◌<◌, ◌≤◌, ◌==◌, Bool, true, false, get_or-set_same, get_or-set_other, List, [], ◌∷◌, ◌++◌, length, get_or, set, refl, sym, ◌∙◌, ap, subst, inl, inr, arith}
 use Rattle.std.specs.Prelude.{if◌then◌else◌, replicate, sum_by}
 use Rattle.std.specs.List.{insert}
-use Rattle.std.proofs.lemmas.Bool.{cases_eq, cases_lt, eq-eqb, eqb-true, false≢true}
+use Rattle.std.proofs.lemmas.Bool.{cases_eq, cases_lt, eq-eqb, eqb-true, false≢true, ne_eqb}
 use Rattle.std.proofs.lemmas.Bool.Decides.{nat_tests}
 use Rattle.std.proofs.lemmas.List.{length-set, length-append, length-replicate, get_or_append_left, get_or-append_right, get_or-replicate}
 use Rattle.std.proofs.lemmas.List.Edits.{length-insert, get_or-insert_below, get_or-insert_at, get_or-insert_above}
 use Rattle.std.proofs.lemmas.List.FromFn.{length-map-range_with_len, get_or-map-range_with_len, fill_by_all}
 use Rattle.std.proofs.lemmas.List.Sums.{sum_by-cons}
-use Rattle.et_flow.proofs.Stores.{not_eqb}
 use Rattle.et_flow.proofs.Below.{joined_is, rank_joined, length-joined_lists, joined_at}
 use Rattle.et_flow.specs.Stores.{with_free}
 use Rattle.et_flow.specs.declared.types.EntryType.TheVariants as entry
@@ -91,7 +90,7 @@ pub set_spread : (count : ℕ) (old new : List Held) (i : ℕ) (entry : EntryTyp
 set_spread count old new i entry lt is = spread_is count new (set (spread count old) i entry) (length-set (spread count old) i entry ∙ length-spread count old) (λ k inside. elim (cases_eq k i) [
   | inl same ↦ subst (λ (n : ℕ). get_or (set (spread count old) i entry) n Free ≡ type_in new n) (sym same)
       (get_or-set_same (spread count old) i entry Free (omega (arith, lt, length-spread count old)) ∙ sym (is i ∙ ap (λ (b : Bool). if b then entry else type_in old i) (eq-eqb i i refl)))
-  | inr ne ↦ get_or-set_other (spread count old) i k entry Free ne ∙ (at_spread count old k inside ∙ sym (is k ∙ ap (λ (b : Bool). if b then entry else type_in old k) (not_eqb i k (λ e. ne (sym e)))))
+  | inr ne ↦ get_or-set_other (spread count old) i k entry Free ne ∙ (at_spread count old k inside ∙ sym (is k ∙ ap (λ (b : Bool). if b then entry else type_in old k) (ne_eqb i k (λ e. ne (sym e)))))
 ])
 
 pub type_read : (count : ℕ) (held : List Held) (xs : List EntryType) (i : ℕ) → spread count held ≡ xs → i < count → type_in held i ≡ get_or xs i Free

@@ -4,18 +4,13 @@ use Rattle.std.proofs.lemmas.Bool.{cases_eq}
 use Rattle.std.proofs.lemmas.List.{length-set, length-append}
 use Rattle.std.proofs.lemmas.List.Elements.{Contains-append_left, Contains-push, Contains-push_cases}
 use Rattle.std.proofs.lemmas.List.Sums.{sum_by-set}
+use Rattle.std.proofs.lemmas.Option.{same_Some, none-some}
 use Rattle.et_flow.specs.Types.{TypesOf, AreTypesBelow}
 use Rattle.et_flow.specs.Flows.{LeadOf, Typing, AreAbove, IsThere, LeadsThere, types_at, joined_with, height, heights, IsJoinable, HasLocals}
 use Rattle.et_flow.specs.Searching.{States, HasJoined, HaveLocals, IsUnder, Grows}
 use Rattle.et_flow.proofs.Below.{length-joined_lists, lists_joined_left, lists_joined_right, lists_joined_below, types_refl, types_trans}
 
 -- WHAT IS THERE
-
-some_same : (ts us : TypesOf) → Some ts ≡ Some us → ts ≡ us
-some_same ts us e = cc
-
-none_some : (ts : TypesOf) → None ≡ Some ts → ⊥
-none_some ts e = cc
 
 pub above_more : (ts us : TypesOf) (o : Option TypesOf) → AreTypesBelow ts us → AreAbove us o → AreAbove ts o
 above_more ts us None p h = h
@@ -39,8 +34,8 @@ leads_more s s' (Some l) grows h = (λ q c. there_more s s' q l.after (grows q) 
 -- TYPES THAT JOIN WITH WHAT IS THERE
 
 pub joined_left : (o : Option TypesOf) (ts us : TypesOf) → IsJoinable o ts → o ≡ Some us → AreTypesBelow us (joined_with o ts)
-joined_left None ts us j e = absurd (none_some us e)
-joined_left (Some vs) ts us j e = subst (λ (x : TypesOf). AreTypesBelow x (joined_with (Some vs) ts)) (some_same vs us e) (record { operands = refl; locals = lists_joined_left vs.locals ts.locals j.1 })
+joined_left None ts us j e = absurd (none-some us e)
+joined_left (Some vs) ts us j e = subst (λ (x : TypesOf). AreTypesBelow x (joined_with (Some vs) ts)) (same_Some vs us e) (record { operands = refl; locals = lists_joined_left vs.locals ts.locals j.1 })
 
 pub joined_right : (o : Option TypesOf) (ts : TypesOf) → IsJoinable o ts → AreTypesBelow ts (joined_with o ts)
 joined_right None ts j = types_refl ts
@@ -143,7 +138,7 @@ module _ (locals : ℕ) (states : States) (work : List ℕ) (place : ℕ) (ts : 
 
   pub joined_least_now : (typing : Typing) → IsUnder typing states → IsThere typing place ts → IsUnder typing states'
   joined_least_now typing under there pc us e = elim (cases_eq pc place) [
-    | inl same ↦ subst (λ (k : ℕ). IsThere typing k us) (sym same) (by (typing place) refl there (some_same new us (sym there_now ∙ subst (λ (k : ℕ). types_at states' k ≡ Some us) same e)))
+    | inl same ↦ subst (λ (k : ℕ). IsThere typing k us) (sym same) (by (typing place) refl there (same_Some new us (sym there_now ∙ subst (λ (k : ℕ). types_at states' k ≡ Some us) same e)))
     | inr ne ↦ under pc us (sym (other_now pc ne) ∙ e)
   ]
     where

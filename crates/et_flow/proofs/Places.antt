@@ -3,6 +3,7 @@ use Rattle.std.proofs.Common.{◌≡◌, ℕ, ◌+◌, ◌<◌, ◌≤◌, ◌�
 use Rattle.std.specs.Prelude.{sum_by}
 use Rattle.std.proofs.lemmas.List.Elements.{Contains-append_left, Contains-push, Contains-push_cases}
 use Rattle.std.proofs.lemmas.List.Sums.{sum_by-set, sum_by-le}
+use Rattle.et_base.proofs.Lists.{Contains-none}
 use Rattle.et_flow.specs.declared.types.EntryType.{EntryType}
 use Rattle.et_flow.specs.Types.{TypesOf, rank}
 use Rattle.et_flow.specs.Flows.{IsThere, types_at, joined_with, height, heights, IsJoinable}
@@ -60,11 +61,8 @@ joined_among locals states work place ts states' work' h pc c = elim h.noted [
   | inr put ↦ Contains-push_cases work place pc (subst (λ (w : List ℕ). Contains w pc) put.0 c)
 ]
 
-no_place : (q : ℕ) → Contains [] q → ⊥
-no_place q c = absurd (omega (arith, c.1))
-
 pub joins_none : (locals : ℕ) (states : States) (work : List ℕ) (ts : TypesOf) → HaveLocals locals states → Joins locals states work [] ts states work
-joins_none locals states work ts had = record { grows = grows_refl locals states work had; there = λ q c. absurd (no_place q c); least = λ typing under there. under; among = λ pc c. inl c }
+joins_none locals states work ts had = record { grows = grows_refl locals states work had; there = λ q c. absurd (Contains-none q c); least = λ typing under there. under; among = λ pc c. inl c }
 
 pub joins_more : (locals : ℕ) (s0 s1 s2 : States) (w0 w1 w2 places : List ℕ) (place : ℕ) (ts : TypesOf) → length ts.locals ≤ locals → place < length s1 → Joins locals s0 w0 places ts s1 w1 → HasJoined locals s1 w1 place ts s2 w2
     → Joins locals s0 w0 (places ++ place ∷ []) ts s2 w2

@@ -3,18 +3,13 @@ use Rattle.std.proofs.Common.{◌≡◌, ℕ, ◌<◌, ◌≤◌, ◌⊎◌, eqb
 use Rattle.std.specs.Prelude.{if◌then◌else◌}
 use Rattle.std.proofs.lemmas.Bool.{cases_Bool, false≢true, eqb-true, eq-eqb}
 use Rattle.std.proofs.lemmas.List.Elements.{Contains-append_left, Contains-append_right, Contains-append_cases, Contains-push, Contains-push_cases}
+use Rattle.std.proofs.lemmas.Option.{same_Some, none-some}
 use Rattle.et_flow.specs.Types.{TypesOf, AreTypesBelow}
 use Rattle.et_flow.specs.Flows.{LeadOf, Typing, AreAbove, IsThere, LeadsThere, IsTyping, HasTyping, IsLeadBelow, IsMonotone, IsStraight, some_place, types_at, HasLocals}
 use Rattle.et_flow.specs.Searching.{States, HasJoined, HaveLocals, Grows, Joins, IsUnder, found, IsPassed, IsSearching}
 use Rattle.et_flow.proofs.Below.{types_refl}
 use Rattle.et_flow.proofs.Places.{joined_among}
 use Rattle.et_flow.proofs.Joining.{above_more, is_above, there_more, leads_more, joined_there, joined_grows, joined_least_now}
-
-some_same : (ts us : TypesOf) → Some ts ≡ Some us → ts ≡ us
-some_same ts us e = cc
-
-none_some : (ts : TypesOf) → None ≡ Some ts → ⊥
-none_some ts e = cc
 
 -- A TYPING is above what leads from below it
 
@@ -84,17 +79,17 @@ module _ (leads : ℕ → TypesOf → Option LeadOf) (straight : ℕ → Bool) (
       let had : HaveLocals (length entry.locals) states = λ pc. subst (λ (o : Option TypesOf). HasLocals (length entry.locals) o) (sym (none pc)) tt in
       let few : length entry.locals ≤ length entry.locals = omega arith in
       let g : Grows (length entry.locals) states [] states' work' = joined_grows (length entry.locals) states [] 0 entry states' work' some h few had in
-      let empty : (pc : ℕ) (us : TypesOf) → types_at states pc ≡ Some us → ⊥ = λ pc us e. none_some us (sym (none pc) ∙ e) in
+      let empty : (pc : ℕ) (us : TypesOf) → types_at states pc ≡ Some us → ⊥ = λ pc us e. none-some us (sym (none pc) ∙ e) in
       let T : Typing = found straight (λ pc. None) states' in
       let kept : (pc : ℕ) (us : TypesOf) → T pc ≡ Some us → (straight pc ≡ false) × (types_at states' pc ≡ Some us) = λ pc us e. elim (cases_Bool (straight pc)) [
-        | inl on ↦ absurd (none_some us (sym (found_passed straight (λ q. None) states' pc on) ∙ e))
+        | inl on ↦ absurd (none-some us (sym (found_passed straight (λ q. None) states' pc on) ∙ e))
         | inr off ↦ (off, sym (found_kept straight (λ q. None) states' pc off) ∙ e)
       ] in
       record {
         entry_there = subst (λ (o : Option TypesOf). AreAbove entry o) (sym (found_kept straight (λ q. None) states' 0 code.first)) (joined_there (length entry.locals) states [] 0 entry states' work' some h);
         closed = λ pc us e. elim (g.noted pc us (kept pc us e).1) [ inl was ↦ absurd (empty pc us was) | inr put ↦ inl put ];
         least = λ typing is pc us e. joined_least_now (length entry.locals) states [] 0 entry states' work' some h typing (λ q vs was. absurd (empty q vs was)) is.entry_there pc us (kept pc us e).1;
-        runs = λ pc us on e. absurd (none_some us e);
+        runs = λ pc us on e. absurd (none-some us e);
         kept = λ pc us e. elim (g.noted pc us e) [
           | inl was ↦ absurd (empty pc us was)
           | inr put ↦ elim (joined_among (length entry.locals) states [] 0 entry states' work' h pc put) [
@@ -113,7 +108,7 @@ module _ (leads : ℕ → TypesOf → Option LeadOf) (straight : ℕ → Bool) (
     closed = λ pc us e. elim (h.closed pc us e) [
       | inl c ↦ elim (Contains-push_cases front place pc c) [
         | inl was ↦ inl was
-        | inr same ↦ absurd (none_some us (sym none ∙ subst (λ (k : ℕ). found straight passed states k ≡ Some us) (sym same) e))
+        | inr same ↦ absurd (none-some us (sym none ∙ subst (λ (k : ℕ). found straight passed states k ≡ Some us) (sym same) e))
       ]
       | inr l ↦ inr l
     ];
@@ -211,7 +206,7 @@ module _ (leads : ℕ → TypesOf → Option LeadOf) (straight : ℕ → Bool) (
       | inl c ↦ elim (Contains-push_cases front pc q c) [
         | inl was ↦ inl (noted_more w2 on q (b.grows.kept q (a.grows.kept q was)))
         | inr same ↦ inr (subst (λ (k : ℕ). LeadsThere (found straight (passed_on on l.after passed) s2) (leads k us)) same
-            (subst (λ (x : TypesOf). LeadsThere (found straight (passed_on on l.after passed) s2) (leads pc x)) (some_same ts us (sym here ∙ subst (λ (k : ℕ). found straight passed s0 k ≡ Some us) (sym same) e))
+            (subst (λ (x : TypesOf). LeadsThere (found straight (passed_on on l.after passed) s2) (leads pc x)) (same_Some ts us (sym here ∙ subst (λ (k : ℕ). found straight passed s0 k ≡ Some us) (sym same) e))
             (subst (λ (o : Option LeadOf). LeadsThere (found straight (passed_on on l.after passed) s2) o) (sym leading) led)))
       ]
       | inr there ↦ inr (leads_more (found straight passed s0) (found straight (passed_on on l.after passed) s2) (leads q us) grow there)
@@ -241,7 +236,7 @@ module _ (leads : ℕ → TypesOf → Option LeadOf) (straight : ℕ → Bool) (
     least_now : (typing : Typing) → IsTyping leads entry typing → (q : ℕ) (us : TypesOf) → found straight (passed_on on l.after passed) s2 q ≡ Some us → IsThere typing q us
     least_now typing is q us e = elim (cases_Bool (straight q)) [
       | inl st ↦ elim (cases_Bool (is_place on q)) [
-        | inl on_it ↦ subst (λ (x : TypesOf). IsThere typing q x) (some_same l.after us (sym (on_there q on_it) ∙ e)) ((leads_typing typing is).0 q (next_on q on_it))
+        | inl on_it ↦ subst (λ (x : TypesOf). IsThere typing q x) (same_Some l.after us (sym (on_there q on_it) ∙ e)) ((leads_typing typing is).0 q (next_on q on_it))
         | inr off ↦ h.least typing is q us (found_passed straight passed s0 q st ∙ (sym (not_on q st off) ∙ e))
       ]
       | inr ks ↦ b.least typing (a.least typing (kept_under locals s0 (front ++ pc ∷ []) passed h typing is) (leads_typing typing is).1) (others_there typing is) q us (sym (found_kept straight (passed_on on l.after passed) s2 q ks) ∙ e)
@@ -256,7 +251,7 @@ module _ (leads : ℕ → TypesOf → Option LeadOf) (straight : ℕ → Bool) (
         lead = l;
         is = leading;
         there = next_on q on_it;
-        after_is = some_same l.after us (sym (ap (λ (x : Bool). if x then Some l.after else passed q) on_it) ∙ e);
+        after_is = same_Some l.after us (sym (ap (λ (x : Bool). if x then Some l.after else passed q) on_it) ∙ e);
       }
       | inr off ↦ (let f : IsPassed leads (found straight passed s0) q us = h.runs q us st (sym (ap (λ (x : Bool). if x then Some l.after else passed q) off) ∙ e) in record {
         pc = f.pc;

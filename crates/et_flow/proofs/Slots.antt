@@ -4,6 +4,7 @@ use Rattle.std.specs.List.{slice_get}
 use Rattle.std.proofs.lemmas.Bool.{cases_eq}
 use Rattle.std.proofs.lemmas.List.{length-map, length-set, get_or_read}
 use Rattle.std.specs.Prelude.{replicate}
+use Rattle.std.proofs.lemmas.Option.{same_Some}
 use Rattle.et_flow.specs.declared.types.EntryType.{EntryType}
 use Rattle.et_flow.specs.Types.{TypesOf, joined_lists}
 use Rattle.et_flow.specs.Flows.{types_at, joined_with, IsJoinable}
@@ -152,12 +153,9 @@ both_joined us ts vs e f =
     ap (λ (ops : List EntryType). let x : TypesOf = record { operands = ops; locals = vs.locals } in x) e
     ∙ ap (λ (ls : List EntryType). let x : TypesOf = record { operands = us.operands; locals = ls } in x) f
 
-some_same : (ts us : TypesOf) → Some ts ≡ Some us → ts ≡ us
-some_same ts us e = cc
-
 pub not_shaped : (us ts : TypesOf) (o : Option TypesOf) → o ≡ Some us → (IsShaped us ts → ⊥) → IsJoinable o ts → ⊥
 not_shaped us ts None e never joinable = absurd (cc e)
-not_shaped us ts (Some vs) e never joinable = never (subst (λ (x : TypesOf). IsShaped x ts) (some_same vs us e) joinable)
+not_shaped us ts (Some vs) e never joinable = never (subst (λ (x : TypesOf). IsShaped x ts) (same_Some vs us e) joinable)
 
 -- THE SLOT OF A PLACE, as it was read
 

@@ -1,7 +1,7 @@
 -- The types of local variables after one was written: each depends on the one that was in its place alone, so a store is monotone.
 use Rattle.std.proofs.Common.{◌≡◌, ℕ, zero, suc, ◌+◌, ◌<◌, ◌==◌, ◌&&◌, Bool, true, false, List, length, get_or, set, refl, sym, ◌∙◌, ap, subst, inl, inr, arith, get_or-set_same, get_or-set_other}
 use Rattle.std.specs.Prelude.{if◌then◌else◌}
-use Rattle.std.proofs.lemmas.Bool.{cases_eq, eq-eqb, eqb-true}
+use Rattle.std.proofs.lemmas.Bool.{cases_eq, eq-eqb, ne_eqb}
 use Rattle.std.proofs.lemmas.List.{length-set}
 use Rattle.et_flow.specs.declared.types.EntryType.{EntryType}
 use Rattle.et_flow.specs.declared.types.EntryType.TheVariants as entry
@@ -26,13 +26,6 @@ kept_below first last j x y h = gone_below is_high (j == last + 1) _ _ refl (gon
 
 -- LISTS
 
-pub not_eqb : (j k : ℕ) → (j ≡ k → ⊥) → (j == k) ≡ false
-not_eqb j k ne = by (j == k) refl
-  where
-    by : (b : Bool) → (j == k) ≡ b → (j == k) ≡ false
-    by true e = absurd (ne (eqb-true j k e))
-    by false e = e
-
 set_if : (xs : List EntryType) (k j : ℕ) (b : Bool) → j < length xs → (get_or (if b then set xs k entry.Free else xs) j entry.Free) ≡ (if (j == k) && b then entry.Free else get_or xs j entry.Free)
 set_if xs k j b lt = elim (cases_eq j k) [
   | inl same ↦ here b same
@@ -46,28 +39,28 @@ set_if xs k j b lt = elim (cases_eq j k) [
     here false same = subst (λ (x : Bool). get_or xs j entry.Free ≡ (if x && false then entry.Free else get_or xs j entry.Free)) (sym (eq-eqb j k same)) refl
 
     there : (c : Bool) → (j ≡ k → ⊥) → (get_or (if c then set xs k entry.Free else xs) j entry.Free) ≡ (if (j == k) && c then entry.Free else get_or xs j entry.Free)
-    there true ne = subst (λ (x : Bool). get_or (set xs k entry.Free) j entry.Free ≡ (if x && true then entry.Free else get_or xs j entry.Free)) (sym (not_eqb j k ne)) (get_or-set_other xs k j entry.Free entry.Free ne)
-    there false ne = subst (λ (x : Bool). get_or xs j entry.Free ≡ (if x && false then entry.Free else get_or xs j entry.Free)) (sym (not_eqb j k ne)) refl
+    there true ne = subst (λ (x : Bool). get_or (set xs k entry.Free) j entry.Free ≡ (if x && true then entry.Free else get_or xs j entry.Free)) (sym (ne_eqb j k ne)) (get_or-set_other xs k j entry.Free entry.Free ne)
+    there false ne = subst (λ (x : Bool). get_or xs j entry.Free ≡ (if x && false then entry.Free else get_or xs j entry.Free)) (sym (ne_eqb j k ne)) refl
 
 -- the test is of the entry at k, which is that at j where it matters
 test_there : (xs : List EntryType) (k j : ℕ) (test : EntryType → Bool) → (if (j == k) && test (get_or xs k entry.Free) then entry.Free else get_or xs j entry.Free) ≡ gone_if test (j == k) (get_or xs j entry.Free)
 test_there xs k j test = elim (cases_eq j k) [
   | inl same ↦ ap (λ (i : ℕ). if (j == k) && test (get_or xs i entry.Free) then entry.Free else get_or xs j entry.Free) (sym same)
-  | inr ne ↦ subst (λ (x : Bool). (if x && test (get_or xs k entry.Free) then entry.Free else get_or xs j entry.Free) ≡ gone_if test x (get_or xs j entry.Free)) (sym (not_eqb j k ne)) refl
+  | inr ne ↦ subst (λ (x : Bool). (if x && test (get_or xs k entry.Free) then entry.Free else get_or xs j entry.Free) ≡ gone_if test x (get_or xs j entry.Free)) (sym (ne_eqb j k ne)) refl
 ]
 
 pub upper_at : (xs : List EntryType) (i j : ℕ) → j < length xs → get_or (without_upper i xs) j entry.Free ≡ gone_if is_high (j == i + 1) (get_or xs j entry.Free)
 upper_at xs i j lt = set_if xs (i + 1) j (is_high (get_or xs (i + 1) entry.Free)) lt ∙ test_there xs (i + 1) j is_high
 
 pub lower_at : (xs : List EntryType) (i j : ℕ) → j < length xs → get_or (without_lower i xs) j entry.Free ≡ gone_if is_long (j + 1 == i) (get_or xs j entry.Free)
-lower_at xs zero j lt = subst (λ (x : Bool). get_or xs j entry.Free ≡ gone_if is_long x (get_or xs j entry.Free)) (sym (not_eqb (j + 1) zero (λ e. absurd (omega arith)))) refl
+lower_at xs zero j lt = subst (λ (x : Bool). get_or xs j entry.Free ≡ gone_if is_long x (get_or xs j entry.Free)) (sym (ne_eqb (j + 1) zero (λ e. absurd (omega arith)))) refl
 lower_at xs (suc i) j lt =
     set_if xs i j (is_long (get_or xs i entry.Free)) lt ∙ (test_there xs i j is_long ∙ ap (λ (b : Bool). gone_if is_long b (get_or xs j entry.Free)) (same_test j i))
   where
     same_test : (a b : ℕ) → (a == b) ≡ (a + 1 == suc b)
     same_test a b = elim (cases_eq a b) [
       | inl same ↦ eq-eqb a b same ∙ sym (eq-eqb (a + 1) (suc b) (omega arith))
-      | inr ne ↦ not_eqb a b ne ∙ sym (not_eqb (a + 1) (suc b) (λ e. ne (omega arith)))
+      | inr ne ↦ ne_eqb a b ne ∙ sym (ne_eqb (a + 1) (suc b) (λ e. ne (omega arith)))
     ]
 
 length-upper : (i : ℕ) (xs : List EntryType) → length (without_upper i xs) ≡ length xs

@@ -1,10 +1,12 @@
 -- References that are put in their queues one after the other are the newcomers of the queues, place by place.
-use Rattle.std.proofs.Common.{◌≡◌, ℕ, zero, suc, ◌+◌, ◌<◌, ◌==◌, ◌&&◌, ◌||◌, Bool, true, false, not, List, [], ◌∷◌, ◌++◌, length, set, Option, Some, None, Contains, refl, sym, ◌∙◌, ap, subst, inl, inr, arith, append-nil, append_assoc, get_or-set_same}
+use Rattle.std.proofs.Common.{◌≡◌, ℕ, zero, suc, ◌+◌, ◌<◌, ◌==◌, ◌&&◌, ◌||◌, Bool, true, false, not, List, [], ◌∷◌, ◌++◌, length, Option, Some, None, Contains, refl, sym, ◌∙◌, ap, subst, inl, inr, arith, append-nil, append_assoc, get_or-set_same}
 use Rattle.std.specs.Prelude.{if◌then◌else◌}
 use Rattle.std.specs.List.{list_any}
 use Rattle.std.specs.Option.{is_some, option_map_or}
 use Rattle.std.proofs.lemmas.List.{length-set}
-use Rattle.std.proofs.lemmas.Bool.{cases_Bool, cases_eq, eqb-true, eq-eqb}
+use Rattle.std.proofs.lemmas.Bool.{cases_eq, eq-eqb, ne_eqb}
+use mathlib.Core.Bool.{and-false, or-true, or-false}
+use Rattle.et_state.proofs.UnderWay.{at_other}
 use Rattle.et_base.proofs.Lists.{Contains-here, Contains-there}
 use Rattle.et_heap.specs.Objects.{ObjectState, Objects, IsHeld, is_there, at, found, object_at}
 use Rattle.et_heap.specs.Queues.{with_waits, with_one_waiting, changed_at, put_in, enqueued}
@@ -18,24 +20,9 @@ use Rattle.et_flush.proofs.Clearing.{cleared_at}
 
 -- TESTS
 
-and_none : (b : Bool) → (b && false) ≡ false
-and_none true = refl
-and_none false = refl
-
-or_all : (b : Bool) → (b || true) ≡ true
-or_all true = refl
-or_all false = refl
-
-or_none : (b : Bool) → (b || false) ≡ b
-or_none true = refl
-or_none false = refl
-
 and_and : (a b c : Bool) → ((a && b) && c) ≡ (a && (b && c))
 and_and true b c = refl
 and_and false b c = refl
-
-other_is : (k o : ℕ) → (k ≡ o → ⊥) → (k == o) ≡ false
-other_is k o ne = elim (cases_Bool (k == o)) [ inl t ↦ absurd (ne (eqb-true k o t)) | inr f ↦ f ]
 
 -- WHAT REFERENCES OF A LIST DO
 
@@ -73,7 +60,7 @@ nobody_joins : (o : ℕ) (x : Option ObjectState) (c : Bool) → c ≡ false →
 nobody_joins o None c e = refl
 nobody_joins o (Some x) c e =
     sym (ap (λ (d : Bool). Some (record x { waiting = x.waiting ++ []; waits = x.waits || d })) e
-    ∙ (ap (λ (d : Bool). Some (record x { waiting = x.waiting ++ []; waits = d })) (or_none x.waits) ∙ ap (λ (l : List ℕ). Some (record x { waiting = l; waits = x.waits })) (append-nil x.waiting)))
+    ∙ (ap (λ (d : Bool). Some (record x { waiting = x.waiting ++ []; waits = d })) (or-false x.waits) ∙ ap (λ (l : List ℕ). Some (record x { waiting = l; waits = x.waits })) (append-nil x.waiting)))
 
 -- ONE THAT STAYS WHERE IT IS
 
@@ -83,8 +70,8 @@ stays_out h r rs o none never =
     (elim (cases_eq r o) [
       | inl e ↦
           let out : may_start h o ≡ false = subst (λ (k : ℕ). may_start h k ≡ false) e none in
-          ap (λ (b : Bool). list_any (λ k. k == o) rs && b) out ∙ (and_none (list_any (λ k. k == o) rs) ∙ sym (ap (λ (b : Bool). list_any (λ k. k == o) (r ∷ rs) && b) out ∙ and_none (list_any (λ k. k == o) (r ∷ rs))))
-      | inr ne ↦ sym (ap (λ (b : Bool). (b || list_any (λ k. k == o) rs) && may_start h o) (other_is r o ne))
+          ap (λ (b : Bool). list_any (λ k. k == o) rs && b) out ∙ (and-false (list_any (λ k. k == o) rs) ∙ sym (ap (λ (b : Bool). list_any (λ k. k == o) (r ∷ rs) && b) out ∙ and-false (list_any (λ k. k == o) (r ∷ rs))))
+      | inr ne ↦ sym (ap (λ (b : Bool). (b || list_any (λ k. k == o) rs) && may_start h o) (ne_eqb r o ne))
     ])
 
 -- ONE THAT GOES TO ITS QUEUE
@@ -97,13 +84,6 @@ gone_to r a b (Some x) = Some (record x { waiting = if a then x.waiting ++ r ∷
 untouched : (r : ℕ) (x : Option ObjectState) → gone_to r false false x ≡ x
 untouched r None = refl
 untouched r (Some x) = refl
-
-at_set_other : (xs : Objects) (o u : ℕ) (y : ObjectState) → (u ≡ o → ⊥) → at (set xs o (Some y)) u ≡ at xs u
-at_set_other [] o u y ne = refl
-at_set_other (x ∷ xs) zero zero y ne = absurd (ne refl)
-at_set_other (x ∷ xs) zero (suc u) y ne = refl
-at_set_other (x ∷ xs) (suc o) zero y ne = refl
-at_set_other (x ∷ xs) (suc o) (suc u) y ne = at_set_other xs o u y (λ e. ne (ap suc e))
 
 there_is : (x : Option ObjectState) → is_there x → x ≡ Some (found x)
 there_is None h = absurd h
@@ -123,7 +103,7 @@ module _ (h : Objects) (r p : ℕ) (held : IsHeld h r) (queue : IsHeld h p) wher
             let place : at waiting_now r ≡ Some (with_waits true (object_at h r)) = get_or-set_same h r (Some (with_waits true (object_at h r))) None (held_within h r held) in
             let here : gone_to r false true (at h r) ≡ Some (with_waits true (object_at h r)) = ap (λ (x : Option ObjectState). gone_to r false true x) (there_is (at h r) held) in
             subst (λ (k : ℕ). at waiting_now k ≡ gone_to r false (r == k) (at h k)) (sym e) (place ∙ (sym here ∙ ap (λ (b : Bool). gone_to r false b (at h r)) (sym (eq-eqb r r refl))))
-        | inr ne ↦ at_set_other h r o (with_waits true (object_at h r)) ne ∙ (sym (untouched r (at h o)) ∙ ap (λ (b : Bool). gone_to r false b (at h o)) (sym (other_is r o (λ e. ne (sym e)))))
+        | inr ne ↦ at_other h r o (with_waits true (object_at h r)) ne ∙ (sym (untouched r (at h o)) ∙ ap (λ (b : Bool). gone_to r false b (at h o)) (sym (ne_eqb r o (λ e. ne (sym e)))))
       ]
 
   queue_first : IsHeld waiting_now p
@@ -140,7 +120,7 @@ module _ (h : Objects) (r p : ℕ) (held : IsHeld h r) (queue : IsHeld h p) wher
             let place : at put_now p ≡ Some (with_one_waiting r (object_at waiting_now p)) = get_or-set_same waiting_now p (Some (with_one_waiting r (object_at waiting_now p))) None (held_within waiting_now p queue_first) in
             let was : Some (with_one_waiting r (object_at waiting_now p)) ≡ gone_to r true (r == p) (at h p) = ap (λ (x : Option ObjectState). Some (with_one_waiting r (found x))) (first_at p) ∙ both (r == p) (at h p) queue in
             subst (λ (k : ℕ). at put_now k ≡ gone_to r (p == k) (r == k) (at h k)) (sym e) (place ∙ (was ∙ ap (λ (b : Bool). gone_to r b (r == p) (at h p)) (sym (eq-eqb p p refl))))
-        | inr ne ↦ at_set_other waiting_now p o (with_one_waiting r (object_at waiting_now p)) ne ∙ (first_at o ∙ ap (λ (b : Bool). gone_to r b (r == o) (at h o)) (sym (other_is p o (λ e. ne (sym e)))))
+        | inr ne ↦ at_other waiting_now p o (with_one_waiting r (object_at waiting_now p)) ne ∙ (first_at o ∙ ap (λ (b : Bool). gone_to r b (r == o) (at h o)) (sym (ne_eqb p o (λ e. ne (sym e)))))
       ]
 
   -- nothing else is changed
@@ -164,7 +144,7 @@ module _ (h : Objects) (r p : ℕ) (held : IsHeld h r) (queue : IsHeld h p) wher
 
   start_same : (o : ℕ) → (r ≡ o → ⊥) → may_start put_now o ≡ may_start h o
   start_same o ne =
-      ap (λ (x : Option ObjectState). not (found x).waits && has_queue x) (put_at o ∙ ap (λ (b : Bool). gone_to r (p == o) b (at h o)) (other_is r o ne)) ∙ start_place (p == o) (at h o)
+      ap (λ (x : Option ObjectState). not (found x).waits && has_queue x) (put_at o ∙ ap (λ (b : Bool). gone_to r (p == o) b (at h o)) (ne_eqb r o ne)) ∙ start_place (p == o) (at h o)
 
   goes_place : (q : ℕ) (a : Bool) (x : Option ObjectState) → (not (found (gone_to r a false x)).waits && has_this_queue q (gone_to r a false x)) ≡ (not (found x).waits && has_this_queue q x)
   goes_place q a None = refl
@@ -172,7 +152,7 @@ module _ (h : Objects) (r p : ℕ) (held : IsHeld h r) (queue : IsHeld h p) wher
 
   goes_same : (q o : ℕ) → (r ≡ o → ⊥) → goes put_now q o ≡ goes h q o
   goes_same q o ne =
-      ap (λ (x : Option ObjectState). not (found x).waits && has_this_queue q x) (put_at o ∙ ap (λ (b : Bool). gone_to r (p == o) b (at h o)) (other_is r o ne)) ∙ goes_place q (p == o) (at h o)
+      ap (λ (x : Option ObjectState). not (found x).waits && has_this_queue q x) (put_at o ∙ ap (λ (b : Bool). gone_to r (p == o) b (at h o)) (ne_eqb r o ne)) ∙ goes_place q (p == o) (at h o)
 
   arrivals_same : (rs : List ℕ) (q : ℕ) → (Contains rs r → ⊥) → arrivals put_now rs q ≡ arrivals h rs q
   arrivals_same [] q out = refl
@@ -209,9 +189,9 @@ module _ (h : Objects) (r p : ℕ) (held : IsHeld h r) (queue : IsHeld h p) wher
               let here : may_start h o ≡ true = subst (λ (k : ℕ). may_start h k ≡ true) e starts_here in
               let left : (let now : Bool = if r == o then true else b in now || starts put_now rs o) ≡ true = ap (λ (c : Bool). let now : Bool = if c then true else b in now || starts put_now rs o) same in
               let start : starts h (r ∷ rs) o ≡ true = ap (λ (c : Bool). (c || list_any (λ k. k == o) rs) && may_start h o) same ∙ here in
-              left ∙ sym (ap (λ (c : Bool). b || c) start ∙ or_all b)
+              left ∙ sym (ap (λ (c : Bool). b || c) start ∙ or-true b)
           | inr ne ↦
-              let same : (r == o) ≡ false = other_is r o ne in
+              let same : (r == o) ≡ false = ne_eqb r o ne in
               let left : (let now : Bool = if r == o then true else b in now || starts put_now rs o) ≡ (b || starts put_now rs o) = ap (λ (c : Bool). let now : Bool = if c then true else b in now || starts put_now rs o) same in
               let start : starts h (r ∷ rs) o ≡ starts h rs o = ap (λ (c : Bool). (c || list_any (λ k. k == o) rs) && may_start h o) same in
               left ∙ (ap (λ (c : Bool). b || (list_any (λ k. k == o) rs && c)) (start_same o ne) ∙ sym (ap (λ (c : Bool). b || c) start))
@@ -250,7 +230,7 @@ one_joined : (h : Objects) (r : ℕ) (rs : List ℕ) (o : ℕ) → CanGo h (r �
     → at (all_enqueued rs (put_in q b r h)) o ≡ joined_place (arrivals h (r ∷ rs)) (starts h (r ∷ rs)) o (at h o)
 one_joined h r rs o can out rest None b e f =
     rest h (record { held = λ k c. can.held k (Contains-there r rs k c); queue = λ k q c i. can.queue k q (Contains-there r rs k c) i })
-    ∙ stays_out h r rs o (ap (λ (c : Bool). not (object_at h r).waits && c) (no_queue (at h r) e) ∙ and_none (not (object_at h r).waits)) (λ q. ap (λ (c : Bool). not (object_at h r).waits && c) (not_this q (at h r) e) ∙ and_none (not (object_at h r).waits))
+    ∙ stays_out h r rs o (ap (λ (c : Bool). not (object_at h r).waits && c) (no_queue (at h r) e) ∙ and-false (not (object_at h r).waits)) (λ q. ap (λ (c : Bool). not (object_at h r).waits && c) (not_this q (at h r) e) ∙ and-false (not (object_at h r).waits))
 one_joined h r rs o can out rest (Some p) true e f =
     rest h (record { held = λ k c. can.held k (Contains-there r rs k c); queue = λ k q c i. can.queue k q (Contains-there r rs k c) i })
     ∙ stays_out h r rs o (ap (λ (c : Bool). not c && has_queue (at h r)) f) (λ q. ap (λ (c : Bool). not c && has_this_queue q (at h r)) f)
@@ -288,7 +268,7 @@ none_below here k o (x ∷ xs) lt =
     ∙ (ap (λ (b : Bool). b || list_any (λ r. r == o) (cleared_references here (k + 1) xs)) (first (loses_referent here (here k) x)) ∙ none_below here (k + 1) o xs (omega arith))
   where
     first : (b : Bool) → list_any (λ r. r == o) (if b then k ∷ [] else []) ≡ false
-    first true = ap (λ (c : Bool). c || false) (other_is k o (λ e. absurd (omega arith)))
+    first true = ap (λ (c : Bool). c || false) (ne_eqb k o (λ e. absurd (omega arith)))
     first false = refl
 
 -- the object at a number is one of them where its referent becomes null
@@ -298,7 +278,7 @@ any_cleared here k (x ∷ xs) zero =
     let same : k + 0 ≡ k = omega arith in
     any_joined (λ r. r == k + 0) (if loses_referent here (here k) x then k ∷ [] else []) (cleared_references here (k + 1) xs)
     ∙ (ap (λ (b : Bool). list_any (λ r. r == k + 0) (if loses_referent here (here k) x then k ∷ [] else []) || b) (none_below here (k + 1) (k + 0) xs (omega arith))
-    ∙ (or_none (list_any (λ r. r == k + 0) (if loses_referent here (here k) x then k ∷ [] else [])) ∙ (first (loses_referent here (here k) x) ∙ ap (λ (n : ℕ). loses_referent here (here n) x) (sym same))))
+    ∙ (or-false (list_any (λ r. r == k + 0) (if loses_referent here (here k) x then k ∷ [] else [])) ∙ (first (loses_referent here (here k) x) ∙ ap (λ (n : ℕ). loses_referent here (here n) x) (sym same))))
   where
     first : (b : Bool) → list_any (λ r. r == k + 0) (if b then k ∷ [] else []) ≡ b
     first true = ap (λ (c : Bool). c || false) (eq-eqb k (k + 0) (omega arith))
@@ -310,7 +290,7 @@ any_cleared here k (x ∷ xs) (suc j) =
     ∙ (ap (λ (n : ℕ). list_any (λ r. r == n) (cleared_references here (k + 1) xs)) (sym same) ∙ (any_cleared here (k + 1) xs j ∙ ap (λ (n : ℕ). loses_referent here (here n) (at xs j)) same)))
   where
     first : (b : Bool) → list_any (λ r. r == k + suc j) (if b then k ∷ [] else []) ≡ false
-    first true = ap (λ (c : Bool). c || false) (other_is k (k + suc j) (λ e. absurd (omega arith)))
+    first true = ap (λ (c : Bool). c || false) (ne_eqb k (k + suc j) (λ e. absurd (omega arith)))
     first false = refl
 
 arrivals_joined : (h : Objects) (xs ys : List ℕ) (q : ℕ) → arrivals h (xs ++ ys) q ≡ arrivals h xs q ++ arrivals h ys q

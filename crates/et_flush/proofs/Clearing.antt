@@ -4,7 +4,8 @@ use Rattle.std.specs.Prelude.{if◌then◌else◌}
 use Rattle.std.proofs.lemmas.List.{drop_all}
 use Rattle.std.proofs.lemmas.Bool.{cases_lt}
 use Rattle.std.proofs.lemmas.List.Elements.{Contains-append_cases}
-use Rattle.et_base.proofs.Lists.{Contains-none, Contains-cons}
+use Rattle.et_state.proofs.Enqueued.{one_of}
+use Rattle.et_base.proofs.Lists.{Contains-none}
 use Rattle.et_heap.specs.Objects.{ObjectState, Objects, IsHeld, is_there, at}
 use Rattle.et_heap.specs.Cleared.{loses_referent, cleared_references}
 use Rattle.et_flush.proofs.Sweeping.{swept, place_before, none_between, first_dropped}
@@ -56,10 +57,6 @@ pub all_cleared : (here : ℕ → Bool) (xs : Objects) (n : ℕ) (all cs : List 
 all_cleared here xs n all cs sum past = sym (append-nil cs) ∙ (ap (λ (rs : List ℕ). cs ++ rs) (sym (cleared_end here n xs past)) ∙ sum)
 
 -- WHICH THEY ARE
-
-one_of : (b : Bool) (k r : ℕ) → Contains (if b then k ∷ [] else []) r → (k ≡ r) × (b ≡ true)
-one_of true k r c = elim (Contains-cons k [] r c) [ inl e ↦ (e, refl) | inr d ↦ absurd (Contains-none r d) ]
-one_of false k r c = absurd (Contains-none r c)
 
 loses_there : (here : ℕ → Bool) (b : Bool) (x : Option ObjectState) → loses_referent here b x ≡ true → is_there x × (b ≡ true)
 loses_there here b None e = absurd cc

@@ -5,11 +5,11 @@ use Rattle.std.specs.List.Sorted.{IsStrictlyIncreasing}
 use Rattle.std.proofs.lemmas.Bool.{cases_lt}
 use Rattle.std.proofs.lemmas.List.{map-append}
 use Rattle.std.proofs.lemmas.List.Elements.{Contains-append_left, Contains-push, Contains-push_cases, Contains-get_or}
-use Rattle.et_base.proofs.Lists.{Contains-none}
+use Rattle.et_base.proofs.Lists.{Contains-none, rising_push}
 use Rattle.et_heap.specs.Objects.{Objects}
 use Rattle.et_flush.specs.declared.times.TheConstants.{NOW}
 use Rattle.et_flush.specs.Searches.{AreAllHeld, AreDyingIn}
-use Rattle.et_flush.proofs.Holding.{rising_push, below_push}
+use Rattle.et_flush.proofs.Holding.{below_push}
 use Rattle.et_flush.proofs.Listings.{each_at}
 
 abbrev pub firsts : List (ℕ × ℕ) → List ℕ

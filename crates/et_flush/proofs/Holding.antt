@@ -6,7 +6,7 @@ use Rattle.std.proofs.lemmas.Bool.{cases_eq, cases_lt}
 use Rattle.std.proofs.lemmas.List.{length-append, get_or_append_left, get_or_push, get_or_past, get_or_default}
 use Rattle.std.proofs.lemmas.List.Elements.{Contains-append_left, Contains-push, Contains-push_cases, Contains-get_or}
 use Rattle.std.proofs.lemmas.List.Kept.{AllPairs-from_increasing}
-use Rattle.et_base.proofs.Lists.{Contains-none}
+use Rattle.et_base.proofs.Lists.{Contains-none, rising_push}
 use Rattle.et_heap.specs.Objects.{ObjectState, Objects, IsHeld, IsNextHeld, is_there, ones_in, held_count}
 use Rattle.std.proofs.lemmas.List.Sums.{sum_by-cons}
 use Rattle.et_heap.proofs.HeapLists.{held_within}
@@ -14,15 +14,6 @@ use Rattle.et_flush.specs.Searches.{AreAllHeld}
 use Rattle.et_flush.proofs.Targets.{held_above}
 
 -- RISING LISTS
-
-pub rising_push : (xs : List ℕ) (x : ℕ) → IsStrictlyIncreasing xs → ((k : ℕ) → k < length xs → get_or xs k 0 < x) → IsStrictlyIncreasing (xs ++ x ∷ [])
-rising_push xs x rising below k lt =
-    ⊎_elim
-    (λ b. omega (arith, rising k b, get_or_append_left xs (x ∷ []) 0 k (omega arith), get_or_append_left xs (x ∷ []) 0 (k + 1) b))
-    (λ g.
-    let e : length xs ≡ k + 1 = omega (arith, length-append xs (x ∷ [])) in
-    omega (arith, below k (omega arith), get_or_append_left xs (x ∷ []) 0 k (omega arith), get_or_push xs x 0 (k + 1) e))
-    (cases_lt (k + 1) (length xs))
 
 pub below_push : (xs : List ℕ) (x y : ℕ) → ((k : ℕ) → k < length xs → get_or xs k 0 < x) → x < y → (k : ℕ) → k < length (xs ++ x ∷ []) → get_or (xs ++ x ∷ []) k 0 < y
 below_push xs x y below less k lt =

@@ -1,41 +1,20 @@
 -- The graph of what a flush leaves.
-use Rattle.std.proofs.Common.{◌≡◌, ℕ, zero, suc, ◌+◌, ◌-◌, ◌<◌, ◌≤◌, ◌⊎◌, ◌↔◌, Bool, true, false, List, [], ◌∷◌, length, Option, Some, None, Contains, refl, sym, ◌∙◌, ap, subst, inl, inr, arith, true≢false}
+use Rattle.std.proofs.Common.{◌≡◌, ℕ, ◌+◌, ◌-◌, ◌<◌, ◌≤◌, ◌⊎◌, ◌↔◌, Bool, true, false, List, length, Contains, refl, sym, ◌∙◌, ap, subst, inl, inr, arith, true≢false}
 use Rattle.std.proofs.lemmas.Bool.{cases_Bool}
 use Rattle.et_graph.specs.Graph.{IsReached, IsDead}
-use Rattle.et_base.proofs.Lists.{Contains-none, cases_number}
+use Rattle.et_base.proofs.Lists.{cases_number}
 use Rattle.et_graph.proofs.Walks.{is_reached, is_reached_decides}
-use Rattle.et_heap.specs.Objects.{ObjectState, Objects, IsHeld}
-use Rattle.et_heap.specs.Refs.{targets_of, pairs_of, gone_of}
-use Rattle.et_heap.specs.Remaining.{left_place, remaining}
-use Rattle.et_heap.proofs.HeapLists.{IsPair, pair_at, at_pair, pair_held, held_within, gone_at, at_gone}
+use Rattle.et_heap.specs.Objects.{Objects, IsHeld}
+use Rattle.et_heap.specs.Refs.{pairs_of, gone_of}
+use Rattle.et_heap.specs.Remaining.{remaining}
+use Rattle.et_heap.proofs.HeapLists.{pair_at, at_pair, pair_held, held_within, gone_at, at_gone}
 use Rattle.et_state.specs.State.{Kept, MachineState, kept_of}
 use Rattle.et_state.specs.Roots.{roots_of, graph_of}
 use Rattle.et_state.specs.Sound.{IsSound}
-use Rattle.et_state.proofs.Wholes.{length-remaining, remaining_held, held_remaining}
+use Rattle.et_state.proofs.Wholes.{length-remaining, remaining_held, held_remaining, remaining_pair, remaining_pair_stays}
 use Rattle.et_graph.specs.Cleared.{IsCleared}
 use Rattle.et_flush.specs.Flushes.{heap_graph}
 use Rattle.et_flush.proofs.Targets.{held_above}
-
-place_targets : (here : ℕ → Bool) (b : Bool) (x : Option ObjectState) (z : ℕ) → b ≡ true → Contains (targets_of x) z → Contains (targets_of (left_place here b x)) z
-place_targets here b None z e c = c
-place_targets here true (Some x) z e c = c
-place_targets here false (Some x) z e c = absurd (true≢false (sym e))
-
--- what stays keeps its slots
-pair_stays : (here : ℕ → Bool) (k : ℕ) (xs : Objects) (u z : ℕ) → here (k + u) ≡ true → IsPair xs u z → IsPair (remaining here k xs) u z
-pair_stays here k [] u z t c = c
-pair_stays here k (x ∷ xs) zero z t c = let e : k + 0 ≡ k = omega arith in place_targets here (here k) x z (subst (λ (n : ℕ). here n ≡ true) e t) c
-pair_stays here k (x ∷ xs) (suc u) z t c = let e : k + suc u ≡ k + 1 + u = omega arith in pair_stays here (k + 1) xs u z (subst (λ (n : ℕ). here n ≡ true) e t) c
-
-targets_before : (here : ℕ → Bool) (b : Bool) (x : Option ObjectState) (z : ℕ) → Contains (targets_of (left_place here b x)) z → Contains (targets_of x) z
-targets_before here b None z c = c
-targets_before here true (Some x) z c = c
-targets_before here false (Some x) z c = absurd (Contains-none z c)
-
-pair_before : (here : ℕ → Bool) (k : ℕ) (xs : Objects) (u z : ℕ) → IsPair (remaining here k xs) u z → IsPair xs u z
-pair_before here k [] u z c = c
-pair_before here k (x ∷ xs) zero z c = targets_before here (here k) x z c
-pair_before here k (x ∷ xs) (suc u) z c = pair_before here (k + 1) xs u z c
 
 -- here says of each held object whether it is reached
 pub cleared : (s : Kept) (here : ℕ → Bool) → IsSound s → ((o : ℕ) → IsHeld s.heap o → (here o ≡ true) ↔ IsReached (graph_of s) o)
@@ -87,14 +66,14 @@ cleared s here sound tells = record {
   pairs_now : (u x : ℕ) → Contains (pairs_of left) (u, x) → Contains (pairs_of s.heap) (u, x) × ¬ Contains (gone_of left) u
   pairs_now u x c =
       let p = pair_at left u x c in
-      (at_pair s.heap u x (pair_before here 0 s.heap u x p), λ gone. (gone_at left u gone).2 (pair_held left u x p))
+      (at_pair s.heap u x (remaining_pair here 0 s.heap u x p), λ gone. (gone_at left u gone).2 (pair_held left u x p))
 
   pairs_later : (u x : ℕ) → Contains (pairs_of s.heap) (u, x) × ¬ Contains (gone_of left) u → Contains (pairs_of left) (u, x)
   pairs_later u x c =
       let p = pair_at s.heap u x c.0 in
       let held = pair_held s.heap u x p in
       elim (cases_Bool (here u)) [
-        | inl t ↦ at_pair left u x (pair_stays here 0 s.heap u x (subst (λ (n : ℕ). here n ≡ true) (sym (at_start u)) t) p)
+        | inl t ↦ at_pair left u x (remaining_pair_stays here 0 s.heap u x (subst (λ (n : ℕ). here n ≡ true) (sym (at_start u)) t) p)
         | inr f ↦ absurd (c.1 (at_gone left u (held_above s.heap u sound.none held) (subst (λ (n : ℕ). u < n) (sym long) (held_within s.heap u held))
             (λ there. true≢false (sym (stayed u there).1 ∙ f))))
       ]

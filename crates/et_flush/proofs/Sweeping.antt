@@ -5,6 +5,7 @@ use Rattle.std.specs.Option.{option_to_list}
 use Rattle.std.proofs.lemmas.List.Sums.{sum_by-cons}
 use Rattle.std.specs.Prelude.{if◌then◌else◌, not}
 use Rattle.std.proofs.lemmas.Bool.{le-leb, cases_lt}
+use Rattle.et_heap.proofs.References.{found_there}
 use Rattle.et_base.specs.declared.value.Value.TheVariants.{Ref}
 use Rattle.et_heap.specs.Objects.{ObjectState, Objects, IsHeld, is_there, at, found, object_at, referent_value, referents_in, referent_count}
 use Rattle.et_heap.specs.Remaining.{is_cleared, kept_referent, left_place, remaining}
@@ -73,10 +74,6 @@ pub swept_to : (here : ℕ → Bool) (n m : ℕ) (xs : Objects) → n ≤ m → 
 swept_to here n m xs le out = none_between (λ (k : ℕ). swept here k 0 xs) xs (swept_same here xs) n m le out
 
 -- ONE PLACE
-
-found_there : (p : Option ObjectState) → is_there p → Some (found p) ≡ p
-found_there None h = absurd h
-found_there (Some x) h = refl
 
 no_visit : (here : ℕ → Bool) (b : Bool) (p : Option ObjectState) → (is_there p → ⊥) → visits_of here b p ≡ 0
 no_visit here b None out = refl

@@ -1,8 +1,12 @@
 -- Slots in which no reference stands.
-use Rattle.std.proofs.Common.{◌≡◌, ℕ, zero, suc, List, [], ◌∷◌, ◌++◌, set, replicate, refl, ◌∙◌, ap}
+use Rattle.std.proofs.Common.{◌≡◌, ℕ, zero, suc, List, [], ◌∷◌, ◌++◌, set, replicate, refl, ◌∙◌, ap, ◌≤◌, length, take, get_or, Option, Some, None, Contains, arith, inl, inr}
+use Rattle.std.proofs.lemmas.List.{length-append}
+use Rattle.std.proofs.lemmas.List.Elements.{Contains-append_left, Contains-append_right, Contains-append_cases}
 use Rattle.et_base.specs.declared.value.Value.{Value}
 use Rattle.et_base.specs.declared.value.Value.TheVariants.{Unset, Int, Long, LongHigh, Null, Ref}
 use Rattle.et_heap.specs.Refs.{refs_of_value, refs_of}
+use Rattle.et_base.proofs.Lists.{Contains-none}
+use Rattle.et_heap.specs.Objects.{ObjectState, found, is_there}
 
 pub none_unset : (n : ℕ) → refs_of (replicate n Unset) ≡ []
 none_unset zero = refl
@@ -33,3 +37,43 @@ no_reference (Int n) out = refl
 no_reference (Long n) out = refl
 no_reference LongHigh out = refl
 no_reference Null out = refl
+
+-- a value refers to one object at most
+pub one_reference : (v : Value) → length (refs_of_value v) ≤ 1
+one_reference Unset = omega arith
+one_reference (Int n) = omega arith
+one_reference (Long n) = omega arith
+one_reference LongHigh = omega arith
+one_reference Null = omega arith
+one_reference (Ref o) = omega arith
+
+-- .. and so many values to no more objects
+pub few_references : (n : ℕ) (vs : List Value) → length (refs_of (take n vs)) ≤ n
+few_references zero vs = omega arith
+few_references (suc n) [] = omega arith
+few_references (suc n) (v ∷ vs) = omega (arith, length-append (refs_of_value v) (refs_of (take n vs)), one_reference v, few_references n vs)
+
+-- what the first values refer to, all refer to
+pub refs_taken : (xs : List Value) (n o : ℕ) → Contains (refs_of (take n xs)) o → Contains (refs_of xs) o
+refs_taken xs zero o c = absurd (Contains-none o c)
+refs_taken [] (suc n) o c = absurd (Contains-none o c)
+refs_taken (x ∷ xs) (suc n) o c = elim (Contains-append_cases (refs_of_value x) (refs_of (take n xs)) o c) [
+  | inl d ↦ Contains-append_left (refs_of_value x) (refs_of xs) o d
+  | inr d ↦ Contains-append_right (refs_of_value x) (refs_of xs) o (refs_taken xs n o d)
+]
+
+-- no value stands past the end, nor in new slots
+pub unset_past : (xs : List Value) (j : ℕ) → length xs ≤ j → get_or xs j Unset ≡ Unset
+unset_past [] zero le = refl
+unset_past [] (suc j) le = refl
+unset_past (x ∷ xs) zero le = absurd (omega arith)
+unset_past (x ∷ xs) (suc j) le = unset_past xs j (omega arith)
+
+pub unset_at : (n j : ℕ) → get_or (replicate n Unset) j Unset ≡ Unset
+unset_at zero j = refl
+unset_at (suc n) zero = refl
+unset_at (suc n) (suc j) = unset_at n j
+
+pub found_there : (x : Option ObjectState) → is_there x → Some (found x) ≡ x
+found_there None h = absurd h
+found_there (Some x) h = refl

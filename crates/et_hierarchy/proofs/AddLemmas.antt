@@ -1,5 +1,5 @@
 -- Lists that are added in turn.
-use Rattle.std.proofs.Common.{◌≡◌, ℕ, ◌+◌, ◌<◌, List, [], ◌∷◌, ◌++◌, length, drop, get_or, Option, refl, sym, ◌∙◌, ap, subst, arith, add-one, drop-cons}
+use Rattle.std.proofs.Common.{◌≡◌, ℕ, ◌+◌, ◌<◌, List, [], ◌∷◌, ◌++◌, length, drop, get_or, Option, refl, sym, ◌∙◌, ap, subst, add-one, drop-cons}
 use Rattle.std.specs.List.{flat_map}
 use Rattle.std.proofs.lemmas.List.{get_or_default}
 use Rattle.et_hierarchy.specs.Links.{LinkEntry}
@@ -42,7 +42,3 @@ pub field_order_is : (l : LinkEntry) (rows : List Ancestry) (k : ℕ) (above : O
 field_order_is l rows k above ints v fo fo' fo'' ea ei ev e3 e4 e5 =
     let G : ℕ → List ℕ = λ i. (ancestry_at rows i).field_order in
     e5 ∙ (ap (λ z. added_all z (field_order_over rows above)) (e4 ∙ ap (λ z. added_all z (flat_map G ints)) (e3 ∙ ap (λ z. class_added z k) ev)) ∙ (sym (added_all-append (class_added [] k) (flat_map G ints) (field_order_over rows above)) ∙ (ap (λ a. once (k ∷ flat_map G ints ++ field_order_over rows a)) ea ∙ ap (λ is. once (k ∷ flat_map G is ++ field_order_over rows l.above)) ei)))
-
-pub no_elements : (xs : List ℕ) → length xs ≡ 0 → xs ≡ []
-no_elements [] e = refl
-no_elements (x ∷ xs) e = absurd (omega arith)

@@ -7,8 +7,8 @@ use Rattle.std.specs.Option.{option_to_list}
 use Rattle.std.proofs.lemmas.Bool.{cases_eq, cases_lt}
 use Rattle.std.proofs.lemmas.List.{get_or_default, get_or_past, length-set}
 use Rattle.std.proofs.lemmas.List.Elements.{All-push, Contains-append_left, Contains-push}
+use Rattle.et_base.proofs.Lists.{Contains-none}
 use Rattle.et_hierarchy.specs.Links.{LinkEntry, no_links, parents_of, parents, IsAncestorIn, IsAncestor, HasLinksWithin}
-use Rattle.et_hierarchy.proofs.Marks.{contains_none}
 
 -- ONE LINK MORE
 
@@ -59,7 +59,7 @@ pub parents_past : (table : List LinkEntry) (k p : ℕ) → Contains (parents ta
 parents_past table k p d =
     ⊎_elim
     (λ lt. lt)
-    (λ past. absurd (contains_none p (subst (λ (l : LinkEntry). Contains (parents_of l) p) (get_or_past table k no_links past) d)))
+    (λ past. absurd (Contains-none p (subst (λ (l : LinkEntry). Contains (parents_of l) p) (get_or_past table k no_links past) d)))
     (cases_lt k (length table))
 
 -- A WAY, TURNED ROUND

@@ -7,17 +7,12 @@ use Rattle.std.proofs.lemmas.List.Elements.{Contains-push, Contains-push_cases, 
 use Rattle.et_hierarchy.specs.Links.{LinkEntry, parents, parents_of, no_links, IsAncestorIn, IsAncestor}
 use Rattle.std.specs.Option.{option_to_list}
 use Rattle.std.proofs.lemmas.List.{get_or-append-add}
+use Rattle.et_base.proofs.Lists.{Contains-none, Contains-one}
 use Rattle.et_hierarchy.specs.Search.{VisitsLinks, IsMarkedIn, unmarked}
 
 ⊎-elim : {A B C : Type 0} → (A → C) → (B → C) → A ⊎ B → C
 ⊎-elim f g (inl a) = f a
 ⊎-elim f g (inr b) = g b
-
-pub contains_none : (u : ℕ) → Contains [] u → ⊥
-contains_none u h = omega (arith, h.1)
-
-contains_one : (o u : ℕ) → Contains (o ∷ []) u → o ≡ u
-contains_one o u h = ⊎-elim (λ w. absurd (contains_none u w)) (λ e. e) (Contains-push_cases [] o u h)
 
 pub unmarked-set : (marks : List Bool) (o : ℕ) → o < length marks → get_or marks o false ≡ false → unmarked (set marks o true) + 1 ≡ unmarked marks
 unmarked-set [] o lt h = omega arith
@@ -41,7 +36,7 @@ pub visits_fresh : (marks : List Bool) (work : List ℕ) (o : ℕ) → o < lengt
 visits_fresh marks work o lt fresh = record {
   same_length = length-set marks o true;
   keeps = λ u h. marked_after marks o u lt h;
-  covers = λ u h. subst (λ v. IsMarkedIn (set marks o true) v) (contains_one o u h) (get_or-set_same marks o true false lt);
+  covers = λ u h. subst (λ v. IsMarkedIn (set marks o true) v) (Contains-one o u h) (get_or-set_same marks o true false lt);
   only = λ u h. ⊎-elim (λ e. inr (subst (λ v. Contains (o ∷ []) v × Contains (work ++ o ∷ []) v) (sym e) (Contains-push [] o, Contains-push work o))) (λ m. inl m) (marked_before marks o u lt h);
   waits = λ u h. Contains-append_left work (o ∷ []) u h;
   only_work = λ u h. ⊎-elim (λ w. inl w) (λ e. inr (subst (λ v. IsMarkedIn (set marks o true) v) e (get_or-set_same marks o true false lt))) (Contains-push_cases work o u h);
@@ -53,7 +48,7 @@ pub visits_marked : (marks : List Bool) (work : List ℕ) (o : ℕ) → IsMarked
 visits_marked marks work o m = record {
   same_length = refl;
   keeps = λ u h. h;
-  covers = λ u h. subst (λ v. IsMarkedIn marks v) (contains_one o u h) m;
+  covers = λ u h. subst (λ v. IsMarkedIn marks v) (Contains-one o u h) m;
   only = λ u h. inl h;
   waits = λ u h. h;
   only_work = λ u h. inl h;
@@ -64,7 +59,7 @@ pub visits_none : (marks : List Bool) (work : List ℕ) → VisitsLinks [] marks
 visits_none marks work = record {
   same_length = refl;
   keeps = λ u h. h;
-  covers = λ u h. absurd (contains_none u h);
+  covers = λ u h. absurd (Contains-none u h);
   only = λ u h. inl h;
   waits = λ u h. h;
   only_work = λ u h. inl h;
@@ -105,7 +100,7 @@ searching_start t k n marks work e v = record {
   roots = v.covers;
   sound = λ o h. ⊎-elim (λ m. absurd (no_marks n o m)) (λ m. (0, m.0)) (v.only o h);
   closed = λ u o h p. ⊎-elim (λ m. absurd (no_marks n u m)) (λ m. inr m.1) (v.only u h);
-  work_marked = λ u h. ⊎-elim (λ m. absurd (contains_none u m)) (λ m. m) (v.only_work u h);
+  work_marked = λ u h. ⊎-elim (λ m. absurd (Contains-none u m)) (λ m. m) (v.only_work u h);
 }
 
 -- the class u was taken off the list, and its parents were visited
@@ -127,7 +122,7 @@ searching_step t k marks work u marks' work' s v = record {
 complete : (t : List LinkEntry) (k : ℕ) (marks : List Bool) → Searching t k marks [] → (n o : ℕ) → IsAncestorIn t k n o → IsMarkedIn marks o
 complete t k marks s zero o h = s.roots o h
 complete t k marks s (suc n) o h =
-    ⊎-elim (λ m. m) (λ i. absurd (contains_none h.0 i)) (s.closed h.0 o (complete t k marks s n h.0 h.1) h.2)
+    ⊎-elim (λ m. m) (λ i. absurd (Contains-none h.0 i)) (s.closed h.0 o (complete t k marks s n h.0 h.1) h.2)
 
 -- nothing is left to do
 pub searching_end : (t : List LinkEntry) (k : ℕ) (marks : List Bool) → Searching t k marks [] → (o : ℕ) → IsMarkedIn marks o ↔ IsAncestor t k o

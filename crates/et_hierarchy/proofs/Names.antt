@@ -7,6 +7,9 @@ use Rattle.std.specs.Str.{bytes_eq}
 use Rattle.std.proofs.lemmas.Bool.{cases_Bool, cond-true, cond-false}
 use Rattle.std.proofs.lemmas.List.{get_or-take, take_more, length-take-le}
 use Rattle.std.proofs.lemmas.Slice.Eq.{bytes_eq-Decides}
+use Rattle.std.proofs.lemmas.Option.{same_Some}
+use Rattle.et_base.proofs.Lists.{same_bytes}
+use Rattle.et_base.proofs.Options.{is_some_of}
 use Rattle.et_hierarchy.specs.Outline.{Outline, outline_at, class_place, no_outline}
 use Rattle.et_hierarchy.specs.Faults.{IsRepeated, IsFirstToShow}
 use Rattle.et_hierarchy.specs.declared.fault.FaultKind.TheVariants.{Duplicate}
@@ -17,9 +20,6 @@ has_name name c = bytes_eq name c.name
 pub same_name : (a b : List ℕ) → bytes_eq a b ≡ true → a ≡ b
 same_name a b = (bytes_eq-Decides a b).0
 
-pub name_itself : (a : List ℕ) → bytes_eq a a ≡ true
-name_itself a = (bytes_eq-Decides a a).1 refl
-
 -- a place that was found is that of a class of the name
 pub record IsFoundAt (xs : List Outline) (i : ℕ) (name : List ℕ) (j : ℕ) : Type 0 where
   pub from : ℕ
@@ -27,14 +27,11 @@ pub record IsFoundAt (xs : List Outline) (i : ℕ) (name : List ℕ) (j : ℕ) :
   pub place : j ≡ i + from
   pub named : bytes_eq name (outline_at xs from).name ≡ true
 
-some_same : (a b : ℕ) → Some a ≡ Some b → a ≡ b
-some_same a b e = cc
-
 pub found_at : (xs : List Outline) (i : ℕ) (name : List ℕ) (j : ℕ) → position_from (has_name name) i xs ≡ Some j → IsFoundAt xs i name j
 found_at [] i name j h = absurd (cc)
 found_at (x ∷ xs) i name j h =
     ⊎_elim
-    (λ y. record { from = 0; within = omega arith; place = (let e : i ≡ j = some_same i j (sym (cond-true (has_name name x) (Some i) (position_from (has_name name) (i + 1) xs) y) ∙ h) in omega arith); named = y })
+    (λ y. record { from = 0; within = omega arith; place = (let e : i ≡ j = same_Some i j (sym (cond-true (has_name name x) (Some i) (position_from (has_name name) (i + 1) xs) y) ∙ h) in omega arith); named = y })
     (λ n.
     let r = found_at xs (i + 1) name j (sym (cond-false (has_name name x) (Some i) (position_from (has_name name) (i + 1) xs) n) ∙ h) in
     record { from = suc r.from; within = (let w : r.from < length xs = r.within in omega arith); place = (let p : j ≡ i + 1 + r.from = r.place in omega arith); named = r.named })
@@ -83,21 +80,13 @@ repeats_not set i name lt e h r =
     let n : length (take i set) ≡ i = length-take-le i set (omega arith) in
     let below : r.0 < i = r.1 in
     let no : bytes_eq name (outline_at set r.0).name ≡ false = subst (λ (c : Outline). bytes_eq name c.name ≡ false) (get_or-take i set r.0 no_outline below) (missing (take i set) 0 name h r.0 (omega arith)) in
-    let yes : bytes_eq name (outline_at set r.0).name ≡ true = subst (λ b. bytes_eq name b ≡ true) (e ∙ sym r.2) (name_itself name) in
+    let yes : bytes_eq name (outline_at set r.0).name ≡ true = subst (λ b. bytes_eq name b ≡ true) (e ∙ sym r.2) (same_bytes name) in
     true≢false (sym yes ∙ no)
-
-some_of : (o : Option ℕ) → is_some o ≡ true → (j : ℕ) × (o ≡ Some j)
-some_of None h = absurd (cc)
-some_of (Some j) h = (j, refl)
-
-pub none_of : (o : Option ℕ) → is_some o ≡ false → o ≡ None
-none_of None h = refl
-none_of (Some j) h = absurd (cc)
 
 -- the first class whose name an earlier one has
 pub first_repeat : (set : List Outline) (i : ℕ) (name : List ℕ) → i < length set → name ≡ (outline_at set i).name → is_some (class_place (take i set) name) ≡ true → ((k : ℕ) → k < i → IsRepeated set k → ⊥) → IsFirstToShow set Duplicate i
 first_repeat set i name lt e h apart =
-    let j = some_of (class_place (take i set) name) h in
+    let j = is_some_of (class_place (take i set) name) h in
     record { inside = lt; shows = repeats set i name j.0 lt e j.1; first = apart }
 
 place_below : (set : List Outline) (name : List ℕ) (o : Option ℕ) → class_place set name ≡ o → IfSome o (λ k. k < length set)

@@ -49,7 +49,7 @@ nothing_new seen (y ∷ ys) h =
     ap (λ (s : List ℕ). added_all s ys) (is_there seen y (h y (Contains-here y ys)))
     ∙ nothing_new seen ys (λ z d. h z (Contains-there y ys z d))
 
-flat_has : (f : ℕ → List ℕ) (xs : List ℕ) (t x : ℕ) → Contains xs t → Contains (f t) x → Contains (flat_map f xs) x
+pub flat_has : (f : ℕ → List ℕ) (xs : List ℕ) (t x : ℕ) → Contains xs t → Contains (f t) x → Contains (flat_map f xs) x
 flat_has f [] t x h c = absurd (Contains-none t h)
 flat_has f (y ∷ ys) t x h c =
     ⊎_elim

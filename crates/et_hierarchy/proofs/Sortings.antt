@@ -7,10 +7,11 @@ use Rattle.std.specs.Option.{option_to_list}
 use Rattle.std.proofs.lemmas.Bool.{cases_Bool, cases_eq, cases_lt}
 use Rattle.std.proofs.lemmas.List.{length-set, length-append, length-replicate, get_or-replicate, get_or_append_left, get_or_push, get_or_default, get_or_past, get_or_read, drop_more, drop_all}
 use Rattle.std.proofs.lemmas.List.Elements.{All-head, All-tail, Contains-get_or, Contains-append_left, Contains-push, Contains-push_cases}
+use Rattle.et_base.proofs.Lists.{Contains-none, Contains-cons}
 use Rattle.et_hierarchy.specs.Links.{LinkEntry, parents_of, parents, IsAncestorIn, IsAncestor, HasLinksWithin}
 use Rattle.et_hierarchy.specs.Search.{IsMarkedIn}
 use Rattle.et_hierarchy.specs.Sorting.{is_done, IsAmong, IsTopological, AreSortedBefore, Waits, IsGrowing, waiting_count, IsSorted}
-use Rattle.et_hierarchy.proofs.Marks.{contains_none, marked_after, marked_before, no_marks, read_links}
+use Rattle.et_hierarchy.proofs.Marks.{marked_after, marked_before, no_marks, read_links}
 use Rattle.et_hierarchy.proofs.Rounds.{links_at}
 
 -- THE CLASSES RIGHT ABOVE, BY NUMBER
@@ -119,9 +120,6 @@ hand_at : (c : ℕ) (rest : List ℕ) (x k : ℕ) → k < length (c ∷ rest) �
 hand_at c rest x zero lt e = inl e
 hand_at c rest x (suc k) lt e = inr (k, omega arith, e)
 
-hand_cases : (c : ℕ) (rest : List ℕ) (x : ℕ) → Contains (c ∷ rest) x → (c ≡ x) ⊎ Contains rest x
-hand_cases c rest x h = hand_at c rest x h.0 h.1 h.2
-
 -- a longer list of those that wait for class p
 waits_more : (table : List LinkEntry) (waiting : List (List ℕ)) (p : ℕ) (w : List ℕ) (x : ℕ) → p < length waiting → ((y : ℕ) → Contains (slice_index_or waiting p []) y → Contains w y) → Waits table waiting x → Waits table (set waiting p w) x
 waits_more table waiting p w x lt keep (q, above, here) =
@@ -153,7 +151,7 @@ growing_wait table rest order done passed waiting next c n w w' p g lt is undone
           ⊎_elim (λ y. inl y)
           (λ s.
           ⊎_elim
-          (λ h. ⊎_elim (λ e. inr (inr (subst (λ v. Waits table (set waiting p w') v) e (p, above, waits)))) (λ r. inr (inl r)) (hand_cases c rest x h))
+          (λ h. ⊎_elim (λ e. inr (inr (subst (λ v. Waits table (set waiting p w') v) e (p, above, waits)))) (λ r. inr (inl r)) (Contains-cons c rest x h))
           (λ h. inr (inr (waits_more table waiting p w' x inside keep h)))
           s)
           (g.seated x l);
@@ -190,7 +188,7 @@ growing_done table rest order done passed waiting next c n g full new =
           ⊎_elim (λ y. inl (marked_after done c x lt_d y))
           (λ s.
           ⊎_elim
-          (λ h. ⊎_elim (λ e. inl (subst (λ v. IsMarkedIn (set done c true) v) e (get_or-set_same done c true false lt_d))) (λ r. inr (inl r)) (hand_cases c rest x h))
+          (λ h. ⊎_elim (λ e. inl (subst (λ v. IsMarkedIn (set done c true) v) e (get_or-set_same done c true false lt_d))) (λ r. inr (inl r)) (Contains-cons c rest x h))
           (λ h. inr (inr h))
           s)
           (g.seated x l);
@@ -253,7 +251,7 @@ turned table order done passed waiting next u w g more is inside old = record {
   seated = λ x l.
       ⊎_elim (λ y. inl y)
       (λ s.
-      ⊎_elim (λ h. absurd (contains_none x h))
+      ⊎_elim (λ h. absurd (Contains-none x h))
       (λ h.
       ⊎_elim
       (λ e. inr (inl (subst (λ (v : List ℕ). Contains v x) (sym old) (subst (λ r. Contains (slice_index_or waiting r []) x) e h.2))))
@@ -263,7 +261,7 @@ turned table order done passed waiting next u w g more is inside old = record {
       (g.seated x l);
   awaited = λ q x h.
       ⊎_elim
-      (λ e. absurd (contains_none x (subst (λ (v : List ℕ). Contains v x) (get_or-set_same waiting u [] [] inside) (subst (λ r. Contains (slice_index_or (set waiting u []) r []) x) e h))))
+      (λ e. absurd (Contains-none x (subst (λ (v : List ℕ). Contains v x) (get_or-set_same waiting u [] [] inside) (subst (λ r. Contains (slice_index_or (set waiting u []) r []) x) e h))))
       (λ ne.
       let a = g.awaited q x (subst (λ (v : List ℕ). Contains v x) (get_or-set_other waiting u q [] [] ne) h) in
       (a.0, λ m. let r = a.1 m in (r.0, after r.0 q r.1 ne r.3, r.2, r.3)))
@@ -309,7 +307,7 @@ started table hand order done passed waiting next n size within all eo ed ep lw 
       marks = λ c. (λ m. absurd (no_marks n c (subst (λ (ms : List Bool). IsMarkedIn ms c) ed m)), λ (i, l, e). absurd (omega arith));
       passes = λ c i l inside. let few : i < slice_index_or (replicate n zero) c zero = subst (λ (ps : List ℕ). i < slice_index_or ps c 0) ep l in absurd (omega (arith, get_zero n c));
       seated = λ c l. inr (inl (all c (subst (λ m. c < m) (sym size) l)));
-      awaited = λ p c h. absurd (contains_none c (subst (λ (v : List ℕ). Contains v c) (lists p) h));
+      awaited = λ p c h. absurd (Contains-none c (subst (λ (v : List ℕ). Contains v c) (lists p) h));
     }
 
 pub growing_start : (table : List LinkEntry) (hand all order : List ℕ) (done : List Bool) (passed : List ℕ) (waiting : List (List ℕ)) (next : ℕ) → hand ≡ all → All (λ c. c < length table) all → ((c : ℕ) → c < length table → Contains all c) → order ≡ [] → done ≡ replicate (length table) false → passed ≡ replicate (length table) 0
@@ -337,7 +335,7 @@ growing_end table order done passed waiting next g over = record {
   full = λ c l.
       ⊎_elim (λ y. inl y)
       (λ s.
-      ⊎_elim (λ h. absurd (contains_none c h))
+      ⊎_elim (λ h. absurd (Contains-none c h))
       (λ h.
       inr (
         h.0,

@@ -1,8 +1,9 @@
 -- What monitors say of the threads that hold them, and what an event does to that.
-use Rattle.std.proofs.Common.{◌≡◌, ℕ, zero, suc, ◌+◌, ◌-◌, ◌<◌, ◌≤◌, ◌⊎◌, ◌==◌, Bool, true, false, length, Option, Some, None, refl, sym, ◌∙◌, ap, subst, inl, inr, arith, rules}
+use Rattle.std.proofs.Common.{◌≡◌, ℕ, zero, suc, ◌+◌, ◌-◌, ◌<◌, ◌≤◌, ◌⊎◌, ◌==◌, Bool, true, false, length, Option, Some, None, refl, sym, ◌∙◌, ap, subst, inl, inr, arith}
 use Rattle.std.specs.Prelude.{if◌then◌else◌, nat_le, IsSome, IfSome}
 use Rattle.std.proofs.lemmas.Bool.{cases_eq, eqb-true, eq-eqb, true≢false, false≢true, leb-true}
 use Rattle.std.proofs.lemmas.Option.{same_Some, none-some}
+use Rattle.et_history.proofs.soundness.Growing.{no_owner}
 use Rattle.et_base.specs.declared.value.End.{End}
 use Rattle.et_heap.specs.declared.monitor.Monitor.{Monitor}
 use Rattle.et_heap.specs.Objects.{ObjectState, is_there, at, free_monitor}
@@ -79,9 +80,6 @@ neither thread n t = recount thread false false n t (λ x. x ≡ n t) (λ same. 
 open_owner : (thread t : ℕ) (o : Option ℕ) → is_open_to thread o ≡ true → o ≡ Some t → thread ≡ t
 open_owner thread t None free e = absurd (none-some t e)
 open_owner thread t (Some k) free e = sym (eqb-true k thread free) ∙ same_Some k t e
-
-no_owner : IsSome free_monitor.owner → ⊥
-no_owner h = search (rules, h)
 
 no_count : (count : ℕ) → (0 < count → ⊥) → count ≡ 0
 no_count zero h = refl

@@ -5,6 +5,7 @@ use Rattle.std.specs.List.{cons_option, list_any, slice_index_or}
 use Rattle.std.specs.Option.{option_to_list}
 use Rattle.std.proofs.lemmas.List.Elements.{All-nil, All-cons, All-head, All-tail, All-append, All-filter, All-push}
 use Rattle.std.proofs.lemmas.Option.{none-some}
+use Rattle.et_history.proofs.soundness.Outcomes.{if_case}
 use Rattle.et_pool.specs.declared.tags.TheConstants.{CLASS}
 use Rattle.et_pool.specs.Descriptors.{is_array}
 use Rattle.et_pool.specs.Entries.{Item}
@@ -23,10 +24,6 @@ use Rattle.et_program.specs.Loaded.{LoadedMember, LoadedClass}
 use Rattle.et_program.specs.ProgramOf.{class_names_of}
 use Rattle.et_history.proofs.programs.Making.{numbered_all}
 use Rattle.et_history.proofs.PoolWords.{AreTexts, AreNames, class_texts}
-
-either : {X : Type 0} (P : X → Type 0) (b : Bool) (x y : X) → P x → P y → P (if b then x else y)
-either P true x y h g = h
-either P false x y h g = g
 
 -- what holds of the names of array classes, where Q holds of the texts of pools
 pub record IsOfArrays (Q P : List ℕ → Type 0) : Type 0 where
@@ -77,9 +74,9 @@ module _ (Q P : List ℕ → Type 0) (is : IsOfArrays Q P) where
     all_made i =
         let base : List (List ℕ) = (91 ∷ base_letter (index_of i.first) ∷ []) ∷ [] in
         let over : List (List ℕ) = option_to_list (option_map array_over (class_name_at slots (index_of i.first))) in
-        either AreAll (i.opcode == NEWARRAY) base (if i.opcode == ANEWARRAY then over else [])
+        if_case AreAll (i.opcode == NEWARRAY) base (if i.opcode == ANEWARRAY then over else [])
         (one (91 ∷ base_letter (index_of i.first) ∷ []) (is.base (index_of i.first)))
-        (either AreAll (i.opcode == ANEWARRAY) over [] (over_class (class_name_at slots (index_of i.first)) (names (slot_at slots (index_of i.first)))) none)
+        (if_case AreAll (i.opcode == ANEWARRAY) over [] (over_class (class_name_at slots (index_of i.first)) (names (slot_at slots (index_of i.first)))) none)
 
     if_made : (x : Result (Instr × ℕ) CodeFault) → AreAll (made_if slots x)
     if_made (Ok x) = all_made x.0
@@ -89,7 +86,7 @@ module _ (Q P : List ℕ → Type 0) (is : IsOfArrays Q P) where
     in_body None = none
     in_body (Some b) =
         numbered_all P (λ pc a. if is_start b.code pc then made_if slots (instruction_at b.code pc) else []) 0 b.code
-        (λ pc a le. either AreAll (is_start b.code pc) (made_if slots (instruction_at b.code pc)) [] (if_made (instruction_at b.code pc)) none)
+        (λ pc a le. if_case AreAll (is_start b.code pc) (made_if slots (instruction_at b.code pc)) [] (if_made (instruction_at b.code pc)) none)
 
   in_file : (c : LoadedClass) → AreTexts Q c.pool.slots → AreAll (file_arrays c)
   in_file c texts =
@@ -102,14 +99,14 @@ module _ (Q P : List ℕ → Type 0) (is : IsOfArrays Q P) where
   elements : (name : List ℕ) → P name → AreAll (with_element_types name)
   elements [] h = none
   elements (a ∷ rest) h =
-      either AreAll (a == 91) ((a ∷ rest) ∷ with_element_types rest) []
+      if_case AreAll (a == 91) ((a ∷ rest) ∷ with_element_types rest) []
       (All-cons P (a ∷ rest) (with_element_types rest) h (elements rest (is.element a rest h))) none
 
   added : (seen names : List (List ℕ)) → AreAll seen → AreAll names → AreAll (names_added seen names)
   added seen [] h g = h
   added seen (x ∷ names) h g =
       added (name_added seen x) names
-      (either AreAll (list_any (λ y. bytes_eq x y) seen) seen (seen ++ x ∷ []) h (All-push P seen x h (All-head P x names g))) (All-tail P x names g)
+      (if_case AreAll (list_any (λ y. bytes_eq x y) seen) seen (seen ++ x ∷ []) h (All-push P seen x h (All-head P x names g))) (All-tail P x names g)
 
   pub array_texts : (files : List LoadedClass) → All (λ (c : LoadedClass). AreTexts Q c.pool.slots) files → AreAll (class_names_of files)
   array_texts files texts =

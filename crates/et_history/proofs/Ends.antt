@@ -2,6 +2,7 @@
 use Rattle.std.proofs.Common.{◌≡◌, ℕ, zero, suc, ◌<◌, ◌⊎◌, inl, inr, Bool, true, false, List, Option, Some, None, refl, subst, eq-eqb, arith}
 use Rattle.std.specs.Prelude.{if◌then◌else◌}
 use Rattle.std.proofs.lemmas.Bool.{cases_lt, false≢true}
+use Rattle.et_loop.proofs.RunLemmas.{none_some}
 use Rattle.et_base.specs.declared.value.End.{End}
 use Rattle.et_base.specs.declared.value.End.TheVariants.{Finished, EventLimit}
 use Rattle.et_graph.specs.Graph.{Graph}
@@ -13,9 +14,6 @@ comes : (empty full : Bool) (by : Option End) → full ≡ true → (if empty th
 comes true full by is none = cc
 comes false true by is none = cc
 comes false false by is none = false≢true is
-
-not_both : (o : Option End) (end : End) → o ≡ None → o ≡ Some end → ⊥
-not_both o end none some = cc
 
 one_end : (o : Option End) (end other : End) → o ≡ Some end → o ≡ Some other → other ≡ end
 one_end o end other is was = cc
@@ -58,9 +56,9 @@ module _ {S : Type 0} (reached : Graph → ℕ → Bool) (given : Setting S) (st
 
   only : (e f : ℕ) (end other : End) → IsLastEvent reached given start made e end → IsLastEvent reached given start made f other → (f ≡ e) × (other ≡ end)
   only e f end other a b = elim (cases_lt e f) [
-    | inl below ↦ absurd (not_both (ends_at e) end (b.first e below) a.ends)
+    | inl below ↦ absurd (none_some (ends_at e) end (b.first e below) a.ends)
     | inr le ↦ elim (cases_lt f e) [
-      | inl below ↦ absurd (not_both (ends_at f) other (a.first f below) b.ends)
+      | inl below ↦ absurd (none_some (ends_at f) other (a.first f below) b.ends)
       | inr ge ↦
           let same : f ≡ e = omega arith in
           (same, one_end (ends_at e) end other a.ends (subst (λ k. ends_at k ≡ Some other) same b.ends))

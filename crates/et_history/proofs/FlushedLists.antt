@@ -5,13 +5,13 @@ use Rattle.std.specs.Option.{is_some, option_map_or}
 use Rattle.std.proofs.lemmas.Bool.{false≢true, and_parts, and_from, eqb-true, eq-eqb, not-true, false_from_ne_true}
 use Rattle.std.proofs.lemmas.List.Elements.{Contains-append_left, Contains-append_right, Contains-append_cases}
 use Rattle.std.proofs.lemmas.Option.{same_Some}
-use Rattle.et_base.proofs.Lists.{Contains-none, Contains-here, Contains-cons}
+use Rattle.et_base.proofs.Lists.{Contains-none, Contains-here}
 use Rattle.et_heap.specs.Links.{StandOnce}
 use Rattle.et_heap.specs.Objects.{ObjectState, Objects, IsHeld, is_there, at, found, object_at}
 use Rattle.et_heap.specs.Remaining.{is_cleared, left_place}
 use Rattle.et_state.specs.Enqueuing.{is_free_to_wait, has_queue, has_this_queue, newcomers_from, newcomers, begins_to_wait, joined_place, flushed_heap}
 use Rattle.et_state.specs.Past.{IsPast, first_of, reporting}
-use Rattle.et_state.proofs.Enqueued.{flushed_at}
+use Rattle.et_state.proofs.Enqueued.{flushed_at, one_of}
 use Rattle.et_history.specs.Whole.{cleared}
 use Rattle.et_history.proofs.Freed.{at_cleared}
 use Rattle.et_history.proofs.steps.WaitingLists.{lined_same, Coming, lined_more, seen, AreLined}
@@ -22,15 +22,11 @@ use Rattle.et_history.proofs.steps.WaitingLists.{lined_same, Coming, lined_more,
 abbrev comes : (ℕ → Bool) → ℕ → ℕ → Option ObjectState → Bool
 comes here q r x = is_free_to_wait here (here r) x && has_this_queue q x
 
-one_comes : (b : Bool) (k r : ℕ) → Contains (if b then k ∷ [] else []) r → (k ≡ r) × (b ≡ true)
-one_comes true k r c = elim (Contains-cons k [] r c) [ inl e ↦ (e, refl) | inr d ↦ absurd (Contains-none r d) ]
-one_comes false k r c = absurd (Contains-none r c)
-
 comer_from : (here : ℕ → Bool) (q k : ℕ) (xs : Objects) (r : ℕ) → Contains (newcomers_from here q k xs) r → (j : ℕ) × (r ≡ k + j) × (comes here q r (at xs j) ≡ true)
 comer_from here q k [] r c = absurd (Contains-none r c)
 comer_from here q k (x ∷ xs) r c =
     elim (Contains-append_cases (if comes here q k x then k ∷ [] else []) (newcomers_from here q (k + 1) xs) r c) [
-      | inl d ↦ let one = one_comes (comes here q k x) k r d in (0, (let e = one.0 in omega arith), subst (λ (n : ℕ). comes here q n x ≡ true) one.0 one.1)
+      | inl d ↦ let one = one_of (comes here q k x) k r d in (0, (let e = one.0 in omega arith), subst (λ (n : ℕ). comes here q n x ≡ true) one.0 one.1)
       | inr d ↦ let h = comer_from here q (k + 1) xs r d in (suc h.0, (let e = h.1 in omega arith), h.2)
     ]
 

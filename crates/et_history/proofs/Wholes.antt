@@ -8,6 +8,7 @@ use Rattle.std.proofs.lemmas.List.{length-map}
 use Rattle.std.proofs.lemmas.List.Elements.{Contains-append_left, Contains-get_or, Contains-append_cases}
 use Rattle.et_base.specs.declared.value.End.{End}
 use Rattle.et_base.specs.declared.value.End.TheVariants.{Finished, EventLimit}
+use Rattle.et_base.proofs.Tests.{below_other}
 use Rattle.et_graph.specs.Graph.{Graph, IsReached, Decides}
 use Rattle.et_graph.proofs.Walks.{walk_more}
 use Rattle.et_heap.specs.Objects.{ObjectState, Objects, IsHeld, is_there}
@@ -130,9 +131,6 @@ picked_unended s k some = by (length (unended_threads s)) refl
     by (suc n) e =
         let positive : 0 < length us = omega arith in
         unended_thread s.guest (slice_index us (k % length us)) (Contains-get_or us (k % length us) 0 (mod-lt k positive))
-
-pub below_limit : (e limit : ℕ) → e ≤ limit → (e ≡ limit → ⊥) → e < limit
-below_limit e limit le ne = omega arith
 
 -- no object has the number 0
 left_none : (b : Bool) (x : Option ObjectState) → ¬ is_there x → is_there (if b then None else x) → ⊥
@@ -309,7 +307,7 @@ module _ (reached : Graph → ℕ → Bool) (p : Linked) (options : Options) (pi
       (λ turn.
       let k : Kept = t.kept in
       let unended : IsUnended k.guest thread = subst (λ (i : ℕ). IsUnended k.guest i) (sym turn.thread_is) (picked_unended k (pick (suc e)) turn.some) in
-      let below : e < options.limit = below_limit e options.limit m.1.within (eqb-false e options.limit turn.within) in
+      let below : e < options.limit = below_other e options.limit m.1.within (eqb-false e options.limit turn.within) in
       let few : k.guest.clock < 2 ^ 40 = (let clock = m.1.clock in omega (arith, below, runs.options_are.limit)) in
       after_event p options e t thread (event_with_texts p k thread) (event_keeps_monitors p k thread m.1.state unended runs.run.runnable) (event_leads_to_sound p k thread m.1.state unended runs.run.runnable few) m.1 below)
 

@@ -1,12 +1,13 @@
 -- An event in which a class begins.
-use Rattle.std.proofs.Common.{◌≡◌, ℕ, zero, suc, ◌+◌, ◌-◌, ◌<◌, ◌≤◌, true, false, Bool, List, [], ◌++◌, length, refl, sym, ◌∙◌, ap, subst, arith, inl, inr, Contains, append-nil, lit<}
+use Rattle.std.proofs.Common.{◌≡◌, ℕ, ◌+◌, ◌-◌, ◌<◌, ◌≤◌, true, false, Bool, List, [], ◌++◌, length, refl, sym, ◌∙◌, ap, subst, arith, Contains, append-nil, lit<}
 use Rattle.std.proofs.lemmas.Bool.{lt-ltb, le-ltb}
-use Rattle.et_base.proofs.Lists.{Contains-none, Contains-cons}
+use Rattle.et_state.proofs.Numbered.{in_range}
+use Rattle.et_base.proofs.Lists.{Contains-none}
 use Rattle.et_state.specs.Threads.{FrameState, ThreadState, entered_by, most_frames, lost_room}
 use Rattle.et_state.specs.declared.class_state.ClassState.TheVariants.{Untouched, Begun}
 use Rattle.et_state.specs.State.{Kept, MachineState, kept_of}
 use Rattle.et_state.specs.Words.{thread_at, class_state_at, begun, steps_thread}
-use Rattle.et_state.specs.Roots.{roots_of, numbers_from}
+use Rattle.et_state.specs.Roots.{roots_of}
 use Rattle.et_state.specs.Moves.{IsOnWay, Led}
 use Rattle.et_state.proofs.Calls.{on_enter_frame}
 use Rattle.et_state.proofs.Places.{string_root}
@@ -32,13 +33,6 @@ use Rattle.et_initialize.proofs.Legal.{made_none, ready_first, made_constants}
 use Rattle.et_initialize.proofs.Records.{behind, behind_constants}
 
 -- HOW AN EVENT ENDS THAT MADE STRINGS
-
-in_range : (k n o : ℕ) → Contains (numbers_from k n) o → (k ≤ o) × (o < k + n)
-in_range k zero o c = absurd (Contains-none o c)
-in_range k (suc n) o c = elim (Contains-cons k (numbers_from (k + 1) n) o c) [
-  | inl e ↦ (omega arith, omega arith)
-  | inr d ↦ let h = in_range (k + 1) n o d in let low = h.0 in let high = h.1 in (omega arith, omega arith)
-]
 
 pub strings_led : (s k : Kept) (m : MachineState) → IsOnWay s m → kept_of m ≡ k → length s.heap ≤ length k.heap → ((o : ℕ) → length s.heap ≤ o → o < length k.heap → Contains (roots_of k.guest) o) → Led s k m
 strings_led s k m w e grown roots = led s k m w (λ o c.

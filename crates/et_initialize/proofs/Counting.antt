@@ -4,19 +4,22 @@ use Rattle.std.specs.Prelude.{fold, if◌then◌else◌, ◌==◌, ◌||◌, ◌
 use Rattle.std.specs.List.{list_any}
 use Rattle.std.specs.Option.{option_map_or, option_or}
 use Rattle.std.specs.Int.{w32, w64, cast_signed}
-use Rattle.std.proofs.lemmas.Slice.Eq.{bytes_eq-Decides}
 use Rattle.std.proofs.Math.Bool.{or-false}
 use Rattle.std.proofs.Math.Nat.{suc-mul}
 use Rattle.std.specs.Str.{bytes_eq}
 use Rattle.std.proofs.lemmas.List.{length_push, length-replicate, length-set}
 use Rattle.std.proofs.lemmas.List.Folds.{list_any-append}
 use Rattle.std.proofs.lemmas.List.Sums.{sum_by-append}
-use Rattle.std.proofs.lemmas.Bool.{cases_eq}
+use Rattle.std.proofs.lemmas.Bool.{cases_eq, or_left}
+use Rattle.std.proofs.lemmas.Option.{none-some}
+use mathlib.Core.Bool.{or-true}
 use Rattle.et_pool.specs.Entries.{Item, Text, Word, Wide, Name, Pair, Handle}
 use Rattle.et_pool.specs.Looks.{slot_at, integer_of_slot, long_of_slot, named_by}
 use Rattle.et_pool.specs.declared.tags.TheConstants.{INTEGER, LONG, STRING}
 use Rattle.et_base.specs.declared.value.Value.{Value}
 use Rattle.et_base.specs.declared.value.Value.TheVariants.{Unset, Int, Long, Ref}
+use Rattle.et_base.proofs.Options.{is_none, is_some_of}
+use Rattle.et_base.proofs.Lists.{same_bytes}
 use Rattle.et_heap.specs.Objects.{ObjectState, Objects, new_object, made_count, slot_count, slots_in, most_objects, most_slots, has_room}
 use Rattle.et_state.specs.declared.class_state.ClassState.{ClassState}
 use Rattle.et_state.specs.declared.class_state.ClassState.TheVariants.{Untouched, Begun, Done, Failed}
@@ -61,20 +64,17 @@ alike_written e i v d = record { heap = ap (λ (k : Kept). k.heap) (written_stat
 
 -- WHAT THE CONSTANT OF A FIELD IS
 
-none_some : {A : Type 0} (a : A) → None ≡ Some a → ⊥
-none_some a e = cc
-
 abbrev constant_of : List (Option Item) → Option Item → Option LoadedConstant
 constant_of pool s = option_or (option_map AnInt (integer_of_slot s)) (option_or (option_map ALong (long_of_slot s)) (option_map AString (named_by pool STRING s)))
 
 string_constant : (pool : List (Option Item)) (bytes : List ℕ) (s : Option Item) → named_by pool STRING s ≡ Some bytes → constant_of pool s ≡ Some (AString bytes)
-string_constant pool bytes None h = absurd (none_some bytes h)
-string_constant pool bytes (Some (Text b)) h = absurd (none_some bytes h)
-string_constant pool bytes (Some (Word tag bits)) h = absurd (none_some bytes h)
-string_constant pool bytes (Some (Wide tag bits)) h = absurd (none_some bytes h)
+string_constant pool bytes None h = absurd (none-some bytes h)
+string_constant pool bytes (Some (Text b)) h = absurd (none-some bytes h)
+string_constant pool bytes (Some (Word tag bits)) h = absurd (none-some bytes h)
+string_constant pool bytes (Some (Wide tag bits)) h = absurd (none-some bytes h)
 string_constant pool bytes (Some (Name tag index)) h = ap (λ (o : Option (List ℕ)). option_map AString o) h
-string_constant pool bytes (Some (Pair tag first second)) h = absurd (none_some bytes h)
-string_constant pool bytes (Some (Handle kind index)) h = absurd (none_some bytes h)
+string_constant pool bytes (Some (Pair tag first second)) h = absurd (none-some bytes h)
+string_constant pool bytes (Some (Handle kind index)) h = absurd (none-some bytes h)
 
 pub string_set : (e : Moment) (d : Doing) (f : ℕ) (bytes : List ℕ) → constant_text e.program f ≡ Some bytes → field_set e d f ≡ constant_set e (field_at e.program f) (Some (AString bytes)) d
 string_set e d f bytes text =
@@ -120,14 +120,6 @@ pushed_known (x ∷ es) bytes t n = step (bytes_eq t x.0) (object_of (es ++ (byt
 or_more : (a b c d : Bool) → a ≡ (b || c) → (a || d) ≡ (b || (c || d))
 or_more a true c d e = ap (λ (x : Bool). x || d) e
 or_more a false c d e = ap (λ (x : Bool). x || d) e
-
-is_none : (o : Option ℕ) → is_some o ≡ false → o ≡ None
-is_none None e = refl
-is_none (Some x) e = cc
-
-is_some_of : (o : Option ℕ) → is_some o ≡ true → (n : ℕ) × (o ≡ Some n)
-is_some_of (Some x) e = (x, refl)
-is_some_of None e = cc
 
 -- a string that is known is not made
 pub alike_known : (e : Moment) (bytes : List ℕ) (d : Doing) → is_text_known d bytes ≡ true → Alike d (interned e bytes d)
@@ -186,23 +178,13 @@ counted_new m seen e d f bytes text new c =
 known_alike : (t : List ℕ) (d d' : Doing) → Alike d d' → is_text_known d t ≡ true → is_text_known d' t ≡ true
 known_alike t d d' a h = ap (λ (es : Strings). is_some (object_of es t)) a.strings ∙ h
 
-or_left : (a b : Bool) → a ≡ true → (a || b) ≡ true
-or_left a b e = ap (λ (x : Bool). x || b) e
-
 known_interned : (e : Moment) (bytes t : List ℕ) (d : Doing) → is_text_known d t ≡ true → is_text_known (interned e bytes d) t ≡ true
 known_interned e bytes t d h = by_interned (λ (x : Doing). is_text_known x t ≡ true) e bytes d
     (λ none. pushed_known d.state.guest.interned bytes t (length d.state.heap) ∙ or_left (is_text_known d t) (bytes_eq t bytes) h) (λ o some. h)
 
-same_bytes : (bs : List ℕ) → bytes_eq bs bs ≡ true
-same_bytes bs = (bytes_eq-Decides bs bs).1 refl
-
-or_right : (a : Bool) → (a || true) ≡ true
-or_right true = refl
-or_right false = refl
-
 now_known : (e : Moment) (bytes : List ℕ) (d : Doing) → is_text_known (interned e bytes d) bytes ≡ true
 now_known e bytes d = by_interned (λ (x : Doing). is_text_known x bytes ≡ true) e bytes d
-    (λ none. pushed_known d.state.guest.interned bytes bytes (length d.state.heap) ∙ (ap (λ (b : Bool). is_text_known d bytes || b) (same_bytes bytes) ∙ or_right (is_text_known d bytes)))
+    (λ none. pushed_known d.state.guest.interned bytes bytes (length d.state.heap) ∙ (ap (λ (b : Bool). is_text_known d bytes || b) (same_bytes bytes) ∙ or-true (is_text_known d bytes)))
     (λ o some. ap (λ (r : Option ℕ). is_some r) some)
 
 -- by whether the constant is a string

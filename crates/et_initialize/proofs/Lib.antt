@@ -7,6 +7,6 @@ pub mod Counting
 pub mod Beginning
 pub mod Preparing
 pub mod Stepping
-mod Turning
+pub mod Turning
 pub mod Statics
 pub mod Needing

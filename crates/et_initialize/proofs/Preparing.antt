@@ -6,7 +6,8 @@ use Rattle.std.proofs.lemmas.Bool.{cases_eq, and_parts}
 use Rattle.std.proofs.lemmas.List.Sums.{fold_more}
 use Rattle.std.proofs.lemmas.List.{length-set, get_or_default}
 use Rattle.std.proofs.lemmas.List.Elements.{All-take}
-use Rattle.et_base.proofs.Lists.{Contains-none, Contains-here, Contains-there, Contains-cons}
+use Rattle.et_base.proofs.Lists.{Contains-none, Contains-here, Contains-there, Contains-cons, all_true}
+use Rattle.et_base.proofs.Firsts.{true_false}
 use Rattle.et_state.specs.declared.class_state.ClassState.{ClassState}
 use Rattle.et_state.specs.declared.class_state.ClassState.TheVariants.{Untouched, Begun, Done, Failed}
 use Rattle.et_state.specs.State.{Kept, MachineState, kept_of}
@@ -181,9 +182,6 @@ passed e (k ∷ ks) d all =
         ]
 
 -- TESTS OVER LISTS
-all_true : (p : ℕ → Bool) (xs : List ℕ) → ((j : ℕ) → Contains xs j → p j ≡ true) → list_all p xs ≡ true
-all_true p [] h = refl
-all_true p (x ∷ xs) h = ap (λ (b : Bool). b && list_all p xs) (h x (Contains-here x xs)) ∙ all_true p xs (λ j c. h j (Contains-there x xs j c))
 
 at_true : (p : ℕ → Bool) (xs : List ℕ) (j : ℕ) → list_all p xs ≡ true → Contains xs j → p j ≡ true
 at_true p [] j h c = absurd (Contains-none j c)
@@ -268,9 +266,6 @@ quiet_within : (e : Moment) (d₀ : Doing) (c b : ℕ) → IsInOrder e.program �
 quiet_within e d₀ c b has lt quiet member =
     all_true (λ k. is_quiet_state e.program k (state_of d₀ k)) (class_at e.program b).init_order
     (λ j m. at_true (λ k. is_quiet_state e.program k (state_of d₀ k)) (class_at e.program c).init_order j quiet (has.orders c b j lt member m))
-
-pub true_false : true ≡ false → ⊥
-true_false e = cc
 
 pub blocker_state : (e : Moment) (d₀ d : Doing) (b : ℕ) → IsInOrder e.program → is_ready e d₀ b ≡ false → Turns e d₀ d → state_of d b ≡ state_of d₀ b
 blocker_state e d₀ d b has blocked t = elim (t.each b) [

@@ -1,6 +1,6 @@
 -- The events of an initializer, after its quiet prerequisites are done.
 use Rattle.std.proofs.Common.{◌≡◌, ℕ, ◌+◌, ◌-◌, ◌*◌, ◌<◌, ◌≤◌, leb, Bool, true, false, List, [], ◌∷◌, ◌++◌, length, All, Option, Some, None, refl, sym, ◌∙◌, ap, subst, arith, inl, inr, Contains, append_assoc, option_to_list, get_or, lit<}
-use Rattle.std.specs.Prelude.{◌&&◌, if◌then◌else◌}
+use Rattle.std.specs.Prelude.{◌&&◌}
 use Rattle.std.proofs.lemmas.Bool.{cases_eq, and_parts, leb-true, le-leb}
 use Rattle.std.proofs.lemmas.List.{length_push, length-replicate, get_or-set_same, length-set}
 use Rattle.std.proofs.lemmas.List.Sums.{sum_by-append}
@@ -11,7 +11,7 @@ use Rattle.et_heap.specs.Objects.{ObjectState, Objects, new_object, has_room, sl
 use Rattle.et_heap.specs.Refs.{refs_of}
 use Rattle.et_state.specs.declared.stage.Stage.{Stage}
 use Rattle.et_state.specs.declared.stage.Stage.TheVariants.{Plain, Before, Clinit}
-use Rattle.et_state.specs.Threads.{FrameState, ThreadState, no_thread, first_frame, top_of, without_top, with_pending, as_entered, in_clinit, entered_by, lost_room, most_frames}
+use Rattle.et_state.specs.Threads.{FrameState, ThreadState, no_thread, first_frame, top_of, without_top, with_pending, in_clinit, entered_by, lost_room, most_frames}
 use Rattle.et_state.specs.ThreadRoots.{frame_roots}
 use Rattle.et_state.specs.declared.class_state.ClassState.{ClassState}
 use Rattle.et_state.specs.declared.class_state.ClassState.TheVariants.{Untouched, Begun, Done}
@@ -30,12 +30,12 @@ use Rattle.et_state.specs.Outcome.{Outcome}
 use Rattle.et_event.specs.declared.errors.GuestError.{GuestError}
 use Rattle.et_event.specs.declared.errors.GuestError.TheVariants.{StackOverflowError}
 use Rattle.et_event.specs.Errors.{error_class}
-use Rattle.et_event.specs.Moments.{Moment, moment, Doing, current_frame, begins, fits_heap, next_object, instance_made, pending_now, entry_given_up, with_thread_state, with_frame, told, ends_event as ending, throws}
+use Rattle.et_event.specs.Moments.{Moment, moment, Doing, current_frame, begins, fits_heap, next_object, instance_made, pending_now, with_thread_state, with_frame, told, ends_event as ending, throws}
 use Rattle.et_event.specs.Answered.{EventAnswers}
 use Rattle.et_event.specs.Sound.{IsSoundFor, AreSoundFrames, IsStaged}
 use Rattle.et_event.specs.Sites.{present_body}
 use Rattle.et_event.specs.Initialization.{with_state, prepared, constants_set, begun_by, begins_class, initializer_frame, enters_clinit}
-use Rattle.et_event.proofs.Throwing.{ends_fit, ends_full, framed}
+use Rattle.et_event.proofs.Throwing.{ends_fit, ends_full, not_given_up}
 use Rattle.et_event.specs.InitializationOrder.{IsInOrder}
 use Rattle.et_event.specs.Telling.{so_far, with_kept, StandsAt}
 use Rattle.et_initialize.specs.Under.{IsInitializing, HasMadeStrings}
@@ -193,9 +193,6 @@ pub told_enter : (out out' : List Record) (n clock t number method : ℕ) → n 
 told_enter out out' n clock t number method a b e = e ∙ (ap (λ (i : ℕ). out ++ Enter i number method 0 ∷ []) a ∙ ap (λ (i : ℕ). out ++ Enter clock i method 0 ∷ []) b)
 
 -- AN ERROR IS THROWN
-
-not_given_up : (e : Moment) (d : Doing) → 0 < length (thread_at d.state.guest e.thread).frames → entry_given_up e d ≡ d
-not_given_up e d h = ap (λ (b : Bool). if b then d else with_thread_state e (as_entered (thread_at d.state.guest e.thread)) d) (framed (thread_at d.state.guest e.thread).frames h)
 
 abbrev pub thrown : Moment → GuestError → Doing → Doing
 thrown e error d = pending_now e (next_object d) (instance_made e (error_class e.program error) d)

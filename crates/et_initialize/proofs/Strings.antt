@@ -1,16 +1,12 @@
 -- The strings of constants.
-use Rattle.std.proofs.Common.{rules, ◌≡◌, ℕ, ◌==◌, ◌<◌, Bool, true, false, cond, List, [], ◌∷◌, ◌++◌, length, Option, Some, None, refl, sym, ◌∙◌, ap, subst, arith, Contains, append-nil}
-use Rattle.std.specs.Prelude.{if◌then◌else◌, is_some, codes, find, unwrap_or, slice_get}
-use Rattle.std.specs.Option.{option_map}
-use Rattle.std.specs.Str.{bytes_eq}
-use Rattle.std.proofs.lemmas.Bool.{eqb-true}
+use Rattle.std.proofs.Common.{◌≡◌, ℕ, List, [], ◌∷◌, ◌++◌, length, Option, Some, None, refl, sym, ◌∙◌, ap, subst, Contains, append-nil}
+use Rattle.std.specs.Prelude.{if◌then◌else◌, is_some, codes, unwrap_or, slice_get}
 use Rattle.std.proofs.lemmas.Option.{unwrap_or-slice_get}
-use Rattle.std.proofs.lemmas.Slice.Eq.{bytes_eq-Decides}
+use Rattle.et_state.proofs.Interned.{object_pushed, object_in}
 use Rattle.et_base.specs.declared.value.Value.{Value}
 use Rattle.et_base.specs.declared.value.Value.TheVariants.{Unset, Ref}
-use Rattle.et_base.proofs.Lists.{Contains-here, Contains-there}
 use Rattle.et_heap.specs.Refs.{refs_of_value}
-use Rattle.et_state.specs.Interned.{object_of, interned_text, interned_objects}
+use Rattle.et_state.specs.Interned.{object_of, interned_objects}
 use Rattle.et_state.specs.State.{Kept, MachineState}
 use Rattle.et_state.specs.Words.{static_at, steps_guest, with_static, with_string}
 use Rattle.et_state.specs.declared.records.Record.{Record}
@@ -30,41 +26,6 @@ use Rattle.et_event.specs.Initialization.{constant_set, field_set}
 abbrev pub Strings : Type 0
 Strings = List (List ℕ × ℕ)
 
-none_some : {A : Type 0} (a : A) → None ≡ Some a → ⊥
-none_some a e = cc
-
-some_none : {A : Type 0} (a : A) → Some a ≡ None → ⊥
-some_none a e = cc
-
-some_inj : (i j : ℕ) → Some i ≡ Some j → i ≡ j
-some_inj i j e = cc
-
-text_step : (b : Bool) (e : List ℕ × ℕ) (r : Option (List ℕ × ℕ)) → (b ≡ true → ⊥) → option_map (λ q. q.0) r ≡ None → option_map (λ q. q.0) (cond b (Some e) r) ≡ None
-text_step true e r apart h = absurd (apart refl)
-text_step false e r apart h = h
-
--- an object above all of these has no bytes
-pub no_text : (o : ℕ) (es : Strings) → ((q : ℕ) → Contains (interned_objects es) q → q < o) → interned_text es o ≡ None
-no_text o [] h = refl
-no_text o (e ∷ es) h =
-    let lt : e.1 < o = h e.1 (Contains-here e.1 (interned_objects es)) in
-    let other : (o == e.1) ≡ true → ⊥ = λ same. let is : o ≡ e.1 = eqb-true o e.1 same in omega arith in
-    text_step (o == e.1) e (find (λ p. o == p.1) es) other (no_text o es (λ q c. h q (Contains-there e.1 (interned_objects es) q c)))
-
-push_step : (b : Bool) (v n : ℕ) (r r' : Option ℕ) → (r ≡ None → r' ≡ Some n) → cond b (Some v) r ≡ None → cond b (Some v) r' ≡ Some n
-push_step true v n r r' ih h = absurd (some_none v h)
-push_step false v n r r' ih h = ih h
-
-object_pushed : (es : Strings) (bytes : List ℕ) (n : ℕ) → object_of es bytes ≡ None → object_of (es ++ (bytes, n) ∷ []) bytes ≡ Some n
-object_pushed [] bytes n h = last (bytes_eq bytes bytes) n (bytes_same bytes)
-  where
-    bytes_same : (bs : List ℕ) → bytes_eq bs bs ≡ true
-    bytes_same bs = search (rules, bytes_eq-Decides)
-
-    last : (b : Bool) (k : ℕ) → b ≡ true → cond b (Some k) None ≡ Some k
-    last b k e = ap (λ (x : Bool). cond x (Some k) None) e
-object_pushed (e ∷ es) bytes n h = push_step (bytes_eq bytes e.0) e.1 n (object_of es bytes) (object_of (es ++ (bytes, n) ∷ []) bytes) (object_pushed es bytes n) h
-
 -- the string is made
 abbrev pub making : Moment → List ℕ → Doing → Doing
 making e bytes d =
@@ -81,15 +42,6 @@ has_made e bytes d o some = ap (λ (r : Option ℕ). if is_some r then d else ma
 pub made_string : (e : Moment) (bytes : List ℕ) (d : Doing) (o : ℕ) → object_of d.state.guest.interned bytes ≡ None → o ≡ length d.state.heap → o ≡ string_object bytes (interned e bytes d)
 made_string e bytes d o none is =
     is ∙ sym (ap (λ (x : Doing). string_object bytes x) (makes e bytes d none) ∙ ap (λ (r : Option ℕ). unwrap_or r 0) (object_pushed d.state.guest.interned bytes (length d.state.heap) none))
-
-object_step : (b : Bool) (v : ℕ) (vs : List ℕ) (r : Option ℕ) (o : ℕ) → (r ≡ Some o → Contains vs o) → cond b (Some v) r ≡ Some o → Contains (v ∷ vs) o
-object_step true v vs r o ih h = subst (λ (k : ℕ). Contains (v ∷ vs) k) (some_inj v o h) (Contains-here v vs)
-object_step false v vs r o ih h = Contains-there v vs o (ih h)
-
--- what has bytes is the object of a string
-pub object_in : (es : Strings) (bytes : List ℕ) (o : ℕ) → object_of es bytes ≡ Some o → Contains (interned_objects es) o
-object_in [] bytes o h = absurd (none_some o h)
-object_in (e ∷ es) bytes o h = object_step (bytes_eq bytes e.0) e.1 (interned_objects es) (object_of es bytes) o (object_in es bytes o) h
 
 -- either there is an object, or it is made
 pub by_interned : (P : Doing → Type 0) (e : Moment) (bytes : List ℕ) (d : Doing) → (object_of d.state.guest.interned bytes ≡ None → P (making e bytes d)) → ((o : ℕ) → object_of d.state.guest.interned bytes ≡ Some o → P d) → P (interned e bytes d)

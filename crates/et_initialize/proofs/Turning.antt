@@ -1,8 +1,9 @@
 -- The turn of an initializer: what it waits for is needed, or its class goes on.
-use Rattle.std.proofs.Common.{◌≡◌, ℕ, ◌<◌, ◌≤◌, Bool, true, false, List, length, All, Result, Option, sym, ◌∙◌, ap, subst, get_or, take, arith}
+use Rattle.std.proofs.Common.{◌≡◌, ℕ, ◌<◌, Bool, true, false, List, length, All, Result, Option, sym, ◌∙◌, ap, subst, get_or, take, arith}
 use Rattle.std.specs.Prelude.{◌==◌, if◌then◌else◌, IfOk, find, take_while, not}
 use Rattle.std.specs.List.{list_all}
 use Rattle.std.proofs.lemmas.List.{get_or_default, take_all}
+use Rattle.et_base.proofs.Firsts.{true_false}
 use Rattle.et_state.specs.declared.class_state.ClassState.{ClassState}
 use Rattle.et_state.specs.declared.class_state.ClassState.TheVariants.{Untouched, Begun, Done, Failed}
 use Rattle.et_state.specs.State.{Kept, MachineState, kept_of}
@@ -20,7 +21,7 @@ use Rattle.et_initialize.specs.declared.needs.Need.TheVariants.{Ready, Waits, Qu
 use Rattle.et_initialize.specs.Needs.{need_by, need_of, met}
 use Rattle.et_event.specs.InitializationOrder.{IsInOrder}
 use Rattle.et_initialize.proofs.Needing.{begins_untouched}
-use Rattle.et_initialize.proofs.Preparing.{true_false, blocked, blocker_state, turns_none, turns_prepared, all_pass, first_fails}
+use Rattle.et_initialize.proofs.Preparing.{blocked, blocker_state, turns_none, turns_prepared, all_pass, first_fails}
 use Rattle.et_initialize.specs.Asked.{after}
 
 -- an answer to the same outcome
@@ -87,10 +88,6 @@ all_within n ks js e all = subst (λ (xs : List ℕ). All (λ k. k < n) xs) (sym
 
 pub all_ready : (e : Moment) (ks : List ℕ) (n : ℕ) → n ≡ length ks → list_all (is_ready e (begins e)) (take n ks) ≡ true → list_all (is_ready e (begins e)) ks ≡ true
 all_ready e ks n is ready = subst (λ (xs : List ℕ). list_all (is_ready e (begins e)) xs ≡ true) (take_all n ks (omega arith)) ready
-
--- .. with a blocker
-pub before_all : (n l : ℕ) → n ≤ l → (n ≡ l → ⊥) → n < l
-before_all n l le ne = omega arith
 
 same_blocker : (ks : List ℕ) (n b : ℕ) → n < length ks → b ≡ get_or ks n b → get_or ks n 0 ≡ b
 same_blocker ks n b lt read = sym (read ∙ get_or_default ks n b 0 lt)

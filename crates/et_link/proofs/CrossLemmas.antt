@@ -3,10 +3,11 @@ use Rattle.std.proofs.Common.{◌≡◌, ℕ, zero, suc, ◌+◌, ◌<◌, ◌�
 use mathlib.Core.Logic.{⊎_elim}
 use Rattle.std.specs.Prelude.{nat_lt, All}
 use Rattle.std.specs.List.{position_from, list_any, slice_index_or}
-use Rattle.std.proofs.lemmas.Bool.{cases_Bool, cond-true, cond-false, and_parts, and_from, ltb-true, ltb-false}
+use Rattle.std.proofs.lemmas.Bool.{cases_Bool, cond-true, cond-false, and_parts, and_from, ltb-true, ltb-false, not-true}
 use Rattle.std.proofs.lemmas.List.{get_or_default}
 use Rattle.et_hierarchy.specs.Outline.{Outline}
 use Rattle.std.specs.Option.{option_to_list}
+use Rattle.std.proofs.lemmas.Option.{same_Some}
 use Rattle.et_hierarchy.specs.Links.{LinkEntry, links, no_links, HasLinksWithin}
 use Rattle.et_hierarchy.specs.Ancestry.{Ancestry, ancestry_at, IsAncestry, supers_over}
 use Rattle.et_program.specs.declared.info.MethodInfo.{MethodInfo}
@@ -97,9 +98,6 @@ least_at test methods (suc n) le =
 
 -- SUPERCLASSES
 
-some_same : (a b : ℕ) → Some a ≡ Some b → a ≡ b
-some_same a b e = cc
-
 module _ (table : List LinkEntry) (rows : List Ancestry) (is : IsAncestry table rows) (within : HasLinksWithin (length table) table) where
   -- the superclasses of class k, by the class right above it
   supers_by : (k : ℕ) → k < length table → (ancestry_at rows k).supers ≡ supers_over rows (slice_index_or table k no_links).above
@@ -107,7 +105,7 @@ module _ (table : List LinkEntry) (rows : List Ancestry) (is : IsAncestry table 
 
   above_of : (o : Option ℕ) (ints : List ℕ) (u : ℕ) → o ≡ Some u → All (λ j. j < length table) (option_to_list o ++ ints) → u < length table
   above_of None ints u e h = absurd (cc)
-  above_of (Some v) ints u e h = let r : v < length table = h 0 v (omega arith) in let s : v ≡ u = some_same v u e in omega arith
+  above_of (Some v) ints u e h = let r : v < length table = h 0 v (omega arith) in let s : v ≡ u = same_Some v u e in omega arith
 
   above_within : (k u : ℕ) → k < length table → (slice_index_or table k no_links).above ≡ Some u → u < length table
   above_within k u lt e = above_of _ (slice_index_or table k no_links).interfaces u e (within k no_links lt)
@@ -138,10 +136,6 @@ some_private : (methods : List MethodInfo) (o : Option ℕ) → is_private_at me
 some_private methods None h = absurd (cc)
 some_private methods (Some j) h = (j, refl, h)
 
-not_true : (b : Bool) → not b ≡ true → b ≡ false
-not_true true h = absurd (cc)
-not_true false h = refl
-
 module _ (set : List Outline) (rows : List Ancestry) (methods : List MethodInfo) (is : IsAncestry (links set) rows) (within : HasLinksWithin (length (links set)) (links set)) (own : All (λ (m : MethodInfo). m.class < length (links set)) methods) where
   crossing_at : (j : ℕ) → j < length methods → crosses set rows methods (method_numbered methods j) ≡ true → CrossesPackage set methods (method_numbered methods j).class
   crossing_at j lt h =
@@ -157,7 +151,7 @@ module _ (set : List Outline) (rows : List Ancestry) (methods : List MethodInfo)
         redeclares = a.0;
         superclass = s.0;
         is_super = super_from (links set) rows is within m.class s.0 (own j no_method lt) s.1;
-        elsewhere = not_true _ b.0;
+        elsewhere = not-true _ b.0;
         redeclared = o.0;
         found = o.1;
         package_private = o.2;

@@ -5,6 +5,7 @@ use Rattle.std.specs.List.{filter, filter_map, cons_option}
 use Rattle.std.specs.Option.{option_to_list}
 use Rattle.std.proofs.lemmas.List.{take_more, length-take-le, length-map, map-append}
 use Rattle.std.proofs.lemmas.List.Elements.{filter-append}
+use Rattle.et_base.proofs.Lists.{none_long}
 use Rattle.et_pool.specs.Entries.{Constants}
 use Rattle.et_boot.specs.Classes.{BootClassOf}
 use Rattle.et_program.specs.MembersOf.{numbered, IsBootPool, AreBootPools}
@@ -27,13 +28,9 @@ numbered_more f k xs i d x n lt is at =
 pub taken_more : {X : Type 0} (before left rest all : List X) (x : X) → before ++ left ≡ all → left ≡ x ∷ rest → (before ++ x ∷ []) ++ rest ≡ all
 taken_more before left rest all x h e = append_assoc before (x ∷ []) rest ∙ (ap (λ l. before ++ l) (sym e) ∙ h)
 
-nothing_left : {X : Type 0} (l : List X) → length l ≡ 0 → l ≡ []
-nothing_left [] h = refl
-nothing_left (x ∷ xs) h = absurd (omega arith)
-
 -- nothing is left
 pub taken_all : {X : Type 0} (before left all : List X) → before ++ left ≡ all → length left ≡ 0 → before ≡ all
-taken_all before left all h n = sym (append-nil before) ∙ (ap (λ l. before ++ l) (sym (nothing_left left n)) ∙ h)
+taken_all before left all h n = sym (append-nil before) ∙ (ap (λ l. before ++ l) (sym (none_long left n)) ∙ h)
 
 -- each element of a longer list
 pub map_push : {X Y : Type 0} (f : X → Y) (xs : List X) (x : X) → map f (xs ++ x ∷ []) ≡ map f xs ++ f x ∷ []

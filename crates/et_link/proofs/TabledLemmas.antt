@@ -31,7 +31,7 @@ use Rattle.et_program.specs.ProgramOf.{heads_of, class_names_of, classes_by, mai
 
 -- LISTS
 
-all_left : {X : Type 0} (P : X → Type 0) (xs ys : List X) → All P (xs ++ ys) → All P xs
+pub all_left : {X : Type 0} (P : X → Type 0) (xs ys : List X) → All P (xs ++ ys) → All P xs
 all_left P [] ys h = All-nil P
 all_left P (x ∷ xs) ys h = All-cons P x xs (All-head P x (xs ++ ys) h) (all_left P xs ys (All-tail P x (xs ++ ys) h))
 
@@ -125,7 +125,7 @@ required_within n h k false e within below lt =
     All-append (λ j. j < n) (option_to_list (slice_index_or h.table k no_links).above) _ (all_left (λ j. j < n) _ _ p)
     (run_within n h.needs h.rows (slice_index_or h.table k no_links) below (all_right (λ i. i < n) (option_to_list (slice_index_or h.table k no_links).above) _ p))
 
-some_below : (o : Option ℕ) (a b : ℕ) → a ≤ b → IfSome o (λ j. j < a) → IfSome o (λ j. j < b)
+pub some_below : (o : Option ℕ) (a b : ℕ) → a ≤ b → IfSome o (λ j. j < a) → IfSome o (λ j. j < b)
 some_below None a b le h = tt
 some_below (Some j) a b le h = omega arith
 

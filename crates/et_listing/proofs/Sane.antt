@@ -20,18 +20,8 @@ use Rattle.et_listing.specs.Words.{same_word, is_lower_hex, hex, is_flags, flags
 use Rattle.et_base.specs.Digits.{is_digit}
 use Rattle.et_listing.specs.Lines.{needs, numeral, member, word_at, constant_form, load_of, long_load_of, based, base_type, direct_call_of, table_fits, ends_default, table_labels, is_word_pair, pairs, lookup_words, counted_words, spelled_word, flags, natural_word, integer, int32, int64, class_line_of, interface_of, four_or_six, constant_entry, field_form, field_constant, field_of, method_form, method_limits, method_of, label, caught_class, catch_of, shaped, with_mnemonic, said, alone, parsed_line, is_silent, parsed_of}
 use Rattle.et_base.specs.Steps.{◌>>=◌}
-
-by_if : {B : Type 0} (P : B → Type 0) (b : Bool) (x y : B) → (b ≡ true → P x) → (b ≡ false → P y) → P (cond b x y)
-by_if P true x y h i = h refl
-by_if P false x y h i = i refl
-
-and_left : (a b : Bool) → (a && b) ≡ true → a ≡ true
-and_left true b h = refl
-and_left false b h = h
-
-and_right : (a b : Bool) → (a && b) ≡ true → b ≡ true
-and_right true b h = h
-and_right false b h = absurd (true≢false (sym h))
+use Rattle.et_base.proofs.Tests.{and_first, and_second}
+use Rattle.et_base.proofs.Readings.{by_if}
 
 -- RANGES
 
@@ -97,9 +87,9 @@ ok_if P false x f h = tt
 
 hex_small : (c : ℕ) → hex c ≤ 15
 hex_small c =
-    by_if (λ n. n ≤ 15) (is_lower_hex c) (c - 87) _ (λ t. let high : c ≤ 102 = leb-true _ _ (and_right (nat_le 97 c) (nat_le c 102) t) in omega arith) (λ f.
-    by_if (λ n. n ≤ 15) (nat_le 65 c && nat_le c 70) (c - 55) _ (λ t. let high : c ≤ 70 = leb-true _ _ (and_right (nat_le 65 c) (nat_le c 70) t) in omega arith) (λ g.
-    by_if (λ n. n ≤ 15) (is_digit c) (c - 48) 0 (λ t. let high : c ≤ 57 = leb-true _ _ (and_right (nat_le 48 c) (nat_le c 57) t) in omega arith) (λ i. omega arith)))
+    by_if (λ n. n ≤ 15) (is_lower_hex c) (c - 87) _ (λ t. let high : c ≤ 102 = leb-true _ _ (and_second (nat_le 97 c) (nat_le c 102) t) in omega arith) (λ f.
+    by_if (λ n. n ≤ 15) (nat_le 65 c && nat_le c 70) (c - 55) _ (λ t. let high : c ≤ 70 = leb-true _ _ (and_second (nat_le 65 c) (nat_le c 70) t) in omega arith) (λ g.
+    by_if (λ n. n ≤ 15) (is_digit c) (c - 48) 0 (λ t. let high : c ≤ 57 = leb-true _ _ (and_second (nat_le 48 c) (nat_le c 57) t) in omega arith) (λ i. omega arith)))
 
 flags_small : (word : List ℕ) → flags_of_words word < 2 ^ 16
 flags_small word = omega (arith, hex_small (slice_index word 0), hex_small (slice_index word 1), hex_small (slice_index word 2), hex_small (slice_index word 3))
@@ -108,19 +98,19 @@ flags_ok : (words : List (List ℕ)) (i : ℕ) → OkIs (λ n. n < 2 ^ 16) (flag
 flags_ok words i = ok_if (λ n. n < 2 ^ 16) (is_flags (word_at words i)) (flags_of_words (word_at words i)) fault.Operands (λ t. flags_small (word_at words i))
 
 natural_is : (high : ℕ) (z : ℤ) → (int_le (pos 0) z && int_le z (pos high)) ≡ true → unsigned_abs z ≤ high
-natural_is high (pos n) h = leb-true _ _ (and_right (nat_le 0 n) (nat_le n high) h)
+natural_is high (pos n) h = leb-true _ _ (and_second (nat_le 0 n) (nat_le n high) h)
 natural_is high (negsuc n) h = absurd (true≢false (sym h))
 
 natural_ok : (words : List (List ℕ)) (i high : ℕ) → OkIs (λ n. n ≤ high) (natural_word words i high)
 natural_ok words i high = ok_if (λ n. n ≤ high) (is_natural_in high (word_at words i)) (unsigned_abs (value (word_at words i))) fault.Number (λ t. natural_is high (value (word_at words i)) t)
 
 pub fits32 : (z : ℤ) → is_32 z ≡ true → FitsSigned w32 z
-fits32 (pos n) h = let le : n ≤ 2147483647 = leb-true _ _ (and_right true (nat_le n 2147483647) h) in record { sfits = omega arith }
-fits32 (negsuc n) h = let le : n ≤ 2147483647 = leb-true _ _ (and_left (nat_le n 2147483647) true h) in record { sfits = omega arith }
+fits32 (pos n) h = let le : n ≤ 2147483647 = leb-true _ _ (and_second true (nat_le n 2147483647) h) in record { sfits = omega arith }
+fits32 (negsuc n) h = let le : n ≤ 2147483647 = leb-true _ _ (and_first (nat_le n 2147483647) true h) in record { sfits = omega arith }
 
 pub fits64 : (z : ℤ) → is_64 z ≡ true → FitsSigned w64 z
-fits64 (pos n) h = let le : n ≤ 9223372036854775807 = leb-true _ _ (and_right true (nat_le n 9223372036854775807) h) in record { sfits = omega arith }
-fits64 (negsuc n) h = let le : n ≤ 9223372036854775807 = leb-true _ _ (and_left (nat_le n 9223372036854775807) true h) in record { sfits = omega arith }
+fits64 (pos n) h = let le : n ≤ 9223372036854775807 = leb-true _ _ (and_second true (nat_le n 9223372036854775807) h) in record { sfits = omega arith }
+fits64 (negsuc n) h = let le : n ≤ 9223372036854775807 = leb-true _ _ (and_first (nat_le n 9223372036854775807) true h) in record { sfits = omega arith }
 
 int32_ok : (words : List (List ℕ)) (i : ℕ) → OkIs (λ n. is_32 n ≡ true) (int32 words i)
 int32_ok words i = ok_if (λ n. is_32 n ≡ true) (is_integer_in (neg_ℤ (pos (2 ^ 31))) (pos (2 ^ 31 - 1)) (word_at words i)) (value (word_at words i)) fault.Number (λ t. t)

@@ -104,10 +104,6 @@ turn_over reached given flush_visits e s end old new ends few =
     let over : new ≤ old + (flush + 8) = subst (λ (x : Option End). new ≤ old + turn_visits x (is_flush_point given.interval e) flush (made_after given e (settled reached given e s) - (given.rule.graph s).made)) ends few in
     omega (arith, over)
 
-pub undo_not : (b : Bool) → not b ≡ true → b ≡ false
-undo_not true h = absurd (let e : false ≡ true = h in cc)
-undo_not false h = refl
-
 -- a last flush, where there was none before
 pub last_flush : (due : Bool) (flush other old now : ℕ) → (due ≡ false → now ≤ old + due_visits (not due) flush) → now ≤ old + due_visits (not due) other → now ≤ old + last_visits due flush
 last_flush true flush other old now first none = none

@@ -1,5 +1,6 @@
 -- A run that is cut off in a turn.
 use Rattle.std.proofs.Common.{◌≡◌, ℕ, ◌+◌, ◌<◌, ◌≤◌, Bool, List, None, ◌∙◌, ap, inl, inr}
+use Rattle.et_io.proofs.Taking.{with_more-with_more}
 use Rattle.et_graph.specs.Graph.{Graph}
 use Rattle.et_io.specs.Sink.{Log, with_more, TakesPrefix}
 use Rattle.et_state.specs.declared.records.Record.{Record}
@@ -9,7 +10,7 @@ use Rattle.et_binary.specs.Formats.{trace_bytes}
 use Rattle.et_loop.specs.Run.{Breaks}
 use Rattle.et_loop.specs.Visits.{visits_to, IsCut, IsCutAfter}
 use Rattle.et_loop.proofs.Headers.{lines_whole}
-use Rattle.et_loop.proofs.RunLemmas.{Running, more_twice}
+use Rattle.et_loop.proofs.RunLemmas.{Running}
 
 module _ {S : Type 0} (reached : Graph → ℕ → Bool) (given : Setting S) (flush_visits : (ℕ → Bool) → S → ℕ) (start : S) (made : List Record) (before : Log) (old new : ℕ) where
   -- in a put, where these bytes were taken before it
@@ -19,7 +20,7 @@ module _ {S : Type 0} (reached : Graph → ℕ → Bool) (given : Setting S) (fl
     goes = goes;
     rest = h.takes.prefix;
     mid = h.mid;
-    taken = h.takes.taken ∙ (ap (λ (t : Log). with_more t h.takes.prefix) so_far ∙ more_twice before bytes h.takes.prefix);
+    taken = h.takes.taken ∙ (ap (λ (t : Log). with_more t h.takes.prefix) so_far ∙ with_more-with_more before bytes h.takes.prefix);
     left = h.rest;
     stops = h.stops;
     visits = few;

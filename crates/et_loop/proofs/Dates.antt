@@ -1,25 +1,16 @@
 -- The list of deaths, as a function of the times, is the list that the stamps show.
 use Rattle.std.proofs.Common.{◌≡◌, ℕ, zero, suc, ◌+◌, ◌<◌, ◌≤◌, ◌||◌, Bool, true, false, if◌then◌else◌, List, [], ◌∷◌, ◌++◌, map, get_or, length, Contains, refl, sym, ◌∙◌, ap, subst, inl, inr, arith}
 use Rattle.std.specs.List.Sorted.{IsStrictlyIncreasing}
-use Rattle.std.proofs.lemmas.Bool.{cases_lt, cases_eq, or_parts}
-use Rattle.std.proofs.lemmas.List.{map-append, length_push}
+use Rattle.std.proofs.lemmas.Bool.{cases_eq, or_parts}
+use Rattle.std.proofs.lemmas.List.{map-append}
 use Rattle.std.proofs.lemmas.Grind.{common_steps, get_or_default_zero}
 use Rattle.std.proofs.lemmas.List.Elements.{Contains-append_left, Contains-append_right, Contains-append_cases}
 use Rattle.et_graph.specs.Graph.{Graph, IsDead, AreDead, Decides}
-use Rattle.et_base.proofs.Lists.{Contains-none, Contains-here, Contains-cons, has_contains, contains_has}
+use Rattle.et_base.proofs.Lists.{Contains-none, Contains-here, Contains-cons, has_contains, contains_has, rising_push}
 use Rattle.et_graph.proofs.Walks.{is_reached, is_reached_decides}
 use Rattle.et_graph.proofs.Deaths.{map_first, first_map}
 use Rattle.et_state.specs.History.{deaths_to, is_gone}
 use Rattle.et_graph.specs.Listed.{AreListed, IsGreatest}
-
--- a list that rises, with a greater number at its end
-rising_push : (xs : List ℕ) (x : ℕ) → IsStrictlyIncreasing xs → ((k : ℕ) → k < length xs → get_or xs k 0 < x) → IsStrictlyIncreasing (xs ++ x ∷ [])
-rising_push xs x rise below k lt =
-    let len = length_push xs x in
-    elim (cases_lt (k + 1) (length xs)) [
-      | inl inside ↦ let r = rise k inside in grind (arith, common_steps)
-      | inr last ↦ let b = below k (omega arith) in grind (arith, common_steps)
-    ]
 
 -- one more, or not
 more_in : (b : Bool) (p q : ℕ × ℕ) → Contains (if b then [] else p ∷ []) q → (b ≡ false) × (p ≡ q)
@@ -95,7 +86,7 @@ not_true : (b : Bool) → (b ≡ true → ⊥) → b ≡ false
 not_true true h = absurd (h refl)
 not_true false h = refl
 
-true_false : (b : Bool) → b ≡ true → b ≡ false → ⊥
+pub true_false : (b : Bool) → b ≡ true → b ≡ false → ⊥
 true_false b e f = let h : true ≡ false = sym e ∙ f in cc
 
 module _ (reached : Graph → ℕ → Bool) (decides : Decides reached) (g : Graph) (time : ℕ → ℕ) where

@@ -1,8 +1,9 @@
 -- Lemmas on the lines of mentions.
-use Rattle.std.proofs.Common.{◌≡◌, ℕ, ◌+◌, ◌==◌, Bool, true, false, not, ◌||◌, if◌then◌else◌, cond, List, [], ◌∷◌, ◌++◌, Option, Some, None, length, refl, sym, ◌∙◌, ap, ◌⊎◌, inl, inr, arith, rules}
+use Rattle.std.proofs.Common.{◌≡◌, ℕ, ◌+◌, ◌==◌, Bool, true, false, not, ◌||◌, if◌then◌else◌, cond, List, [], ◌∷◌, ◌++◌, Option, None, length, refl, sym, ◌∙◌, ap, ◌⊎◌, inl, inr, arith, rules}
 use Rattle.std.specs.List.{list_any, position_or_len, prefix_len}
 use Rattle.std.proofs.lemmas.Bool.{false≢true, eqb-true, eq-eqb}
 use Rattle.std.proofs.lemmas.List.Folds.{list_any-append}
+use Rattle.et_base.proofs.Options.{none_by_test}
 use Rattle.et_base.specs.declared.line.TraceLine.TheVariants as line
 use Rattle.et_state.specs.declared.records.Record.{Record}
 use Rattle.et_state.specs.declared.records.Record.TheVariants.{Alloc, Update, Enter, Exit, Unwind}
@@ -50,15 +51,11 @@ new_method_line names classes seen m n class new e ec = rw (e, ec) (due (list_an
 pub new_number : (seen : List ℕ) (x : ℕ) → list_any (λ y. x == y) seen ≡ false → length seen + 1 ≡ number_in (with_new seen x) x
 new_number seen x h = ap (λ n. n + 1) (sym (place_none (λ y. x == y) seen h)) ∙ sym (number_now seen x)
 
-untold_case : (a : Bool) (k : ℕ) → (if a then Some k else None) ≡ None → a ≡ false
-untold_case true k h = absurd cc
-untold_case false k h = refl
-
 -- what has no number is new
 pub untold_new : (seen from : List ℕ) (x id : ℕ) (told : Option ℕ) → told ≡ number_if_in from id → told ≡ None → from ≡ seen → id ≡ x → list_any (λ y. x == y) seen ≡ false
 untold_new seen from x id told is none es ex =
     let h : number_if_in seen x ≡ None = sym (is ∙ (ap (λ k. number_if_in k id) es ∙ ap (λ k. number_if_in seen k) ex)) ∙ none in
-    untold_case (list_any (λ y. x == y) seen) (number_in seen x) h
+    none_by_test (list_any (λ y. x == y) seen) (number_in seen x) h
 
 added_case : (a : Bool) (seen more : List ℕ) → a ≡ false → more ≡ (if a then seen else more)
 added_case true seen more h = absurd (false≢true (sym h))

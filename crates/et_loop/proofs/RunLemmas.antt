@@ -1,5 +1,5 @@
 -- The whole run: what holds between two turns, and what is put.
-use Rattle.std.proofs.Common.{◌≡◌, ℕ, zero, suc, ◌<◌, ◌≤◌, Bool, true, false, List, [], ◌∷◌, ◌++◌, Option, Some, None, IfNone, refl, sym, ◌∙◌, ap, subst, arith, ◌⊎◌, inl, inr, ⊎_elim, if◌then◌else◌, append_assoc, append-nil, rules, unwrap_or, Result, Ok, Err, OnErr}
+use Rattle.std.proofs.Common.{◌≡◌, ℕ, zero, suc, ◌<◌, ◌≤◌, Bool, true, false, List, [], ◌∷◌, ◌++◌, Option, Some, None, IfNone, refl, sym, ◌∙◌, ap, subst, arith, ◌⊎◌, inl, inr, ⊎_elim, if◌then◌else◌, append_assoc, append-nil, rules, unwrap_or}
 use mathlib.Core.Path.{fun_ext}
 use Rattle.std.proofs.lemmas.Bool.{cases_lt}
 use Rattle.std.proofs.lemmas.Grind.{flat_map-append}
@@ -24,9 +24,6 @@ use Rattle.et_loop.proofs.Headers.{trace_whole}
 
 pub more_nothing : (taken : Log) → taken ≡ with_more taken []
 more_nothing taken = sym (with_more-nil taken)
-
-pub more_twice : (taken : Log) (a b : List ℕ) → with_more (with_more taken a) b ≡ with_more taken (a ++ b)
-more_twice taken a b = with_more-with_more taken a b
 
 -- a prefix of what comes next, behind what was taken, is a prefix of the whole
 pub front_on : (taken mid new : Log) (a p w r : List ℕ) → mid ≡ with_more taken a → w ≡ (a ++ p) ++ r → TakesPrefix mid new p → TakesPrefix taken new w
@@ -196,7 +193,7 @@ module _ {S : Type 0} (reached : Graph → ℕ → Bool) (given : Setting S) (st
         first = first_next;
         noted = λ o. a.notes o ∙ (ap (λ x. time_noted (reached (given.rule.graph x)) last e o) r.state ∙ (ap (λ f. time_noted (reached (given.rule.graph (left_by reached given start made e))) f e o) (fun_ext r.noted) ∙ noted_is o e));
         mentions = a.mentions ∙ (ap (λ x. mentions_after given.names x (records_of (outcome_step given (suc e) (settled reached given e s)))) r.mentions ∙ ap (λ x. mentions_after given.names (mentions_to reached given start made e) (records_of (outcome_step given (suc e) (settled reached given e x)))) r.state);
-        lines = en ∙ (ap (λ t. with_more t out') r.lines ∙ (more_twice before (lines_written_in given.format (lines_to reached given start made e)) out' ∙ (ap (λ o. with_more before (lines_written_in given.format (lines_to reached given start made e) ++ o)) put_is ∙ ap (λ o. with_more before o) (sym lines_are))));
+        lines = en ∙ (ap (λ t. with_more t out') r.lines ∙ (with_more-with_more before (lines_written_in given.format (lines_to reached given start made e)) out' ∙ (ap (λ o. with_more before (lines_written_in given.format (lines_to reached given start made e) ++ o)) put_is ∙ ap (λ o. with_more before o) (sym lines_are))));
       }
 
       pub running_on : (n : ℕ) (now' : Log) → n ≡ suc e → now' ≡ with_more now out' → Running n s' last' m' before now'
@@ -230,7 +227,7 @@ module _ {S : Type 0} (reached : Graph → ℕ → Bool) (given : Setting S) (st
       pub running_end : (now' : Log) → now' ≡ with_more now out' → WritesTrace reached given start made (record { end = end; event = e }) before now'
       running_end now' en = record {
         ends = is_last;
-        taken = en ∙ (ap (λ t. with_more t out') r.lines ∙ (more_twice before (lines_written_in given.format (lines_to reached given start made e)) out' ∙ ap (λ o. with_more before o) (sym trace_is)));
+        taken = en ∙ (ap (λ t. with_more t out') r.lines ∙ (with_more-with_more before (lines_written_in given.format (lines_to reached given start made e)) out' ∙ ap (λ o. with_more before o) (sym trace_is)));
       }
 
       -- only a prefix of its lines was put
@@ -271,11 +268,6 @@ module _ {S : Type 0} (reached : Graph → ℕ → Bool) (given : Setting S) (st
 
     pub turn_end : (next : Option End) (end : End) (s' : S) (last' : ℕ → ℕ) (m' : Mentions) (out out' : List ℕ) → out ≡ [] → next ≡ Some end → Turns reached given e s last m s' last' m' out out' next → (now' : Log) → now' ≡ with_more now out' → WritesTrace reached given start made (record { end = end; event = e }) before now'
     turn_end next end s' last' m' out out' empty is a now' en = running_end s' last' m' end out out' empty (subst (λ o. Turns reached given e s last m s' last' m' out out' o) is a) now' en
-
--- what holds in any case holds where there is an error
-pub on_any : {T E : Type 0} {X : Type 0} (r : Result T E) → X → OnErr r X
-on_any (Ok v) x = tt
-on_any (Err v) x = x
 
 -- what holds where there is no end holds where there is none
 pub at_none : {X : Type 0} (end : Option End) → end ≡ None → IfNone end X → X

@@ -13,7 +13,7 @@ kept_at p x y ys true h e rest = rw h refl
 kept_at p x y ys false h e rest = rw h (ap (λ n. 1 + n) (rest e))
 
 -- the place of one that is there stays where a number is put at the end
-place_kept : (p : ℕ → Bool) (x : ℕ) (seen : List ℕ) → list_any p seen ≡ true → position_or_len p (seen ++ x ∷ []) ≡ position_or_len p seen
+pub place_kept : (p : ℕ → Bool) (x : ℕ) (seen : List ℕ) → list_any p seen ≡ true → position_or_len p (seen ++ x ∷ []) ≡ position_or_len p seen
 place_kept p x [] e = absurd (false≢true e)
 place_kept p x (y ∷ ys) e = kept_at p x y ys (p y) refl e (place_kept p x ys)
 

@@ -4,14 +4,14 @@ use Rattle.std.proofs.lemmas.Bool.{cases_lt}
 use Rattle.et_base.specs.declared.value.End.{End}
 use Rattle.et_graph.specs.Graph.{Graph}
 use Rattle.et_io.specs.Sink.{Log, with_more, TakesPrefix}
-use Rattle.et_io.proofs.Taking.{nothing_taken}
+use Rattle.et_io.proofs.Taking.{nothing_taken, with_more-with_more}
 use Rattle.et_state.specs.declared.records.Record.{Record}
 use Rattle.et_state.specs.History.{Setting, ending, settled, left_by, picked_turn}
 use Rattle.et_loop.specs.Quiet.{GoesQuietly}
 use Rattle.et_loop.specs.Said.{said_at, said_to, SaysPrefix, SaysTurn, IsCutSaid}
 use Rattle.et_loop.specs.Visits.{visits_to}
 use Rattle.et_loop.proofs.Cuts.{cut_in_put}
-use Rattle.et_loop.proofs.RunLemmas.{more_nothing, more_twice, front_on, front_so_far, up_to_last}
+use Rattle.et_loop.proofs.RunLemmas.{more_nothing, front_on, front_so_far, up_to_last}
 
 module _ {S : Type 0} (reached : Graph → ℕ → Bool) (given : Setting S) (said : S → ℕ → List ℕ) (start : S) (made : List Record) where
   abbrev ends_at : ℕ → Option End
@@ -86,7 +86,7 @@ module _ {S : Type 0} (reached : Graph → ℕ → Bool) (given : Setting S) (sa
       pub talking_on : (next : Option End) → next ≡ None → SaysTurn reached given said e s bytes next → (n : ℕ) (now' : Log) → n ≡ suc e → now' ≡ with_more now bytes → Talking n before now'
       unfolding said_to
       talking_on next is says n now' at en = subst (λ j. Talking j before now') (sym at) (record {
-        taken = en ∙ (ap (λ t. with_more t bytes) h.taken ∙ (more_twice before (said_to reached given said start made e) bytes ∙ ap (λ o. with_more before (said_to reached given said start made e ++ o)) (turn_says (subst (λ x. SaysTurn reached given said e s bytes x) is says))));
+        taken = en ∙ (ap (λ t. with_more t bytes) h.taken ∙ (with_more-with_more before (said_to reached given said start made e) bytes ∙ ap (λ o. with_more before (said_to reached given said start made e ++ o)) (turn_says (subst (λ x. SaysTurn reached given said e s bytes x) is says))));
       })
 
       -- the history ended: nothing is printed

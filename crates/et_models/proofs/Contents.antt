@@ -1,16 +1,14 @@
 -- What stands in slots.
-use Rattle.std.proofs.Common.{◌≡◌, ◌≢◌, ℕ, zero, suc, ◌<◌, length, get_or, arith, Bool, true, false, cond, ◌&&◌, eqb, List, [], ◌∷◌, refl, sym, ap, subst, ◌∙◌, inl, inr, ◌⊎◌}
+use Rattle.std.proofs.Common.{◌≡◌, ◌≢◌, ℕ, zero, suc, ◌<◌, length, get_or, arith, Bool, true, false, cond, ◌&&◌, eqb, List, [], ◌∷◌, refl, sym, ap, subst, ◌∙◌, inl, inr}
 use Rattle.std.specs.Prelude.{Contains}
 use Rattle.std.specs.List.{filter_map}
+use Rattle.std.proofs.lemmas.Bool.{cases_Bool}
 use Rattle.et_base.proofs.Lists.{Contains-none, Contains-here, Contains-there, Contains-cons}
+use Rattle.et_base.proofs.Tests.{cases_eqb}
 use Rattle.et_replay.specs.declared.item.Item.{Item}
 use Rattle.et_replay.specs.declared.item.Item.TheVariants.{Alloc, Write, Death}
 use Rattle.et_replay.specs.Heap.{is_made, content, slot_written_by}
-use Rattle.et_replay.proofs.Coming.{cases_eqb, made_stays}
-
-pub cases_bool : (b : Bool) → (b ≡ true) ⊎ (b ≡ false)
-cases_bool true = inl refl
-cases_bool false = inr refl
+use Rattle.et_replay.proofs.Coming.{made_stays}
 
 both_true : (a b c : Bool) → (a && b && c) ≡ true → (a ≡ true) × (b ≡ true) × (c ≡ true)
 both_true true true true e = (refl, refl, refl)
@@ -23,7 +21,7 @@ pub content_made : (past : List Item) (o s : ℕ) → content past o s ≢ 0 →
 content_made [] o s ne = absurd (ne refl)
 content_made (Alloc event object size ∷ past) o s ne = made_stays past (Alloc event object size) o (content_made past o s ne)
 content_made (Death object time ∷ past) o s ne = content_made past o s ne
-content_made (Write event other at new ∷ past) o s ne = elim (cases_bool (eqb other o && eqb at s && is_made past o)) [
+content_made (Write event other at new ∷ past) o s ne = elim (cases_Bool (eqb other o && eqb at s && is_made past o)) [
   | inl e ↦ (both_true (eqb other o) (eqb at s) (is_made past o) e).2
   | inr e ↦ content_made past o s (λ z. ne (ap (λ (b : Bool). cond b new (content past o s)) e ∙ z))
 ]
@@ -33,7 +31,7 @@ pub slots_have : (whole past : List Item) (o s : ℕ) → content past o s ≢ 0
 slots_have whole [] o s ne = absurd (ne refl)
 slots_have whole (Alloc event object size ∷ past) o s ne = slots_have whole past o s ne
 slots_have whole (Death object time ∷ past) o s ne = slots_have whole past o s ne
-slots_have whole (Write event other at new ∷ past) o s ne = elim (cases_bool (eqb other o && eqb at s && is_made past o)) [
+slots_have whole (Write event other at new ∷ past) o s ne = elim (cases_Bool (eqb other o && eqb at s && is_made past o)) [
   | inl e ↦
       let t = both_true (eqb other o) (eqb at s) (is_made past o) e in
       let a : other ≡ o = elim (cases_eqb other o) [ inl x ↦ x.1 | inr x ↦ (let y = x.0 in let z = t.0 in cc) ] in

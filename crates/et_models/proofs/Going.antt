@@ -4,15 +4,15 @@ use Rattle.std.specs.Prelude.{Contains}
 use Rattle.std.specs.BTreeMap.{BTreeMap}
 use Rattle.std.proofs.lemmas.List.{get_or_default}
 use Rattle.et_graph.specs.Graph.{Graph, IsReached}
-use Rattle.et_base.proofs.Lists.{Contains-none, filter_kept, filter_keeps}
+use Rattle.et_base.proofs.Lists.{Contains-none, filter_kept, filter_keeps, in_longer}
+use Rattle.et_base.proofs.Tests.{cases_eqb}
 use Rattle.et_graph.proofs.Walks.{leads_itself, leads_first, reached_on, reached_all}
 use Rattle.et_models.specs.declared.places.Place.{Place}
 use Rattle.et_models.specs.declared.places.Place.TheVariants.{Nursery, Kept}
 use Rattle.et_models.specs.Places.{place_at, is_old}
 use Rattle.et_models.proofs.Spots.{old_nursery, old_is, cases_nursery}
 use Rattle.et_models.specs.Marking.{Refers, MarksFrom, AllMarked, NamesInSlot, Stays, Draws, IsMarking, IsSeed, BeginsMarking, IsFound}
-use Rattle.et_replay.proofs.Coming.{cases_eqb}
-use Rattle.et_models.proofs.Marking.{in_front, at_end, in_longer, not_back}
+use Rattle.et_models.proofs.Marking.{in_front, at_end, not_back}
 
 kept_nursery : {A : Type 0} (p : Place) → p ≡ Kept → p ≡ Nursery → A
 kept_nursery p a b = absurd cc

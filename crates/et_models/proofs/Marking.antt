@@ -4,13 +4,13 @@ use Rattle.std.specs.Prelude.{Contains}
 use Rattle.std.proofs.Math.ListN.{length-set}
 use Rattle.std.proofs.lemmas.List.{get_or_past, get_or_default}
 use Rattle.std.proofs.lemmas.List.Sums.{sum_by-set}
-use Rattle.et_base.proofs.Lists.{Contains-none, Contains-here, Contains-there, Contains-cons}
+use Rattle.et_base.proofs.Lists.{Contains-none, Contains-here, Contains-there, Contains-cons, in_longer}
+use Rattle.et_base.proofs.Tests.{cases_eqb}
 use Rattle.et_models.specs.declared.places.Place.{Place}
 use Rattle.et_models.specs.declared.places.Place.TheVariants.{Nowhere, Nursery, Kept, Old}
 use Rattle.et_models.specs.Tables.{flag_at}
 use Rattle.et_models.specs.Places.{place_at, with_place, is_nursery}
 use Rattle.et_models.specs.Marking.{young, IsMarkedFrom, MarksFrom, AllMarked, IsSeed}
-use Rattle.et_replay.proofs.Coming.{cases_eqb}
 
 pub marks_none : (E : ℕ → Type 0) (places : List Place) (work : List ℕ) → MarksFrom E places work places work
 marks_none E places work = record { as_long = refl; each = λ o. inl refl; grows = λ o h. h; only = λ o h. inl h; spent = refl }
@@ -33,13 +33,6 @@ in_front (y ∷ xs) x o h = elim (Contains-cons y xs o h) [
 pub at_end : (xs : List ℕ) (x : ℕ) → Contains (xs ++ x ∷ []) x
 at_end [] x = Contains-here x []
 at_end (y ∷ xs) x = Contains-there y (xs ++ x ∷ []) x (at_end xs x)
-
-pub in_longer : (xs : List ℕ) (x o : ℕ) → Contains (xs ++ x ∷ []) o → Contains xs o ⊎ (o ≡ x)
-in_longer [] x o h = elim (Contains-cons x [] o h) [ inl e ↦ inr (sym e) | inr t ↦ absurd (Contains-none o t) ]
-in_longer (y ∷ xs) x o h = elim (Contains-cons y (xs ++ x ∷ []) o h) [
-  | inl e ↦ inl (subst (λ (k : ℕ). Contains (y ∷ xs) k) e (Contains-here y xs))
-  | inr t ↦ elim (in_longer xs x o t) [ inl f ↦ inl (Contains-there y xs o f) | inr e ↦ inr e ]
-]
 
 -- one object is marked
 within : (places : List Place) (o : ℕ) → place_at places o ≡ Nursery → o < length places

@@ -7,24 +7,22 @@ use Rattle.std.specs.Ordering.{nat_cmp}
 use Rattle.std.proofs.lemmas.List.Elements.{Contains-append_left, Contains-append_right, Contains-append_cases}
 use Rattle.indexmap.specs.IndexSet.{insert_key}
 use Rattle.indexmap.proofs.CallerLemmas.{Contains-insert_key}
-use Rattle.std.proofs.lemmas.Bool.{eqb-true}
+use Rattle.std.proofs.lemmas.Bool.{eqb-true, cases_Bool}
+use Rattle.et_base.proofs.Tests.{cases_eqb}
 use Rattle.et_replay.specs.declared.item.Item.{Item}
 use Rattle.et_replay.specs.Heap.{is_made, content}
 use Rattle.et_models.specs.declared.places.Place.TheVariants.{Nursery, Old}
 use Rattle.et_models.specs.Places.{place_at, is_nursery, is_old}
 use Rattle.et_models.specs.Marking.{NamesInSlot}
 use Rattle.et_models.specs.Generations.{Both, KnowsSlots, WritesSlot, reference_noted}
-use Rattle.et_replay.proofs.Coming.{cases_eqb, made_stays}
-use Rattle.et_models.proofs.Contents.{cases_bool, content_made, element}
+use Rattle.et_replay.proofs.Coming.{made_stays, not_both}
+use Rattle.et_models.proofs.Contents.{content_made, element}
 use Rattle.et_models.proofs.Marking.{in_front}
-
-both_ways : {A : Type 0} (b : Bool) → b ≡ true → b ≡ false → A
-both_ways b x y = absurd cc
 
 -- what isn't made now wasn't made before
 pub unmade_before : (past : List Item) (item : Item) (o : ℕ) → is_made (item ∷ past) o ≡ false → is_made past o ≡ false
-unmade_before past item o e = elim (cases_bool (is_made past o)) [
-  | inl m ↦ both_ways (is_made (item ∷ past) o) (made_stays past item o m) e
+unmade_before past item o e = elim (cases_Bool (is_made past o)) [
+  | inl m ↦ not_both (is_made (item ∷ past) o) (made_stays past item o m) e
   | inr n ↦ n
 ]
 

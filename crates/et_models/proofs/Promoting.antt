@@ -1,13 +1,16 @@
 -- What a minor collection promotes.
-use Rattle.std.proofs.Common.{◌≡◌, ◌≢◌, ℕ, zero, suc, ◌<◌, ◌≤◌, Bool, true, false, not, eqb, List, [], ◌∷◌, ◌++◌, length, get_or, filter, Option, Some, None, refl, sym, ap, subst, ◌∙◌, arith, inl, inr}
+use Rattle.std.proofs.Common.{◌≡◌, ◌≢◌, ℕ, zero, suc, ◌<◌, ◌≤◌, Bool, true, not, eqb, List, [], ◌∷◌, ◌++◌, length, get_or, filter, Option, refl, sym, ap, subst, ◌∙◌, arith, inl, inr}
 use Rattle.std.specs.Prelude.{Contains, unwrap_or}
 use Rattle.std.specs.List.{All, list_any, filter_map, sum_by}
 use Rattle.std.specs.BTreeMap.{BTreeMap, get}
 use Rattle.std.specs.Ordering.{nat_cmp}
 use Rattle.std.proofs.lemmas.List.Elements.{Contains-append_left, Contains-append_right, Contains-append_cases}
 use Rattle.std.proofs.lemmas.List.Filters.{sum_by-filter_both}
+use Rattle.std.proofs.lemmas.Bool.{not-true}
 use Rattle.et_graph.specs.Graph.{Graph, Decides}
 use Rattle.et_base.proofs.Lists.{filter_kept, filter_keeps, has_contains, contains_has}
+use Rattle.et_base.proofs.Options.{some_number}
+use Rattle.et_base.proofs.Tests.{bool_same}
 use Rattle.et_graph.proofs.Walks.{root_reached}
 use Rattle.et_replay.proofs.ByKey.{filter_same}
 use Rattle.et_replay.specs.declared.item.Item.{Item}
@@ -39,19 +42,6 @@ kept_le s s' nursery other none kept kept' t a b c d e =
 pub of_all : (P : ℕ → Type 0) (xs : List ℕ) (o : ℕ) → All P xs → Contains xs o → P o
 of_all P xs o all c = subst P c.2 (all c.0 o c.1)
 
-some_is : (v : Option ℕ) (t : ℕ) → unwrap_or v 0 ≡ t → t ≢ 0 → v ≡ Some t
-some_is None t e ne = absurd (ne (sym e))
-some_is (Some x) t e ne = ap (λ (k : ℕ). Some k) e
-
-bool_same : (a b : Bool) → (a ≡ true → b ≡ true) → (b ≡ true → a ≡ true) → a ≡ b
-bool_same true b f g = sym (f refl)
-bool_same false true f g = g refl
-bool_same false false f g = refl
-
-not_true : (b : Bool) → not b ≡ true → b ≡ false
-not_true true e = absurd cc
-not_true false e = refl
-
 -- the slots of the tables are those that the items tell of
 names_pairs : (slots : List (BTreeMap ℕ ℕ)) (n : ℕ) (past : List Item) (u t : ℕ) → KnowsSlots slots n past → NamesInSlot slots u t → t ≢ 0 → Contains (filter_map (slot_written_by past) past) (u, t)
 names_pairs slots n past u t k m ne =
@@ -68,7 +58,7 @@ pairs_names slots n past u t f k h ne =
     let lt : u < length slots = omega (arith, le, long) in
     let e = element slots u lt in
     let is = k.content_is u r.0 e.0 lt e.1 ∙ r.1 in
-    record { own = e.0; within = lt; stands = e.1; refers = (r.0, some_is (get nat_cmp e.0 r.0) t is ne) }
+    record { own = e.0; within = lt; stands = e.1; refers = (r.0, some_number (get nat_cmp e.0 r.0) t is ne) }
 
 -- a minor collection may search
 pub begins : (reached : Graph → ℕ → Bool) (v : Both) (n : ℕ) (past : List Item) (a b : ℕ) → IsReadyToCollect v n past a b → BeginsMarking (nursery_graph reached past v.heap) v.heap.nursery v.heap.space (v.remembered ++ v.early) v.dead v.slots v.places
@@ -88,7 +78,7 @@ begins reached v n past a b r =
       named = λ u t c. (let k = filter_kept test (slots past) (u, t) c in let y = has_contains h.nursery t k.1 in (pairs_names v.slots n past u t r.fed r.slots k.0 (some t y), r.places.young t y));
       young = r.places.young;
       roots = λ o c. elim (Contains-append_cases (live_of past h.nursery) h.space o c) [
-        | inl x ↦ (let u = filter_kept (λ p. not (flag_at v.dead p)) h.nursery o (subst (λ (l : List ℕ). Contains l o) (sym live) x) in inl (record { among = u.0; lives = not_true (flag_at v.dead o) u.1 }))
+        | inl x ↦ (let u = filter_kept (λ p. not (flag_at v.dead p)) h.nursery o (subst (λ (l : List ℕ). Contains l o) (sym live) x) in inl (record { among = u.0; lives = not-true (flag_at v.dead o) u.1 }))
         | inr y ↦ inr y
       ];
       seeds = λ o s. root_reached g o (Contains-append_left (live_of past h.nursery) h.space o (subst (λ (l : List ℕ). Contains l o) live (filter_keeps (λ p. not (flag_at v.dead p)) h.nursery o s.among (ap not s.lives))));

@@ -9,8 +9,10 @@ use Rattle.std.proofs.lemmas.List.{get_or_past}
 use Rattle.std.proofs.lemmas.List.Elements.{All-filter, All-append, All-push, Contains-append_left, Contains-append_right, Contains-append_cases}
 use Rattle.std.proofs.lemmas.List.Filters.{sum_by-filter_both}
 use Rattle.std.proofs.lemmas.List.Sums.{sum_by-append, sum_by-cons, sum_by_push}
+use Rattle.std.proofs.lemmas.Bool.{cases_Bool}
 use Rattle.et_graph.specs.Graph.{Graph, Decides}
-use Rattle.et_base.proofs.Lists.{Contains-none, filter_kept, filter_keeps}
+use Rattle.et_base.proofs.Lists.{Contains-none, filter_kept, filter_keeps, in_longer}
+use Rattle.et_base.proofs.Tests.{cases_eqb}
 use Rattle.et_graph.proofs.Walks.{is_reached}
 use Rattle.et_replay.specs.declared.item.Item.{Item}
 use Rattle.et_replay.specs.declared.item.Item.TheVariants.{Alloc, Write, Death}
@@ -25,10 +27,10 @@ use Rattle.et_models.specs.Places.{place_at, with_place, is_kept, place_settled,
 use Rattle.et_models.specs.Marking.{BeginsMarking, IsFound}
 use Rattle.et_models.specs.Spaces.{unflagged}
 use Rattle.et_models.specs.Generations.{Both, KnowsSlots, KnowsPlaces, AreNoted, HoldsMade, IsReadyToCollect, WritesSlot, swept, promoted, placed_young, placed_old, left_out, reference_noted}
-use Rattle.et_replay.proofs.Coming.{AreMade, are_made_on, apart, bytes_stay, size_here, all_low, cases_eqb, in_range}
-use Rattle.et_models.proofs.Marking.{at_end, in_front, in_longer}
+use Rattle.et_replay.proofs.Coming.{AreMade, are_made_on, apart, bytes_stay, size_here, all_low, in_range}
+use Rattle.et_models.proofs.Marking.{at_end, in_front}
 use Rattle.et_models.proofs.Totals.{sum_is, unflagged_is, knows_more, knows_death}
-use Rattle.et_models.proofs.Contents.{cases_bool, element}
+use Rattle.et_models.proofs.Contents.{element}
 use Rattle.et_models.proofs.Spots.{nowhere_nursery, old_nursery, kept_is, set_here, set_there, without_long, without_each, without_out}
 use Rattle.et_models.proofs.Noted.{unmade_before, names_made, noted_is, noted_keeps, noted_early, noted_young, in_either, names_before}
 use Rattle.et_models.proofs.Promoting.{filter_le, of_all, begins, survive}
@@ -58,7 +60,7 @@ swept_places v n k =
           | inl z ↦ inl (e ∙ z)
           | inr x ↦ elim x [
             | inl c ↦ inr (inl c)
-            | inr c ↦ elim (cases_bool (flag_at v.dead o)) [
+            | inr c ↦ elim (cases_Bool (flag_at v.dead o)) [
               | inl d ↦ inl (without_out v.dead space v.places o c d)
               | inr d ↦ inr (inr (filter_keeps test space o c (ap not d)))
             ]

@@ -1,16 +1,16 @@
 -- Where objects are, after a collection.
-use Rattle.std.proofs.Common.{◌≡◌, ◌≢◌, ℕ, ◌<◌, ◌≤◌, Bool, true, false, cond, List, [], ◌∷◌, ◌++◌, length, refl, sym, ap, subst, ◌∙◌, arith, inl, inr, ◌⊎◌, get_or-set_same, get_or-set_other}
+use Rattle.std.proofs.Common.{◌≡◌, ◌≢◌, ℕ, ◌<◌, Bool, true, false, cond, List, [], ◌∷◌, ◌++◌, length, refl, sym, ap, subst, ◌∙◌, arith, inl, inr, ◌⊎◌, get_or-set_same, get_or-set_other}
 use Rattle.std.specs.Prelude.{Contains}
 use Rattle.std.proofs.Math.ListN.{length-set}
 use Rattle.std.proofs.lemmas.List.{get_or_past}
-use Rattle.et_base.proofs.Lists.{Contains-none, Contains-here, Contains-there, Contains-cons}
+use Rattle.std.proofs.lemmas.Bool.{cases_Bool, cases_lt}
+use Rattle.et_base.proofs.Lists.{Contains-none, Contains-here, Contains-there, Contains-cons, in_longer}
+use Rattle.et_base.proofs.Tests.{cases_eqb}
 use Rattle.et_models.specs.declared.places.Place.{Place}
 use Rattle.et_models.specs.declared.places.Place.TheVariants.{Nowhere, Nursery, Kept, Old}
 use Rattle.et_models.specs.Tables.{flag_at}
 use Rattle.et_models.specs.Places.{place_at, with_place, is_kept, is_old, place_settled, without_one, without_dead, AreCollected}
-use Rattle.et_replay.proofs.Coming.{cases_eqb}
-use Rattle.et_models.proofs.Contents.{cases_bool}
-use Rattle.et_models.proofs.Marking.{in_longer, at_end}
+use Rattle.et_models.proofs.Marking.{at_end}
 
 -- AN OBJECT IS AT ONE PLACE
 
@@ -52,9 +52,6 @@ cases_nursery Old = inr (λ e. old_nursery Old refl e)
 
 -- ONE PLACE IS SET
 
-less : (a b : ℕ) → (a < b) ⊎ (b ≤ a)
-less a b = grind arith
-
 pub set_here : (places : List Place) (o : ℕ) (p : Place) → o < length places → place_at (with_place places o p) o ≡ p
 set_here places o p lt = rw get_or-set_same refl
 
@@ -62,7 +59,7 @@ pub set_there : (places : List Place) (object : ℕ) (p : Place) (o : ℕ) → o
 set_there places object p o ne = rw get_or-set_other refl
 
 pub set_nowhere : (places : List Place) (o : ℕ) → place_at (with_place places o Nowhere) o ≡ Nowhere
-set_nowhere places o = elim (less o (length places)) [
+set_nowhere places o = elim (cases_lt o (length places)) [
   | inl lt ↦ set_here places o Nowhere lt
   | inr ge ↦ (let long = length-set places o Nowhere in get_or_past (with_place places o Nowhere) o Nowhere (omega (arith, ge, long)))
 ]
@@ -77,7 +74,7 @@ settled_twice Old = refl
 
 -- a place that is set is the one that is set, or there is none
 settled_set : (places : List Place) (o : ℕ) → place_at (with_place places o (place_settled (place_at places o))) o ≡ place_settled (place_at places o)
-settled_set places o = elim (less o (length places)) [
+settled_set places o = elim (cases_lt o (length places)) [
   | inl lt ↦ set_here places o (place_settled (place_at places o)) lt
   | inr ge ↦
       let long = length-set places o (place_settled (place_at places o)) in
@@ -114,7 +111,7 @@ settle_more objects x start places s = record {
 -- THE DEAD ARE TAKEN OUT
 
 one_each : (dead : List Bool) (places : List Place) (x o : ℕ) → (place_at (without_one dead places x) o ≡ place_at places o) ⊎ ((x ≡ o) × (flag_at dead o ≡ true) × (place_at (without_one dead places x) o ≡ Nowhere))
-one_each dead places x o = elim (cases_bool (flag_at dead x)) [
+one_each dead places x o = elim (cases_Bool (flag_at dead x)) [
   | inl d ↦ elim (cases_eqb o x) [
     | inl e ↦ inr (sym e.1, ap (λ (k : ℕ). flag_at dead k) e.1 ∙ d, ap (λ (b : Bool). place_at (cond b (with_place places x Nowhere) places) o) d ∙ subst (λ (k : ℕ). place_at (with_place places x Nowhere) k ≡ Nowhere) (sym e.1) (set_nowhere places x))
     | inr e ↦ inl (ap (λ (b : Bool). place_at (cond b (with_place places x Nowhere) places) o) d ∙ set_there places x Nowhere o e.1)

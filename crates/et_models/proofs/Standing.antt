@@ -1,11 +1,11 @@
 -- Two spaces account for all items as their policy does.
-use Rattle.std.proofs.Common.{◌≡◌, ℕ, ◌+◌, ◌<◌, ◌≤◌, Bool, true, false, cond, List, [], ◌∷◌, length, get_or, replicate, Option, None, Some, refl, sym, ap, subst, ◌∙◌, arith, inl, inr, ◌⊎◌}
+use Rattle.std.proofs.Common.{◌≡◌, ℕ, ◌+◌, ◌≤◌, Bool, true, false, cond, List, [], ◌∷◌, length, get_or, Option, None, Some, refl, sym, ap, subst, ◌∙◌, arith, inl}
 use Rattle.std.specs.Prelude.{is_some, unwrap_or}
 use Rattle.std.specs.BTreeMap.{BTreeMap, get}
 use Rattle.std.specs.Ordering.{nat_cmp}
-use Rattle.std.proofs.lemmas.List.{get_or_past, get_or-replicate, length-replicate}
+use Rattle.std.proofs.lemmas.List.{length-replicate}
 use Rattle.et_graph.specs.Graph.{Graph, Decides}
-use Rattle.et_base.proofs.Lists.{Contains-none}
+use Rattle.et_base.proofs.Lists.{Contains-none, all_same}
 use Rattle.et_replay.specs.declared.item.Item.{Item}
 use Rattle.et_replay.specs.declared.item.Item.TheVariants.{Alloc, Write, Death}
 use Rattle.et_replay.specs.declared.model.Kind.{Kind}
@@ -19,12 +19,6 @@ use Rattle.et_models.specs.declared.places.Place.TheVariants.{Nowhere}
 use Rattle.et_models.specs.Generations.{Both, Opens, KnowsPlaces, IsReadyToCollect, StepsBoth, StandsAs, account_of}
 
 -- AT FIRST
-
-all_same : {A : Type 0} (n o : ℕ) (x : A) → get_or (replicate n x) o x ≡ x
-all_same {A} n o x = elim (less o n) [ inl lt ↦ get_or-replicate n o x x lt | inr ge ↦ get_or_past (replicate n x) o x (let long : length (replicate n x) ≡ n = length-replicate n x in omega (arith, long, ge)) ]
-  where
-    less : (a b : ℕ) → (a < b) ⊎ (b ≤ a)
-    less a b = grind arith
 
 none_in : (m : BTreeMap ℕ ℕ) (s : ℕ) → m.entries ≡ [] → unwrap_or (get nat_cmp m s) 0 ≡ 0
 none_in m s e = rw e refl

@@ -1,6 +1,6 @@
 -- How two spaces take an item.
 use Rattle.std.proofs.Common.{◌≡◌, ℕ, ◌+◌, ◌*◌, ◌^◌, ◌<◌, ◌≤◌, Bool, true, cond, nat_lt, List, ◌∷◌, length, get_or, Option, Some, None, refl, sym, ap, subst, ◌∙◌, arith, inl, inr, ◌⊎◌}
-use Rattle.std.specs.Prelude.{is_some, Result, Ok, Err, OnOk}
+use Rattle.std.specs.Prelude.{is_some}
 use Rattle.std.specs.List.{sum_by}
 use Rattle.std.specs.BTreeMap.{BTreeMap}
 use Rattle.std.proofs.lemmas.Bool.{cond-false, cond-true, le-leb, le-ltb, lt-leb, lt-ltb}
@@ -17,10 +17,6 @@ use Rattle.et_models.proofs.Noted.{noted_is}
 use Rattle.et_replay.proofs.Coming.{all_low, few_made}
 use Rattle.et_models.proofs.Totals.{sum_is}
 use Rattle.et_models.proofs.Ready.{swept_ready, promoted_ready, promoted_is, young_ready, old_ready, left_ready, ready_more, wrote_ready}
-
-pub on_ok : {A E : Type 0} (P Q : Type 0) (r : Result A E) → (P → Q) → OnOk r P → OnOk r Q
-on_ok P Q (Ok x) f p = f p
-on_ok P Q (Err e) f p = tt
 
 -- WHAT FITS
 

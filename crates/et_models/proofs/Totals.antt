@@ -7,6 +7,7 @@ use Rattle.std.proofs.lemmas.List.Filters.{sum_by-filter_both, length-filter_bot
 use Rattle.std.proofs.lemmas.Bool.Decides.{nat_tests}
 use Rattle.std.proofs.lemmas.List.Elements.{All-filter}
 use Rattle.std.proofs.lemmas.List.Sums.{sum_by_push}
+use Rattle.et_base.proofs.Tests.{cases_eqb}
 use Rattle.et_replay.specs.declared.item.Item.{Item}
 use Rattle.et_replay.specs.declared.item.Item.TheVariants.{Alloc, Write, Death}
 use Rattle.et_replay.specs.Feeding.{MayCome, IsNewObject}
@@ -22,7 +23,7 @@ use Rattle.et_replay.specs.Fed.{AreFed}
 use Rattle.et_models.specs.Tables.{size_at, flag_at, with_size, with_flag, Knows}
 use Rattle.et_replay.specs.declared.model.Policy.{Policy}
 use Rattle.et_models.specs.Spaces.{View, view_of, Accounts, account, collected, has_place, roomy, object_placed, unflagged, IsReplayedHeap}
-use Rattle.et_replay.proofs.Coming.{AreMade, in_range, cases_eqb, sum_same, bytes_stay, size_here, size_there, all_low, few_made}
+use Rattle.et_replay.proofs.Coming.{AreMade, in_range, sum_same, bytes_stay, size_here, size_there, all_low, few_made}
 use Rattle.et_models.proofs.Facts.{HasFacts, facts_ready, space_facts}
 
 -- what the tables tell of objects that are made

@@ -2,6 +2,7 @@
 use Rattle.std.proofs.Common.{◌≡◌, ℕ, zero, suc, ◌+◌, ◌<◌, ◌≤◌, true, List, [], ◌∷◌, length, take, drop, ℤ, get_or, set, Option, Some, None, refl, sym, ◌∙◌, ap, subst, arith, Contains, append-nil, inl, inr}
 use Rattle.std.proofs.lemmas.List.{length-set}
 use Rattle.std.proofs.lemmas.List.Elements.{Contains-append_left, Contains-append_right, Contains-append_cases}
+use Rattle.et_heap.proofs.References.{unset_past}
 use Rattle.et_base.specs.declared.value.Value.{Value}
 use Rattle.et_base.specs.declared.value.Value.TheVariants.{Unset, Int, Long, LongHigh, Null, Ref}
 use Rattle.et_base.proofs.Lists.{Contains-none}
@@ -26,11 +27,6 @@ set_beyond [] j v le = refl
 set_beyond (x ∷ xs) zero v le = absurd (omega arith)
 set_beyond (x ∷ xs) (suc j) v le = ap (λ (ys : List Value). x ∷ ys) (set_beyond xs j v (omega arith))
 
-get_beyond : (xs : List Value) (j : ℕ) → length xs ≤ j → get_or xs j Unset ≡ Unset
-get_beyond [] j le = refl
-get_beyond (x ∷ xs) zero le = absurd (omega arith)
-get_beyond (x ∷ xs) (suc j) le = get_beyond xs j (omega arith)
-
 -- nothing is there to be made unset
 pub unset_none : (r : RunningState) (h : Option ℕ) → h ≡ None → r ≡ steps_running r (record r.frame { locals = unset_at h r.frame.locals }) (refs_at h r.frame.locals)
 unset_none r h e = subst (λ (x : Option ℕ). r ≡ steps_running r (record r.frame { locals = unset_at x r.frame.locals }) (refs_at x r.frame.locals)) (sym e) (same_running r)
@@ -39,7 +35,7 @@ pub unset_beyond : (r : RunningState) (j : ℕ) (h : Option ℕ) → h ≡ Some 
 unset_beyond r j h e le =
     let f : FrameState = r.frame in
     let a : r ≡ steps_running r (record f { locals = set f.locals j Unset }) (refs_of_value (get_or f.locals j Unset)) =
-    same_running r ∙ (ap (λ (ls : List Value). steps_running r (record f { locals = ls }) []) (sym (set_beyond f.locals j Unset le)) ∙ ap (λ (v : Value). steps_running r (record f { locals = set f.locals j Unset }) (refs_of_value v)) (sym (get_beyond f.locals j le))) in
+    same_running r ∙ (ap (λ (ls : List Value). steps_running r (record f { locals = ls }) []) (sym (set_beyond f.locals j Unset le)) ∙ ap (λ (v : Value). steps_running r (record f { locals = set f.locals j Unset }) (refs_of_value v)) (sym (unset_past f.locals j le))) in
     subst (λ (x : Option ℕ). r ≡ steps_running r (record f { locals = unset_at x f.locals }) (refs_at x f.locals)) (sym e) a
 
 pub unset_there : (r r' : RunningState) (j : ℕ) (h : Option ℕ) → h ≡ Some j → r' ≡ steps_running r (with_local j Unset r.frame) (refs_of_value (local_of r.frame j))

@@ -1,22 +1,21 @@
 -- The strings of constants.
-use Rattle.std.proofs.Common.{◌≡◌, ℕ, ◌==◌, ◌<◌, ◌≤◌, Bool, true, false, cond, List, [], ◌∷◌, ◌++◌, length, Option, Some, None, refl, sym, ◌∙◌, ap, subst, arith, append-nil, inl, inr, Contains}
-use Rattle.std.specs.Prelude.{if◌then◌else◌, is_some, codes, find, unwrap_or}
-use Rattle.std.specs.Option.{option_map}
-use Rattle.std.specs.Str.{bytes_eq}
-use Rattle.std.proofs.lemmas.Bool.{eqb-true, lt-ltb, le-ltb}
-use Rattle.std.proofs.lemmas.Slice.Eq.{bytes_eq-Decides}
+use Rattle.std.proofs.Common.{◌≡◌, ℕ, ◌<◌, ◌≤◌, Bool, true, List, [], ◌∷◌, ◌++◌, length, Option, Some, None, refl, sym, ◌∙◌, ap, subst, append-nil, Contains}
+use Rattle.std.specs.Prelude.{if◌then◌else◌, is_some, codes, unwrap_or}
+use Rattle.std.proofs.lemmas.Bool.{lt-ltb, le-ltb}
 use Rattle.std.proofs.lemmas.List.{length_push}
 use Rattle.std.proofs.lemmas.List.Elements.{Contains-append_left, Contains-append_right}
+use Rattle.et_graph.proofs.Among.{waits_one}
+use Rattle.et_state.proofs.Interned.{object_in, object_pushed, no_text}
 use Rattle.et_base.specs.declared.value.Value.TheVariants.{Ref}
 use Rattle.et_graph.specs.Graph.{IsReached}
-use Rattle.et_base.proofs.Lists.{Contains-none, Contains-here, Contains-there, Contains-cons}
+use Rattle.et_base.proofs.Lists.{Contains-here}
 use Rattle.et_heap.specs.Objects.{ObjectState, new_object, IsHeld}
 use Rattle.et_heap.specs.Refs.{refs_of}
 use Rattle.et_heap.proofs.HeapLists.{held_within}
 use Rattle.et_state.specs.Threads.{FrameState, at_pc, pushed}
 use Rattle.et_state.specs.ThreadRoots.{frame_roots}
 use Rattle.et_state.specs.State.{GuestState, Kept, MachineState, kept_of}
-use Rattle.et_state.specs.Interned.{object_of, interned_text, interned_objects}
+use Rattle.et_state.specs.Interned.{object_of, interned_text}
 use Rattle.et_state.specs.Words.{top, with_top, HasFrame, ticked, begun, steps_top, with_guest, with_string}
 use Rattle.et_state.specs.Roots.{graph_of}
 use Rattle.et_state.specs.Sound.{IsSound}
@@ -46,44 +45,8 @@ Strings = List (List ℕ × ℕ)
 
 -- THE OBJECTS OF STRINGS
 
-some_inj : (i j : ℕ) → Some i ≡ Some j → i ≡ j
-some_inj i j e = cc
-
-none_some : (i : ℕ) → None ≡ Some i → ⊥
-none_some i e = cc
-
-some_none : (i : ℕ) → Some i ≡ None → ⊥
-some_none i e = cc
-
-object_step : (b : Bool) (v : ℕ) (vs : List ℕ) (r : Option ℕ) (o : ℕ) → (r ≡ Some o → Contains vs o) → cond b (Some v) r ≡ Some o → Contains (v ∷ vs) o
-object_step true v vs r o ih h = subst (λ (k : ℕ). Contains (v ∷ vs) k) (some_inj v o h) (Contains-here v vs)
-object_step false v vs r o ih h = Contains-there v vs o (ih h)
-
-object_in : (es : Strings) (bytes : List ℕ) (o : ℕ) → object_of es bytes ≡ Some o → Contains (interned_objects es) o
-object_in [] bytes o h = absurd (none_some o h)
-object_in (e ∷ es) bytes o h = object_step (bytes_eq bytes e.0) e.1 (interned_objects es) (object_of es bytes) o (object_in es bytes o) h
-
 pub string_held : (m : MachineState) (bytes : List ℕ) (o : ℕ) → IsSound (kept_of m) → object_of m.guest.interned bytes ≡ Some o → IsHeld m.heap o
 string_held m bytes o sound h = sound.roots o (string_root m.guest o (object_in m.guest.interned bytes o h))
-
-push_step : (b : Bool) (v n : ℕ) (r r' : Option ℕ) → (r ≡ None → r' ≡ Some n) → cond b (Some v) r ≡ None → cond b (Some v) r' ≡ Some n
-push_step true v n r r' ih h = absurd (some_none v h)
-push_step false v n r r' ih h = ih h
-
-object_pushed : (es : Strings) (bytes : List ℕ) (n : ℕ) → object_of es bytes ≡ None → object_of (es ++ (bytes, n) ∷ []) bytes ≡ Some n
-object_pushed [] bytes n h = ap (λ (b : Bool). cond b (Some n) None) ((bytes_eq-Decides bytes bytes).1 refl)
-object_pushed (e ∷ es) bytes n h = push_step (bytes_eq bytes e.0) e.1 n (object_of es bytes) (object_of (es ++ (bytes, n) ∷ []) bytes) (object_pushed es bytes n) h
-
-text_step : (b : Bool) (e : List ℕ × ℕ) (r : Option (List ℕ × ℕ)) → (b ≡ true → ⊥) → option_map (λ q. q.0) r ≡ None → option_map (λ q. q.0) (cond b (Some e) r) ≡ None
-text_step true e r apart h = absurd (apart refl)
-text_step false e r apart h = h
-
-no_text : (o : ℕ) (es : Strings) → ((q : ℕ) → Contains (interned_objects es) q → q < o) → interned_text es o ≡ None
-no_text o [] h = refl
-no_text o (e ∷ es) h =
-    let lt : e.1 < o = h e.1 (Contains-here e.1 (interned_objects es)) in
-    let other : (o == e.1) ≡ true → ⊥ = λ same. let is : o ≡ e.1 = eqb-true o e.1 same in omega arith in
-    text_step (o == e.1) e (find (λ p. o == p.1) es) other (no_text o es (λ q c. h q (Contains-there e.1 (interned_objects es) q c)))
 
 -- the object that is made next has no bytes yet
 pub new_text : (m m₁ : MachineState) (o : ℕ) → IsSound (kept_of m) → o ≡ length m.heap → m₁.guest ≡ m.guest → interned_text m₁.guest.interned o ≡ None
@@ -96,9 +59,6 @@ new_text m m₁ o sound e same =
 abbrev stepped : ℕ → ℕ → FrameState → FrameState
 stepped pc o f = at_pc pc (pushed (Ref o) f)
 
-only : (H : ℕ → Type 0) (o : ℕ) → H o → (q : ℕ) → Contains (o ∷ []) q → H q
-only H o h q c = elim (Contains-cons o [] q c) [ inl e ↦ subst H e h | inr d ↦ absurd (Contains-none q d) ]
-
 pub pushed_led : (m : MachineState) (t o pc : ℕ) (m₁ m₂ m₃ : MachineState) → IsSound (kept_of m) → HasFrame m.guest t → IsHeld m.heap o → m₁ ≡ begun m
     → m₂ ≡ steps_top m₁ t (pushed (Ref o) (top m₁.guest t)) [] → m₃ ≡ steps_top m₂ t (at_pc pc (top m₂.guest t)) []
     → Led (kept_of m) (record { heap = m.heap; guest = with_top (ticked m.guest) t (stepped pc o (top m.guest t)) }) m₃
@@ -107,7 +67,7 @@ pushed_led m t o pc m₁ m₂ m₃ sound has held e₁ e₂ e₃ =
     let f : FrameState = top m.guest t in
     let has₁ : HasFrame (begun m).guest t = record { thread = has.thread; frame = has.frame } in
     let d₁ = did_begin s m t m₁ has e₁ in
-    let d₂ = did_push s (begun m) t f [] m₁ m₂ (Ref o) has₁ d₁ e₂ (only (IsHeld m.heap) o held) in
+    let d₂ = did_push s (begun m) t f [] m₁ m₂ (Ref o) has₁ d₁ e₂ (waits_one (IsHeld m.heap) o held) in
     let d₃ = did_set_pc s (begun m) t (pushed (Ref o) f) ([] ++ []) m₂ m₃ pc has₁ d₂ e₃ in
     did_led m t (stepped pc o f) _ m₃ sound has d₃
 
@@ -126,7 +86,7 @@ made_led m t class slots pc bytes m₁ m₂ m₃ m₄ m₅ sound has e₁ e₂ e
     let is₃ : m₃ ≡ b₁ = e₃ ∙ ap (λ (z : MachineState). begun z) (e₂ ∙ ap (λ (z : MachineState). with_guest z (with_string z.guest bytes n)) e₁) in
     let has₁ : HasFrame b₁.guest t = record { thread = has.thread; frame = has.frame } in
     let d₃ : Did s b₁ t f [] m₃ = did_here s b₁ t m₃ has₁ is₃ in
-    let d₄ = did_push s b₁ t f [] m₃ m₄ (Ref n) has₁ d₃ e₄ (only (IsHeld b₁.heap) n (newest_held m.heap y)) in
+    let d₄ = did_push s b₁ t f [] m₃ m₄ (Ref n) has₁ d₃ e₄ (waits_one (IsHeld b₁.heap) n (newest_held m.heap y)) in
     let d₅ = did_set_pc s b₁ t (pushed (Ref n) f) ([] ++ []) m₄ m₅ pc has₁ d₄ e₅ in
     let k : Kept = record { heap = m.heap ++ Some y ∷ []; guest = with_top (with_string (ticked m.guest) bytes n) t (stepped pc n f) } in
     let kept : kept_of m₅ ≡ k = ap (λ (z : MachineState). kept_of z) d₅.is in

@@ -8,7 +8,7 @@ use Rattle.et_pool.specs.Reading.{pool_number, entry_at}
 use Rattle.et_pool.specs.Pools.{AreEntries, BreaksEntries, IsPool, BreaksPool, CutCount, NoCount, InEntry, PoolIs, HasOnePool}
 use Rattle.et_pool.proofs.Rooms.{entry_room}
 
-ok_is : {A : Type 0} (r : Result A Broken) (x y : A) → r ≡ Ok x → r ≡ Ok y → x ≡ y
+pub ok_is : {A : Type 0} (r : Result A Broken) (x y : A) → r ≡ Ok x → r ≡ Ok y → x ≡ y
 ok_is r x y h i = cc
 
 err_is : {A : Type 0} (r : Result A Broken) (f g : Broken) → r ≡ Err f → r ≡ Err g → f ≡ g

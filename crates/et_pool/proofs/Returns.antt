@@ -1,6 +1,7 @@
 -- What is returned, and the type that stands at the end of a descriptor.
-use Rattle.std.proofs.Common.{◌≡◌, ℕ, Bool, true, false, cond, eqb, length, ◌&&◌, List, [], ◌∷◌, Option, Some, None, refl, sym, ap, ◌∙◌}
+use Rattle.std.proofs.Common.{◌≡◌, ℕ, Bool, true, false, cond, eqb, length, List, [], ◌∷◌, Option, Some, None, refl, sym, ap, ◌∙◌}
 use Rattle.std.proofs.lemmas.Bool.{eqb-true}
+use Rattle.et_base.proofs.Tests.{and_first}
 use Rattle.et_pool.specs.declared.operand.Operand.{Operand}
 use Rattle.et_pool.specs.declared.operand.Operand.TheVariants.{Int, Long, Reference}
 use Rattle.et_pool.specs.declared.operand.Returned.TheVariants.{Void, Value}
@@ -18,14 +19,10 @@ no_kind Reference = refl
 void_letter : (a : ℕ) → eqb a 86 ≡ true → kind_of_letter a ≡ None
 void_letter a e = rw (eqb-true a 86 e) refl
 
-front : (a b : Bool) → (a && b) ≡ true → a ≡ true
-front true b e = refl
-front false b e = e
-
 void_kind : (s : List ℕ) → is_void s ≡ true → operand_kind s ≡ None
 unfolding is_void
 void_kind [] e = refl
-void_kind (a ∷ rest) e = void_letter a (front (eqb a 86) (eqb (length rest) 0) e)
+void_kind (a ∷ rest) e = void_letter a (and_first (eqb a 86) (eqb (length rest) 0) e)
 
 by_kind : (kind : Operand) (other : Option Operand) (n : ℕ) (void : Bool) → (void ≡ true → other ≡ None) → is_returnable (Some kind) (cond void Void (Value other n)) ≡ is_kind kind other
 by_kind kind other n true h = sym (no_kind kind) ∙ ap (is_kind kind) (sym (h refl))

@@ -4,6 +4,7 @@ use Rattle.std.specs.Prelude.{ok_or, All, slice_index_or}
 use Rattle.std.specs.List.{flat_map}
 use Rattle.std.specs.Int.{w8, w16, w32, w64, to_be_bytes}
 use Rattle.std.proofs.lemmas.Bool.{le-ltb, eqb-true, cases_lt}
+use Rattle.std.proofs.lemmas.Option.{none-some}
 use Rattle.et_base.specs.Numbers.{number_at, bytes_at, AreBytes}
 use Rattle.et_base.proofs.Readings.{by_bind, by_if, ok_some, some_ok, bind_ok}
 use Rattle.et_base.proofs.Spelling.{Reads, Reads-nothing, Reads-then, Reads-first, Reads-second, wide8, wide16, wide32, wide64, number_reads, reads_number, run_reads, reads_run, in_bytes}
@@ -18,7 +19,7 @@ use Rattle.et_pool.specs.Looks.{slot_bytes, end_of}
 use Rattle.et_pool.specs.Spelling.{IsEntry, IsPoolSpelled}
 use Rattle.et_pool.proofs.Rooms.{entry_room}
 use Rattle.et_pool.proofs.Listing.{slots_length}
-use Rattle.et_pool.proofs.OneAnswer.{room_pos}
+use Rattle.et_pool.proofs.OneAnswer.{room_pos, ok_is}
 
 -- TAGS
 
@@ -179,11 +180,8 @@ none_beyond : (tag : ℕ) → 256 ≤ tag → tag_layout tag ≡ None
 none_beyond tag le =
     rw (none_is tag 1 (omega arith), none_is tag 3 (omega arith), none_is tag 4 (omega arith), none_is tag 5 (omega arith), none_is tag 6 (omega arith), none_is tag 7 (omega arith), none_is tag 8 (omega arith), none_is tag 16 (omega arith), none_is tag 9 (omega arith), none_is tag 10 (omega arith), none_is tag 11 (omega arith), none_is tag 12 (omega arith), none_is tag 18 (omega arith), none_is tag 15 (omega arith)) refl
 
-none_some : (s : Layout) → None ≡ Some s → ⊥
-none_some s e = cc
-
 tag_small : (tag : ℕ) (s : Layout) → tag_layout tag ≡ Some s → tag < 256
-tag_small tag s e = elim (cases_lt tag 256) [ inl lt ↦ lt | inr le ↦ absurd (none_some s (sym (none_beyond tag le) ∙ e)) ]
+tag_small tag s e = elim (cases_lt tag 256) [ inl lt ↦ lt | inr le ↦ absurd (none-some s (sym (none_beyond tag le) ∙ e)) ]
 
 read_byte : (bytes : List ℕ) (at n next : ℕ) → n < 256 → Reads bytes at (n ∷ []) next → pool_number w8 bytes at ≡ Ok (n, next)
 read_byte bytes at n next lt r =
@@ -285,9 +283,6 @@ read_fits bytes room at (Name tag n) next x f le r h = f
 read_fits bytes room at (Pair tag m n) next x f le r h = f
 read_fits bytes room at (Handle k n) next x f le r h = f
 
-same_read : {X : Type 0} (r : Result X Broken) (x y : X) → r ≡ Ok x → r ≡ Ok y → x ≡ y
-same_read r x y h i = cc
-
 entries_fit : (bytes : List ℕ) (room at : ℕ) (es ds : List Item) (after next : ℕ) → All Fits ds → length (flat_map slots_of_item ds) ≡ room → Reads bytes at (flat_map item_bytes ds) next → AreEntries bytes room at es 0 after → All IsEntry ds
 entries_fit bytes room at es [] after next all k r w = λ i d lt. absurd (omega arith)
 entries_fit bytes room at [] (d ∷ ds) after next all k r w =
@@ -299,7 +294,7 @@ entries_fit bytes room at (e ∷ es) (d ∷ ds) after next all k r w =
     let here = Reads-first bytes at (item_bytes d) (flat_map item_bytes ds) next r in
     let rest = Reads-second bytes at (item_bytes d) (flat_map item_bytes ds) next r in
     let is = read_fits bytes room at d (at + length (item_bytes d)) (e, w.0) (all 0 d (omega arith)) le here w.1 in
-    let same = same_read (entry_at bytes room at) (e, w.0) (d, at + length (item_bytes d)) w.1 (entry_back bytes room at d (at + length (item_bytes d)) is le here) in
+    let same = ok_is (entry_at bytes room at) (e, w.0) (d, at + length (item_bytes d)) w.1 (entry_back bytes room at d (at + length (item_bytes d)) is le here) in
     All-cons d ds is
     (entries_fit bytes (room - slots_taken d) (at + length (item_bytes d)) es ds after next (λ i x lt. all (suc i) x (omega arith)) (omega (arith, split, k, slots_length d)) rest
     (subst (λ (x : Item × ℕ). AreEntries bytes (room - slots_taken x.0) x.1 es 0 after) same w.2))
@@ -309,7 +304,7 @@ pub pool_stands : (bytes : List ℕ) (at : ℕ) (slots : List (Option Item)) (af
 pool_stands bytes at slots after ds next p all lt r =
     let n = length (slots_of ds) in
     let counted : pool_number w16 bytes at ≡ Ok (n, at + 2) = read_16 bytes at n (at + 2) lt (Reads-first bytes at (to_be_bytes w16 n) (flat_map item_bytes ds) next r) in
-    let same = same_read (pool_number w16 bytes at) (p.count, p.start) (n, at + 2) p.counted counted in
+    let same = ok_is (pool_number w16 bytes at) (p.count, p.start) (n, at + 2) p.counted counted in
     entries_fit bytes (n - 1) (at + 2) p.filled.entries ds after next all (omega arith) (Reads-second bytes at (to_be_bytes w16 n) (flat_map item_bytes ds) next r)
     (subst (λ (x : ℕ × ℕ). AreEntries bytes (x.0 - 1) x.1 p.filled.entries 0 after) same p.filled.whole)
 

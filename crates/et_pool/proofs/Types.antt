@@ -4,6 +4,7 @@ use Rattle.std.specs.Prelude.{option_map, option_and_then, fold}
 use Rattle.std.specs.List.{list_any}
 use Rattle.std.proofs.lemmas.Bool.{eqb-true}
 use Rattle.std.proofs.lemmas.List.{at_drop_more}
+use mathlib.Core.Bool.{or-false}
 use Rattle.et_pool.specs.Descriptors.{after_name, after_element, after_dimensions, first_type, types_of, parameters_of, width_of, is_floating}
 
 pub name_at : (s : List ℕ) (i : ℕ) → i < length s → after_name (drop i s) ≡ cond (eqb (get_or s i 0) 59) (Some (drop (i + 1) s)) (after_name (drop (i + 1) s))
@@ -48,11 +49,7 @@ pub record Behind (s rest : List ℕ) (entries : ℕ) (floating : Bool) : Type 0
   pub same : option_map (parameters_of entries floating) (types_of most rest) ≡ option_map (parameters_of 0 false) (types_of (length s) s)
   pub small : entries + 2 * length rest ≤ 2 * length s
 
-or_false : (b : Bool) → (b || false) ≡ b
-or_false true = refl
-or_false false = refl
-
-or_assoc : (a b c : Bool) → (a || (b || c)) ≡ ((a || b) || c)
+pub or_assoc : (a b c : Bool) → (a || (b || c)) ≡ ((a || b) || c)
 or_assoc true b c = refl
 or_assoc false b c = refl
 
@@ -61,7 +58,7 @@ behind_end s [] entries floating b some e = absurd (omega arith)
 behind_end s (a ∷ rest) entries floating b some e =
     let is : eqb a 41 ≡ true = rw e refl in
     let here : option_map (parameters_of entries floating) (types_of b.most (a ∷ rest)) ≡ Some (entries, floating || false, rest) = rw (types_end b.most a rest is) refl in
-    ap (λ (f : Bool). Some (entries, f, rest)) (sym (or_false floating)) ∙ (sym here ∙ b.same)
+    ap (λ (f : Bool). Some (entries, f, rest)) (sym (or-false floating)) ∙ (sym here ∙ b.same)
 
 pub behind_empty : (s rest : List ℕ) (entries : ℕ) (floating : Bool) → Behind s rest entries floating → length rest ≡ 0 → None ≡ option_map (parameters_of 0 false) (types_of (length s) s)
 behind_empty s [] entries floating b e = ap (option_map (parameters_of entries floating)) (sym (types_none b.most)) ∙ b.same

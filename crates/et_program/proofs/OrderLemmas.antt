@@ -15,6 +15,7 @@ use Rattle.std.proofs.lemmas.List.Sums.{prefix_len_is, prefix_len_passes, prefix
 use Rattle.std.proofs.lemmas.Iterator.Adapters.{position_from-zero}
 use Rattle.std.proofs.lemmas.Map.Text.{is_eq-slice_cmp}
 use Rattle.std.proofs.lemmas.Slice.Eq.{bytes_eq-Decides}
+use Rattle.et_base.proofs.Tests.{eq_then}
 use Rattle.et_program.specs.declared.info.MethodInfo.{MethodInfo}
 use Rattle.et_program.specs.Entries.{ClassEntry}
 use Rattle.et_program.specs.Members.{is_method}
@@ -30,11 +31,6 @@ key_weak = ranks_by key_total (λ (x : KeyOf). x)
 
 pub entry_weak : (keys : List KeyOf) → IsStrictWeakOrder (λ (e f : ℕ × ℕ). is_lt (entry_cmp keys e f))
 entry_weak keys = ranks_by (then_total (on_total (λ (e : ℕ × ℕ). key_at keys e.1) key_total) (on_total (λ (e : ℕ × ℕ). e.1) nat_cmp_total)) (λ (e : ℕ × ℕ). e)
-
-eq_then : (r s : Ordering) → is_eq (ordering_then r s) ≡ (is_eq r && is_eq s)
-eq_then Less s = refl
-eq_then Equal s = refl
-eq_then Greater s = refl
 
 and_turned : (a b : Bool) → (a && b) ≡ (b && a)
 and_turned true true = refl

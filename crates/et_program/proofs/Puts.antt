@@ -6,11 +6,12 @@ use Rattle.std.specs.Str.{bytes_eq}
 use Rattle.std.specs.Ordering.{eq_by_cmp}
 use Rattle.std.specs.Cmp.Lexicographic.{slice_cmp}
 use Rattle.std.specs.BTreeMap.{BTreeMap, get_by, UpdatesBy, is_at}
-use Rattle.std.specs.Map.{lookup, IsKeyTest, AreApart, KeepsOthers}
 use Rattle.std.proofs.lemmas.Bool.{cases_Bool, cond-true, cond-false}
 use Rattle.std.proofs.lemmas.Cmp.{nat_list_cmp_total, nat_list_eq_equiv, eq_by_cmp_equiv}
 use Rattle.std.proofs.lemmas.Map.Text.{is_eq-slice_cmp}
-use Rattle.std.proofs.lemmas.Slice.Eq.{bytes_eq-Decides}
+use Rattle.et_hierarchy.proofs.Maps.{other_entries}
+use Rattle.et_hierarchy.proofs.Names.{same_name}
+use Rattle.et_base.proofs.Options.{is_none}
 
 abbrev Places : Type 0
 Places = BTreeMap (Vec ℕ Global) ℕ
@@ -18,10 +19,6 @@ Places = BTreeMap (Vec ℕ Global) ℕ
 -- how a name stands to a key
 abbrev stands : List ℕ → Vec ℕ Global → Ordering
 stands name k = slice_cmp nat_cmp name k.items
-
-none_of : (o : Option ℕ) → is_some o ≡ false → o ≡ None
-none_of None h = refl
-none_of (Some k) h = absurd (cc)
 
 or_none : (o : Option ℕ) → option_or o None ≡ o
 or_none None = refl
@@ -37,13 +34,6 @@ pub put_over : (at : Bool) (k : ℕ) (old : Option ℕ) → (at ≡ true → is_
 put_over true k None h = let e : false ≡ true = h refl in absurd (cc)
 put_over true k (Some m) h = refl
 put_over false k old h = sym (or_none old)
-
-other_entries : {K X : Type 0} (eq : K → K → Bool) (test : K → Bool) (old new : List (K × X)) → KeepsOthers eq test old new → (other : K → Bool) → IsKeyTest eq other → AreApart test other → lookup other new ≡ lookup other old
-unfolding KeepsOthers
-other_entries eq test old new h = h
-
-same_name : (a b : List ℕ) → bytes_eq a b ≡ true → a ≡ b
-same_name a b = (bytes_eq-Decides a b).0
 
 -- a key that is found by one name isn't found by another
 apart : (bs cs ks : List ℕ) → bytes_eq bs cs ≡ false → is_eq (slice_cmp nat_cmp bs ks) ≡ true → is_eq (slice_cmp nat_cmp cs ks) ≡ false
@@ -69,7 +59,7 @@ name_put name key m n i is new h q =
     let u = updates_bytes name m n (Some i) (subst (λ (l : List ℕ). UpdatesBy (λ (x y : Vec ℕ Global). slice_cmp nat_cmp x.items y.items) (stands l) m n (Some i)) is h) q in
     let turned : bytes_eq name q ≡ bytes_eq q name = nat_list_eq_equiv.symm name q in
     put_behind (bytes_eq q name) i _ _ (u ∙ ap (λ b. cond b (Some i) (get_by (stands q) m)) turned)
-    (λ y. subst (λ l. get_by (stands l) m ≡ None) (sym (same_name q name y)) (none_of _ new))
+    (λ y. subst (λ l. get_by (stands l) m ≡ None) (sym (same_name q name y)) (is_none _ new))
 
 -- a name that stays as it is
 pub name_stays : (name : List ℕ) (m : Places) (i : ℕ) → is_some (get_by (stands name) m) ≡ true → (q : List ℕ) → get_by (stands q) m ≡ option_or (get_by (stands q) m) (cond (bytes_eq q name) (Some i) None)

@@ -1,8 +1,9 @@
 -- Where the built-in classes stand in a program: they are the first, in the order of their table.
-use Rattle.std.proofs.Common.{◌≡◌, ℕ, ◌+◌, ◌<◌, Bool, true, false, cond, List, [], ◌∷◌, ◌++◌, length, map, Option, None, Some, refl, sym, ◌∙◌, ap, subst}
+use Rattle.std.proofs.Common.{◌≡◌, ℕ, ◌+◌, ◌<◌, Bool, true, false, cond, List, [], ◌∷◌, ◌++◌, length, map, Option, Some, refl, sym, ◌∙◌, ap, subst}
 use Rattle.std.specs.Prelude.{Ok, codes}
 use Rattle.std.specs.List.{position_from}
 use Rattle.std.specs.Str.{bytes_eq}
+use Rattle.std.proofs.lemmas.Option.{none-some}
 use Rattle.et_boot.specs.Classes.{BootClassOf, boot_classes}
 use Rattle.et_class.specs.Entries.{Constants}
 use Rattle.et_hierarchy.specs.Ancestry.{Ancestry}
@@ -28,16 +29,13 @@ front_step : (b c : Bool) (k j : ℕ) (o r : Option ℕ) → c ≡ b → first_o
 front_step true c k j o r e h rest = ap (λ d. first_or d k r) e ∙ h
 front_step false c k j o r e h rest = ap (λ d. first_or d k r) e ∙ rest h
 
-nowhere : (j : ℕ) → None ≡ Some j → ⊥
-nowhere j h = cc
-
 pub first_in_front : {X Y : Type 0} (t : X → Bool) (u : Y → Bool) (f : X → Y) → ((x : X) → u (f x) ≡ t x) → (k : ℕ) (xs : List X) (ys : List Y) (j : ℕ) → position_from t k xs ≡ Some j → position_from u k (map f xs ++ ys) ≡ Some j
-first_in_front t u f same k [] ys j h = absurd (nowhere j h)
+first_in_front t u f same k [] ys j h = absurd (none-some j h)
 first_in_front t u f same k (x ∷ xs) ys j h =
     front_step (t x) (u (f x)) k j (position_from t (k + 1) xs) (position_from u (k + 1) (map f xs ++ ys)) (same x) h (first_in_front t u f same (k + 1) xs ys j)
 
 pub first_numbered : {X Y : Type 0} (t : X → Bool) (u : Y → Bool) (f : ℕ → X → Y) → ((i : ℕ) (x : X) → u (f i x) ≡ t x) → (k : ℕ) (xs : List X) (ys : List Y) (j : ℕ) → position_from t k xs ≡ Some j → position_from u k (numbered (λ i x. f i x ∷ []) k xs ++ ys) ≡ Some j
-first_numbered t u f same k [] ys j h = absurd (nowhere j h)
+first_numbered t u f same k [] ys j h = absurd (none-some j h)
 first_numbered t u f same k (x ∷ xs) ys j h =
     front_step (t x) (u (f k x)) k j (position_from t (k + 1) xs) (position_from u (k + 1) (numbered (λ i y. f i y ∷ []) (k + 1) xs ++ ys)) (same k x) h (first_numbered t u f same (k + 1) xs ys j)
 

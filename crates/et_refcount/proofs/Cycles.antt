@@ -4,10 +4,11 @@ use Rattle.std.specs.Prelude.{Contains}
 use Rattle.std.specs.List.{list_any, AllByRecursion, IsDistinct}
 use Rattle.std.proofs.lemmas.Map.Steps.{length-le_from_distinct_below}
 use Rattle.std.proofs.lemmas.Bool.Decides.{nat_tests}
+use Rattle.std.proofs.lemmas.Bool.{cases_Bool}
 use Rattle.et_graph.specs.Graph.{IsWalk, Leads}
 use Rattle.et_graph.proofs.Walks.{leads_itself, leads_first}
 use Rattle.et_base.proofs.Lists.{Contains-none, Contains-cons, any_contains}
-use Rattle.et_refcount.proofs.Hits.{cases_eqb, cases_bool}
+use Rattle.et_base.proofs.Tests.{cases_eqb}
 
 -- the last step of a walk
 pub last_step : (pairs : List (ℕ × ℕ)) (r : ℕ) (walk : List ℕ) (o : ℕ) → IsWalk pairs r walk o → (r ≡ o) ⊎ ((u : ℕ) × Leads pairs r u × Contains pairs (u, o))
@@ -49,7 +50,7 @@ module _ (pairs : List (ℕ × ℕ)) (B : ℕ → Type 0) (m : ℕ) (low : (x : 
   back_from (suc k) x seen d l b to e =
       let p = before x b in
       let y = p.0 in
-      elim (cases_bool (list_any (eqb y) (x ∷ seen))) [
+      elim (cases_Bool (list_any (eqb y) (x ∷ seen))) [
         | inl old ↦
             let c : Contains (x ∷ seen) y = any_contains (eqb y) y (λ z t. same y z t) (x ∷ seen) old in
             (y, record { among = p.1; next = x; refers = p.2; back = elim (Contains-cons x seen y c) [ inl q ↦ subst (λ (v : ℕ). Leads pairs x v) q (leads_itself pairs x) | inr s ↦ to y s ] })

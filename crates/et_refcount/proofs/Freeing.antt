@@ -4,23 +4,22 @@ use Rattle.std.specs.Prelude.{Contains, is_some, unwrap_or}
 use Rattle.std.proofs.Math.ListN.{set, length-set}
 use Rattle.std.proofs.lemmas.List.{get_or_past, get_or-set_same, get_or-set_other}
 use Rattle.std.proofs.lemmas.List.Sums.{sum_by-set}
-use Rattle.std.proofs.lemmas.List.Elements.{Contains-push, Contains-append_left, Contains-append_cases}
-use Rattle.et_base.proofs.Lists.{Contains-none, Contains-cons}
+use Rattle.std.proofs.lemmas.List.Elements.{Contains-push, Contains-append_left}
+use Rattle.std.proofs.lemmas.Bool.{cases_lt}
+use Rattle.et_replay.proofs.Coming.{not_both}
+use Rattle.et_base.proofs.Lists.{Contains-none, Contains-cons, in_longer}
+use Rattle.et_base.proofs.Tests.{cases_eqb}
 use Rattle.et_refcount.specs.declared.objects.Place.{Place}
 use Rattle.et_refcount.specs.declared.objects.Place.TheVariants.{Unmade, Held, Gone}
 use Rattle.et_refcount.specs.Objects.{Slots, Tables, size_of, is_not_unmade, place_at, held_at, made_at, weight_of, flag_at, slots_at, target_at, all_hits, weight, is_left, work_with, FreesOne, FreesNone, AreCounted, KeepsItself, IsFreed, IsFreeing, IsOnlyLeft}
-use Rattle.et_refcount.proofs.Hits.{cases_eqb, below_or, not_both, left_parts, left_of, all_found, all_without}
+use Rattle.et_refcount.proofs.Hits.{left_parts, left_of, all_found, all_without}
 
 some_none : {A : Type 0} (x : Option ℕ) → is_some x ≡ true → x ≡ None → A
 some_none (Some n) e f = absurd cc
 some_none None e f = absurd cc
 
--- the last of the list, or one before
-pub in_longer : (xs : List ℕ) (x o : ℕ) → Contains (xs ++ x ∷ []) o → Contains xs o ⊎ (o ≡ x)
-in_longer xs x o c = elim (Contains-append_cases xs (x ∷ []) o c) [ inl f ↦ inl f | inr f ↦ elim (Contains-cons x [] o f) [ inl e ↦ inr (sym e) | inr n ↦ absurd (Contains-none o n) ] ]
-
 pub held_within : (places : List Place) (o size : ℕ) → held_at places o ≡ Some size → o < length places
-held_within places o size e = elim (below_or o (length places)) [ inl lt ↦ lt | inr ge ↦ absurd (none (ap (λ (p : Place). size_of p) (get_or_past places o Unmade ge)) e) ]
+held_within places o size e = elim (cases_lt o (length places)) [ inl lt ↦ lt | inr ge ↦ absurd (none (ap (λ (p : Place). size_of p) (get_or_past places o Unmade ge)) e) ]
   where
     none : held_at places o ≡ None → held_at places o ≡ Some size → ⊥
     none a b = cc

@@ -1,5 +1,5 @@
 -- How many slots refer to an object.
-use Rattle.std.proofs.Common.{◌≡◌, ◌≢◌, ℕ, suc, ◌+◌, ◌<◌, ◌≤◌, Bool, true, false, cond, ◌&&◌, eqb, List, [], ◌∷◌, length, Option, Some, refl, sym, ap, subst, ◌∙◌, arith, inl, inr, ◌⊎◌}
+use Rattle.std.proofs.Common.{◌≡◌, ◌≢◌, ℕ, suc, ◌+◌, ◌<◌, ◌≤◌, Bool, true, cond, eqb, List, [], ◌∷◌, length, Option, Some, refl, sym, ap, subst, ◌∙◌, arith, inl, inr}
 use Rattle.std.specs.Prelude.{Contains, unwrap_or}
 use Rattle.std.specs.Map.{values_of}
 use Rattle.std.specs.BTreeMap.{is_at}
@@ -8,32 +8,10 @@ use Rattle.std.proofs.Math.ListN.{set}
 use Rattle.std.proofs.lemmas.Bool.Decides.{nat_tests}
 use Rattle.std.proofs.lemmas.List.{get_or_past}
 use Rattle.std.proofs.lemmas.List.Sums.{sum_by-cons, sum_by-set, get_or-le-sum_by}
+use Rattle.std.proofs.lemmas.Bool.{cases_lt, cases_Bool, and_parts, and_from}
 use Rattle.et_base.proofs.Lists.{Contains-here, Contains-there}
+use Rattle.et_base.proofs.Tests.{cases_eqb}
 use Rattle.et_refcount.specs.Objects.{Slots, target_at, is_target, hits, all_hits, slots_at, count_at, flag_at, is_left}
-
-pub cases_eqb : (a b : ℕ) → ((eqb a b ≡ true) × (a ≡ b)) ⊎ ((eqb a b ≡ false) × (a ≢ b))
-cases_eqb a b = grind (arith, nat_tests)
-
-pub below_or : (a b : ℕ) → (a < b) ⊎ (b ≤ a)
-below_or a b = grind arith
-
-pub cases_bool : (b : Bool) → (b ≡ true) ⊎ (b ≡ false)
-cases_bool true = inl refl
-cases_bool false = inr refl
-
-pub not_both : {A : Type 0} (b : Bool) → b ≡ true → b ≡ false → A
-not_both true p q = absurd cc
-not_both false p q = absurd cc
-
-and_parts : (a b : Bool) → (a && b) ≡ true → (a ≡ true) × (b ≡ true)
-and_parts true true e = (refl, refl)
-and_parts true false e = absurd cc
-and_parts false b e = absurd cc
-
-and_of : (a b : Bool) → a ≡ true → b ≡ true → (a && b) ≡ true
-and_of true true e f = refl
-and_of true false e f = absurd cc
-and_of false b e f = absurd cc
 
 eqb_zero : (n : ℕ) → eqb n 0 ≡ true → n ≡ 0
 eqb_zero n e = grind (arith, nat_tests)
@@ -46,7 +24,7 @@ pub left_parts : (dead : List Bool) (counts : List ℕ) (o : ℕ) → is_left de
 left_parts dead counts o e = let p = and_parts (flag_at dead o) (eqb (count_at counts o) 0) e in (p.0, eqb_zero (count_at counts o) p.1)
 
 pub left_of : (dead : List Bool) (counts : List ℕ) (o : ℕ) → flag_at dead o ≡ true → count_at counts o ≡ 0 → is_left dead counts o ≡ true
-left_of dead counts o e f = and_of (flag_at dead o) (eqb (count_at counts o) 0) e (zero_eqb (count_at counts o) f)
+left_of dead counts o e f = and_from (flag_at dead o) (eqb (count_at counts o) 0) e (zero_eqb (count_at counts o) f)
 
 pub hits-cons : (x : ℕ × ℕ) (own : Slots) (t : ℕ) → hits (x ∷ own) t ≡ is_target t x.1 + hits own t
 hits-cons x own t = sum_by-cons (is_target t) x.1 (values_of own)
@@ -60,7 +38,7 @@ target_no t x ne = elim (cases_eqb x t) [ inl e ↦ absurd (ne e.1) | inr e ↦ 
 -- a slot that refers to the target counts
 pub hits_found : (own : Slots) (s t : ℕ) → target_at own s ≡ Some t → 1 ≤ hits own t
 hits_found [] s t e = absurd cc
-hits_found (x ∷ own) s t e = elim (cases_bool (is_at (nat_cmp s) x.0)) [
+hits_found (x ∷ own) s t e = elim (cases_Bool (is_at (nat_cmp s) x.0)) [
   | inl y ↦
       let same : Some x.1 ≡ Some t = sym (ap (λ (b : Bool). cond b (Some x.1) (target_at own s)) y) ∙ e in
       let is : x.1 ≡ t = ap (λ (v : Option ℕ). unwrap_or v 0) same in
@@ -91,7 +69,7 @@ all-cons own slots t = sum_by-cons (λ (m : Slots). hits m t) own slots
 
 pub all_entry : (slots : List Slots) (t : ℕ) → 1 ≤ all_hits slots t → (u : ℕ) × (1 ≤ hits (slots_at slots u) t)
 all_entry [] t le = absurd (let z : all_hits [] t ≡ 0 = refl in omega (arith, le, z))
-all_entry (own ∷ slots) t le = elim (below_or 0 (hits own t)) [
+all_entry (own ∷ slots) t le = elim (cases_lt 0 (hits own t)) [
   | inl lt ↦ (0, omega (arith, lt))
   | inr z ↦
       let sum = all-cons own slots t in
@@ -100,7 +78,7 @@ all_entry (own ∷ slots) t le = elim (below_or 0 (hits own t)) [
 ]
 
 pub all_found : (slots : List Slots) (u s t : ℕ) → target_at (slots_at slots u) s ≡ Some t → 1 ≤ all_hits slots t
-all_found slots u s t e = elim (below_or u (length slots)) [
+all_found slots u s t e = elim (cases_lt u (length slots)) [
   | inl lt ↦
       let here = hits_found (slots_at slots u) s t e in
       let le = get_or-le-sum_by (λ (m : Slots). hits m t) slots u [] lt in

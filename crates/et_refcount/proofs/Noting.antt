@@ -12,7 +12,9 @@ use Rattle.std.proofs.lemmas.List.{get_or_default, get_or-set_same, get_or-set_o
 use Rattle.std.proofs.lemmas.List.Sums.{sum_by-cons, sum_by-append, sum_by_push}
 use Rattle.std.proofs.lemmas.List.Elements.{All-contains, All-filter, All-push, filter-append, Contains-push, Contains-append_left, Contains-append_cases}
 use Rattle.std.proofs.lemmas.Map.Keys.{IsDistinct-push}
+use Rattle.std.proofs.lemmas.Bool.{cases_Bool}
 use Rattle.et_base.proofs.Lists.{Contains-none, Contains-here, Contains-there, Contains-cons, any_contains, has_contains, contains_has, filter_kept, filter_keeps}
+use Rattle.et_base.proofs.Tests.{cases_eqb, bool_same}
 use Rattle.et_replay.specs.declared.item.Item.{Item}
 use Rattle.et_replay.specs.declared.item.Item.TheVariants.{Alloc, Write, Death}
 use Rattle.et_replay.specs.Feeding.{IsNewObject}
@@ -20,13 +22,13 @@ use Rattle.et_replay.specs.Heap.{size_in, is_made, is_live, ends_life, bytes}
 use Rattle.et_replay.specs.Items.{sizes}
 use Rattle.et_replay.specs.Tally.{Counted, Reference, is_among, is_slot, live_of, written, entered, exhaust}
 use Rattle.et_replay.proofs.ByKey.{filter_same}
-use Rattle.et_replay.proofs.Coming.{AreMade, are_made_on, bytes_stay, size_here, size_there, apart, in_range}
+use Rattle.et_replay.proofs.Coming.{AreMade, are_made_on, bytes_stay, size_here, size_there, apart, in_range, not_both}
 use Rattle.et_refcount.specs.declared.objects.Place.{Place}
 use Rattle.et_refcount.specs.declared.objects.Place.TheVariants.{Unmade, Held, Gone}
 use Rattle.et_refcount.specs.Objects.{Slots, Tables, size_of, is_not_unmade, held_at, made_at, flag_at, slots_at, target_at, is_left, WritesReference}
 use Rattle.et_refcount.specs.Counts.{View, AgreesWith, IsReady, IsCountedHeap, WritesTo, placed, left_out, ended}
-use Rattle.et_refcount.proofs.Hits.{cases_eqb, cases_bool, not_both, left_parts, left_of}
-use Rattle.et_refcount.proofs.Settling.{bool_same, held_made, held_some, held_among, held_none, live_flag}
+use Rattle.et_refcount.proofs.Hits.{left_parts, left_of}
+use Rattle.et_refcount.proofs.Settling.{held_made, held_some, held_among, held_none, live_flag}
 use Rattle.et_refcount.proofs.Weighing.{sum_without}
 
 own_at : (xs : List ℕ) (k d : ℕ) → k < length xs → Contains xs (get_or xs k d)
@@ -66,7 +68,7 @@ module _ (v : View) (n : ℕ) (past : List Item) (c : Counted) (event object siz
   bytes_of_live = bytes_stay n past item (live_of past space) new live_made
 
   held_there : (o : ℕ) → cond (is_among space o) (size_in past o) None ≡ cond (is_among space o) (size_in (item ∷ past) o) None
-  held_there o = elim (cases_bool (is_among space o)) [
+  held_there o = elim (cases_Bool (is_among space o)) [
     | inl e ↦ ap (λ (z : Option ℕ). cond (is_among space o) z None) (sym (size_there past event object size o (far o (has_contains space o e))))
     | inr e ↦ ap (λ (b : Bool). cond b (size_in past o) None) e ∙ sym (ap (λ (b : Bool). cond b (size_in (item ∷ past) o) None) e)
   ]
@@ -80,7 +82,7 @@ module _ (v : View) (n : ℕ) (past : List Item) (c : Counted) (event object siz
   some_none None e f = absurd cc
 
   not_among : is_among space object ≡ false
-  not_among = elim (cases_bool (is_among space object)) [
+  not_among = elim (cases_Bool (is_among space object)) [
     | inl e ↦ not_both (is_made past object) (made_of past space object h.agrees.made (has_contains space object e)) new.new
     | inr e ↦ e
   ]
@@ -151,7 +153,7 @@ module _ (v : View) (n : ℕ) (past : List Item) (c : Counted) (event object siz
       (λ e. contains_has more o (Contains-append_left space (object ∷ []) o (has_contains space o e)))
 
   not_in : list_any (nat_eq object) space ≡ false
-  not_in = elim (cases_bool (list_any (nat_eq object) space)) [
+  not_in = elim (cases_Bool (list_any (nat_eq object) space)) [
     | inl e ↦ not_both (is_made past object) (made_of past space object h.agrees.made (any_contains (nat_eq object) object (λ y t. same object y t) space e)) new.new
     | inr e ↦ e
   ]
@@ -225,7 +227,7 @@ module _ (v : View) (n : ℕ) (past : List Item) (c : Counted) (event object siz
           major_none = t.major_none;
           sums = omega (arith, sums, total, bi, sum_by-cons (λ x. x) size (sizes past));
         };
-        leaked_is = elim (cases_bool (flag_at v.tables.dead object)) [
+        leaked_is = elim (cases_Bool (flag_at v.tables.dead object)) [
           | inl e ↦
               let none : bytes (item ∷ past) (live_of (item ∷ past) (object ∷ [])) ≡ 0 = ap (λ (xs : List ℕ). bytes (item ∷ past) xs) (one_live true e) in
               let is : cond (flag_at v.tables.dead object) (v.leaked + size) v.leaked ≡ v.leaked + size = ap (λ (b : Bool). cond b (v.leaked + size) v.leaked) e in
@@ -283,7 +285,7 @@ module _ (v : View) (n : ℕ) (past : List Item) (c : Counted) (object time : �
   pub death_leaks : (dead : Bool) → flag_at v.tables.dead object ≡ dead → v.leaked + cond dead 0 (unwrap_or (held_at v.tables.places object) 0) + bytes past (live_of (death ∷ past) c.heap.space) ≡ v.bytes
   death_leaks dead e =
       let leaked = h.leaked_is in let kept = h.kept_is in let bi = h.totals.bytes_is in
-      elim (cases_bool (is_among c.heap.space object)) [
+      elim (cases_Bool (is_among c.heap.space object)) [
         | inl m ↦
             let k = has_contains c.heap.space object m in
             let le = (in_range n past object h.fed (made_of past c.heap.space object h.agrees.made k)).1 in
@@ -319,7 +321,7 @@ module _ (v : View) (n : ℕ) (past : List Item) (c : Counted) (object time : �
           omega (arith, leaked, kept, bi, less, is)
 
   pub ended_ready : IsReady (ended object v) object n (death ∷ past) c
-  ended_ready = elim (cases_bool (flag_at v.tables.dead object)) [
+  ended_ready = elim (cases_Bool (flag_at v.tables.dead object)) [
     | inl e ↦ subst (λ (w : View). IsReady w object n (death ∷ past) c) (sym (ap (λ (b : Bool). cond b v (record v { tables = record v.tables { dead = set v.tables.dead object true }; leaked = v.leaked + unwrap_or (held_at v.tables.places object) 0 })) e)) (record {
       few = h.few;
       fed = (h.fed, tt);
@@ -378,7 +380,7 @@ module _ (v v' : View) (n : ℕ) (past : List Item) (c : Counted) (event object 
   ignored e = ap (λ (b : Bool). cond (not b) c (cond (is_among c.heap.space new) (record c { references = (object, slot, new) ∷ others }) (record c { references = others }))) out
     where
       out : is_among c.heap.space object ≡ false
-      out = elim (cases_bool (is_among c.heap.space object)) [
+      out = elim (cases_Bool (is_among c.heap.space object)) [
         | inl m ↦ not_both (is_some (held_at v.tables.places object)) (held_some v.tables n past c object h.agrees (has_contains c.heap.space object m)) e
         | inr m ↦ m
       ]
@@ -420,7 +422,7 @@ module _ (v v' : View) (n : ℕ) (past : List Item) (c : Counted) (event object 
 
   -- a reference is the new one, or one of another slot
   of_referred : (u s x : ℕ) → Contains referred (u, s, x) → ((u ≡ object) × (s ≡ slot) × (x ≡ new) × (is_among c.heap.space new ≡ true)) ⊎ (Contains c.references (u, s, x) × (is_slot object slot (u, s, x) ≡ false))
-  of_referred u s x k = elim (cases_bool (is_among c.heap.space new)) [
+  of_referred u s x k = elim (cases_Bool (is_among c.heap.space new)) [
     | inl e ↦ elim (Contains-cons (object, slot, new) others (u, s, x) (subst (λ (b : Bool). Contains (cond b ((object, slot, new) ∷ others) others) (u, s, x)) e k)) [
       | inl q ↦ inl (sym (ap (λ (r : Reference). r.0) q), sym (ap (λ (r : Reference). r.1) q), sym (ap (λ (r : Reference). r.2) q), e)
       | inr m ↦ inr (other u s x m)

@@ -5,9 +5,11 @@ use Rattle.std.proofs.Math.ListN.{length-set}
 use Rattle.std.proofs.lemmas.List.{get_or_past, get_or-set_same, get_or-set_other}
 use Rattle.std.proofs.lemmas.List.Sums.{sum_by-set}
 use Rattle.std.proofs.lemmas.List.Elements.{Contains-push, Contains-append_left, Contains-append_cases}
+use Rattle.std.proofs.lemmas.Bool.{cases_lt}
 use Rattle.et_base.proofs.Lists.{Contains-none, Contains-cons}
+use Rattle.et_base.proofs.Tests.{cases_eqb}
 use Rattle.et_refcount.specs.Objects.{Slots, is_target, hits, count_at, is_left, dropped, work_with, Released}
-use Rattle.et_refcount.proofs.Hits.{cases_eqb, below_or, left_parts, left_of, hits-cons, target_yes, target_no}
+use Rattle.et_refcount.proofs.Hits.{left_parts, left_of, hits-cons, target_yes, target_no}
 
 -- the slots `rest` still refer to something
 pub record IsReleasing (own : Slots) (dead : List Bool) (counts0 work0 : List ℕ) (rest : Slots) (counts work : List ℕ) : Type 0 where
@@ -32,7 +34,7 @@ releasing_low own dead counts0 work0 x rest counts work le r =
 
 -- what isn't 0 has a place
 pub counted_within : (counts : List ℕ) (o : ℕ) → 1 ≤ count_at counts o → o < length counts
-counted_within counts o le = elim (below_or o (length counts)) [ inl lt ↦ lt | inr ge ↦ (let z = get_or_past counts o 0 ge in absurd (omega (arith, le, z))) ]
+counted_within counts o le = elim (cases_lt o (length counts)) [ inl lt ↦ lt | inr ge ↦ (let z = get_or_past counts o 0 ge in absurd (omega (arith, le, z))) ]
 
 -- one slot fewer
 pub releasing_more : (own : Slots) (dead : List Bool) (counts0 work0 : List ℕ) (x : ℕ × ℕ) (rest : Slots) (counts work : List ℕ) → 1 ≤ count_at counts x.1 → IsReleasing own dead counts0 work0 (x ∷ rest) counts work → IsReleasing own dead counts0 work0 rest (dropped counts x.1) (work_with work (is_left dead (dropped counts x.1) x.1) x.1)

@@ -9,7 +9,9 @@ use Rattle.std.specs.Cmp.{nat_cmp_total, eq_by_cmp_equiv}
 use Rattle.std.proofs.lemmas.Map.Keys.{IsDistinct-from_sorted}
 use Rattle.std.proofs.lemmas.Map.Views.{lookup-from_Contains}
 use Rattle.std.proofs.lemmas.List.Elements.{All-contains, All-filter, Contains-append_left, Contains-append_right, Contains-append_cases}
+use Rattle.std.proofs.lemmas.Bool.{cases_Bool, not-true, not_from_false}
 use Rattle.et_base.proofs.Lists.{Contains-none, Contains-here, Contains-there, Contains-cons, filter_kept, filter_keeps, has_contains, contains_has}
+use Rattle.et_base.proofs.Tests.{cases_eqb, bool_same}
 use Rattle.et_graph.specs.Graph.{Graph, Decides, IsReached}
 use Rattle.et_graph.proofs.Walks.{leads_itself, leads_first, reached_on, root_reached, reached_all}
 use Rattle.et_replay.specs.declared.item.Item.{Item}
@@ -17,11 +19,11 @@ use Rattle.et_replay.specs.Fed.{AreFed}
 use Rattle.et_replay.specs.Heap.{size_in, is_made, is_live, ends_life, bytes}
 use Rattle.et_replay.specs.Tally.{Counted, Reference, is_among, live_of, targets_of, searched_from, is_on_cycle, unfreed, left_with, settled}
 use Rattle.et_replay.proofs.ByKey.{filter_same}
-use Rattle.et_replay.proofs.Coming.{in_range}
+use Rattle.et_replay.proofs.Coming.{in_range, not_both}
 use Rattle.et_refcount.specs.Objects.{Slots, Tables, held_at, flag_at, count_at, slots_at, target_at, all_hits, weight, KeepsItself, IsFreeing}
 use Rattle.et_refcount.specs.Counts.{AgreesWith}
 use Rattle.et_refcount.proofs.Cycles.{last_step, cycle_from}
-use Rattle.et_refcount.proofs.Hits.{cases_eqb, cases_bool, not_both, left_of, hits_entry, all_entry}
+use Rattle.et_refcount.proofs.Hits.{left_of, hits_entry, all_entry}
 use Rattle.et_refcount.proofs.Weighing.{weight_is_sum, filter_distinct}
 
 abbrev pair_of : Reference → ℕ × ℕ
@@ -95,12 +97,6 @@ of_target (r ∷ refs) u x c = elim (cases_eqb r.0 u) [
 
 -- WHAT IS HELD
 
-pub bool_same : (a b : Bool) → (a ≡ true → b ≡ true) → (b ≡ true → a ≡ true) → a ≡ b
-bool_same true true f g = refl
-bool_same false false f g = refl
-bool_same true false f g = sym (f refl)
-bool_same false true f g = g refl
-
 made_some : (past : List Item) (o : ℕ) → is_made past o ≡ true → (z : ℕ) × (size_in past o ≡ Some z)
 made_some past o m = some (size_in past o) m
   where
@@ -140,14 +136,6 @@ live_flag t n past c o fed a k =
     let m = All-contains (λ p. is_made past p ≡ true) c.heap.space o a.made k in
     let le = (in_range n past o fed m).1 in
     ap (λ (b : Bool). b && not (list_any (ends_life o) past)) m ∙ ap not (sym (a.dead_is o le))
-
-not_true : (b : Bool) → not b ≡ true → b ≡ false
-not_true true e = absurd cc
-not_true false e = refl
-
-not_false : (b : Bool) → b ≡ false → not b ≡ true
-not_false true e = absurd cc
-not_false false e = refl
 
 -- the test and a proof that it decides, the tables before and after, and what the definition has before
 module _ (reached : Graph → ℕ → Bool) (decides : Decides reached) (start t : Tables) (n : ℕ) (past : List Item) (c : Counted) (freed : ℕ) (fed : AreFed n past) (a : AgreesWith start n past c) (i : IsFreeing start t [] freed) where
@@ -196,7 +184,7 @@ module _ (reached : Graph → ℕ → Bool) (decides : Decides reached) (start t
     | inl e ↦
         let root : Contains g.roots o = subst (λ (k : ℕ). Contains g.roots k) e r.1 in
         elim (Contains-append_cases (live_of past space) (filter (is_on_cycle reached refs) space) o root) [
-          | inl l ↦ (let f = filter_kept (is_live past) space o l in inl (not_true (flag_at start.dead o) (sym (live_flag start n past c o fed a f.0) ∙ f.1)))
+          | inl l ↦ (let f = filter_kept (is_live past) space o l in inl (not-true (flag_at start.dead o) (sym (live_flag start n past c o fed a f.0) ∙ f.1)))
           | inr l ↦ cycle_held o r (filter_kept (is_on_cycle reached refs) space o l).1
         ]
     | inr q ↦ held_by q.0 o (r.0, r.1, q.1) q.2
@@ -229,9 +217,9 @@ module _ (reached : Graph → ℕ → Bool) (decides : Decides reached) (start t
 
   referred : (o : ℕ) → IsBad o → (u : ℕ) × IsBad u × Contains g.pairs (u, o)
   referred o b =
-      let died : flag_at t.dead o ≡ true = elim (cases_bool (flag_at start.dead o)) [
+      let died : flag_at t.dead o ≡ true = elim (cases_Bool (flag_at start.dead o)) [
         | inl d ↦ subst (λ (l : List Bool). flag_at l o ≡ true) (sym i.dead_is) d
-        | inr d ↦ not_both (reached g o) ((decides g o).1 (root_reached g o (Contains-append_left (live_of past space) (filter (is_on_cycle reached refs) space) o (filter_keeps (is_live past) space o b.among (live_flag start n past c o fed a b.among ∙ not_false (flag_at start.dead o) d))))) b.out
+        | inr d ↦ not_both (reached g o) ((decides g o).1 (root_reached g o (Contains-append_left (live_of past space) (filter (is_on_cycle reached refs) space) o (filter_keeps (is_live past) space o b.among (live_flag start n past c o fed a b.among ∙ not_from_false (flag_at start.dead o) d))))) b.out
       ] in
       let counted : count_at t.counts o ≢ 0 = λ z. Contains-none o (i.all o b.held (left_of t.dead t.counts o died z)) in
       let many : 1 ≤ all_hits t.slots o = subst (λ (k : ℕ). 1 ≤ k) (i.tables.counted o) (positive (count_at t.counts o) counted) in
@@ -249,7 +237,7 @@ module _ (reached : Graph → ℕ → Bool) (decides : Decides reached) (start t
               record {
                 among = k;
                 held = ap (λ (x : Option ℕ). is_some x) before.0 ∙ held_some start n past c u.0 a k;
-                out = elim (cases_bool (reached g u.0)) [
+                out = elim (cases_Bool (reached g u.0)) [
                   | inl e ↦ not_both (reached g o) ((decides g o).1 (reached_next u.0 o ((decides g u.0).0 e) p)) b.out
                   | inr e ↦ e
                 ];
@@ -261,7 +249,7 @@ module _ (reached : Graph → ℕ → Bool) (decides : Decides reached) (start t
 
   -- .. and nothing else stays
   only : (o : ℕ) → Contains space o → is_held o ≡ true → reached g o ≡ true
-  only o k h = elim (cases_bool (reached g o)) [
+  only o k h = elim (cases_Bool (reached g o)) [
     | inl e ↦ e
     | inr e ↦
         let bad : IsBad o = record { among = k; held = h; out = e } in
@@ -289,7 +277,7 @@ module _ (reached : Graph → ℕ → Bool) (decides : Decides reached) (start t
   before_held o h = elim (i.each o) [ inl b ↦ b | inr f ↦ some_not (held_at t.places o) h f.0 ]
 
   held_now : (o : ℕ) → held_at t.places o ≡ cond (is_among (filter is_held space) o) (size_in past o) None
-  held_now o = elim (cases_bool (is_held o)) [
+  held_now o = elim (cases_Bool (is_held o)) [
     | inl h ↦
         let b = before_held o h in
         let k = held_among start n past c o a (ap (λ (x : Option ℕ). is_some x) (sym b.0) ∙ h) in

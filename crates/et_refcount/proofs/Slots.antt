@@ -12,10 +12,12 @@ use Rattle.std.proofs.Math.ListN.{set, length-set}
 use Rattle.std.proofs.lemmas.List.{get_or-set_same, get_or-set_other, get_or-map, length-map, map-set}
 use Rattle.std.proofs.lemmas.List.Sums.{get_or-le-sum_by, sum_by-set}
 use Rattle.std.proofs.lemmas.Map.Entries.{sum_by-insert_entry}
+use Rattle.std.proofs.lemmas.Bool.{cases_lt}
+use Rattle.et_base.proofs.Tests.{cases_eqb}
 use Rattle.et_refcount.specs.declared.objects.Place.TheVariants.{Gone}
 use Rattle.et_refcount.specs.Objects.{Slots, Tables, slots_of, held_at, count_at, slots_at, target_at, is_target, hits, all_hits, added, dropped, left_by, Released, FreesOne, AreCounted, WritesReference}
 use Rattle.et_refcount.proofs.Freeing.{held_within}
-use Rattle.et_refcount.proofs.Hits.{cases_eqb, below_or, hits_found, target_yes, target_no}
+use Rattle.et_refcount.proofs.Hits.{hits_found, target_yes, target_no}
 use Rattle.et_refcount.proofs.Releasing.{counted_within}
 
 -- the slots of an object in the table of maps
@@ -29,7 +31,7 @@ maps_long t maps a e = sym (length-map maps (λ (k : BTreeMap ℕ ℕ). k.entrie
 pub same_slot : (a b : ℕ) → is_at (nat_cmp a) b ≡ eqb a b
 same_slot a b = elim (cases_eqb a b) [
   | inl e ↦ ap is_eq (sym (nat_cmp_is a b Equal e.1)) ∙ sym e.0
-  | inr e ↦ elim (below_or a b) [
+  | inr e ↦ elim (cases_lt a b) [
     | inl lt ↦ ap is_eq (sym (nat_cmp_is a b Less lt)) ∙ sym e.0
     | inr ge ↦ (let ne = e.1 in let gt : b < a = apart a b ge ne in ap is_eq (sym (nat_cmp_is a b Greater gt)) ∙ sym e.0)
   ]
@@ -158,7 +160,7 @@ wrote t maps object slot new old m m' counts counts' a slots in_places new_in at
       here = λ s. ap (λ (l : Slots). target_at l s) here ∙ (updates s ∙ (ap (λ (b : Bool). cond b (Some new) (target_at m.entries s)) (same_slot slot s) ∙ ap (λ (l : Slots). cond (eqb slot s) (Some new) (target_at l s)) (sym own)));
       there = λ o ne. ap (λ (l : List Slots). slots_at l o) after ∙ get_or-set_other t.slots object o m'.entries [] ne;
       sorted = subst (λ (l : Slots). IsStrictlySortedBy nat_cmp (keys_of l)) (sym here) sorted';
-      counts_low = λ o z. elim (below_or 0 (was_target o old)) [
+      counts_low = λ o z. elim (cases_lt 0 (was_target o old)) [
         | inl one ↦ inr (only_old o old (omega (arith, one)))
         | inr none ↦ (let c = count o in inl (omega (arith, c, z, none)))
       ];

@@ -1,15 +1,15 @@
 -- A heap with reference counts accounts for all items as its policy does.
-use Rattle.std.proofs.Common.{◌≡◌, ℕ, zero, suc, ◌+◌, ◌-◌, ◌^◌, ◌<◌, ◌≤◌, Bool, true, false, cond, not, leb, List, [], ◌∷◌, length, get_or, replicate, Option, Some, refl, sym, ap, subst, ◌∙◌, arith, inl, inr}
-use Rattle.std.specs.Prelude.{is_some, unwrap_or, nat_eq, Result, Ok, Err, OnOk}
+use Rattle.std.proofs.Common.{◌≡◌, ℕ, zero, suc, ◌+◌, ◌-◌, ◌^◌, ◌<◌, ◌≤◌, Bool, true, false, cond, not, List, [], ◌∷◌, replicate, Option, Some, refl, sym, ap, subst, ◌∙◌, arith, inl, inr}
+use Rattle.std.specs.Prelude.{is_some, unwrap_or, nat_eq}
 use Rattle.std.specs.List.{IsDistinct}
 use Rattle.std.specs.List.Sorted.{IsStrictlySortedBy}
 use Rattle.std.specs.Map.{keys_of}
 use Rattle.std.specs.Ordering.{nat_cmp}
 use Rattle.std.proofs.Math.ListN.{set}
-use Rattle.std.proofs.lemmas.Bool.{cond-false, cond-true, le-leb, lt-leb}
-use Rattle.std.proofs.lemmas.List.{get_or_past, get_or-replicate, length-replicate}
+use Rattle.std.proofs.lemmas.Bool.{cond-false, cond-true, le-leb, lt-leb, cases_Bool}
+use Rattle.std.proofs.lemmas.List.{length-replicate}
 use Rattle.std.proofs.lemmas.List.Filters.{sum_by-filter_both}
-use Rattle.et_base.proofs.Lists.{Contains-none}
+use Rattle.et_base.proofs.Lists.{Contains-none, all_same}
 use Rattle.et_graph.specs.Graph.{Graph, Decides}
 use Rattle.et_graph.proofs.Walks.{is_reached, is_reached_decides}
 use Rattle.et_replay.specs.declared.item.Item.{Item}
@@ -21,18 +21,14 @@ use Rattle.et_replay.specs.declared.model.Report.{Report}
 use Rattle.et_replay.specs.Feeding.{MayCome, HasItemRoom}
 use Rattle.et_replay.specs.Heap.{size_in, is_live, bytes}
 use Rattle.et_replay.specs.Tally.{Heap, Counted, empty_counted, fits_capacity, exhaust, live_of, dead_of, unfreed, settled, entered, counted_on, counted_after, heap_by, heap_after, tally, is_exhausted}
-use Rattle.et_replay.proofs.Coming.{all_low}
+use Rattle.et_replay.proofs.Coming.{all_low, not_both}
 use Rattle.et_refcount.specs.declared.objects.Place.{Place}
 use Rattle.et_refcount.specs.declared.objects.Place.TheVariants.{Unmade}
 use Rattle.et_refcount.specs.Objects.{Tables, Slots, size_of, is_not_unmade, held_at, flag_at, slots_at, target_at, hits, all_hits, weight, is_left, empty_tables, IsFreeing}
 use Rattle.et_refcount.specs.Counts.{View, AgreesWith, IsReady, IsCountedHeap, Settles, TakesItem, WritesTo, Accounts, placed, left_out, ended, opened, account_of}
-use Rattle.et_refcount.proofs.Hits.{cases_bool, not_both, below_or, all-cons}
+use Rattle.et_refcount.proofs.Hits.{all-cons}
 use Rattle.et_refcount.proofs.Noting.{left_out_stands, placed_ready, ended_ready, written_ready}
 use Rattle.et_refcount.proofs.Settling.{empty_sorted, weight_is, agrees_settled, live_stays, bytes_settled}
-
-pub on_ok : {A E : Type 0} (P Q : Type 0) (r : Result A E) → (P → Q) → OnOk r P → OnOk r Q
-on_ok P Q (Ok x) f p = f p
-on_ok P Q (Err e) f p = tt
 
 -- WHAT FITS
 
@@ -103,7 +99,7 @@ settles v t object freed i = record {
         };
         leaked_is = omega (arith, all, live, part, b, l);
         kept_is = omega (arith, part);
-        none = λ x h. elim (cases_bool (is_left t.dead t.counts x)) [ inl e ↦ absurd (Contains-none x (i.all x h e)) | inr e ↦ e ];
+        none = λ x h. elim (cases_Bool (is_left t.dead t.counts x)) [ inl e ↦ absurd (Contains-none x (i.all x h e)) | inr e ↦ e ];
       });
 }
 
@@ -201,9 +197,6 @@ may_move v n n' past past' c c' (Write event object slot new) h h' m = m
 may_move v n n' past past' c c' (Death object time) h h' m = m
 
 -- AT FIRST
-
-all_same : {A : Type 0} (n o : ℕ) (x : A) → get_or (replicate n x) o x ≡ x
-all_same {A} n o x = elim (below_or o n) [ inl lt ↦ get_or-replicate n o x x lt | inr ge ↦ get_or_past (replicate n x) o x (let long : length (replicate n x) ≡ n = length-replicate n x in omega (arith, long, ge)) ]
 
 nothing : (x : ℕ) (s t : ℕ) (n : ℕ) → target_at (slots_at (replicate n []) x) s ≡ Some t → ⊥
 nothing x s t n e = none (subst (λ (m : Slots). target_at m s ≡ Some t) (all_same n x []) e)

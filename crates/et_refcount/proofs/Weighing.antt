@@ -5,11 +5,13 @@ use Rattle.std.specs.List.{sum_by, AllByRecursion, IsDistinct}
 use Rattle.std.proofs.Math.ListN.{set}
 use Rattle.std.proofs.lemmas.List.{get_or_past, get_or-set_same, get_or-set_other}
 use Rattle.std.proofs.lemmas.List.Sums.{sum_by-cons, sum_by-set}
+use Rattle.std.proofs.lemmas.Bool.{cases_lt}
+use Rattle.et_replay.proofs.Coming.{not_both}
 use Rattle.et_base.proofs.Lists.{Contains-none, Contains-here, Contains-there, Contains-cons}
+use Rattle.et_base.proofs.Tests.{cases_eqb}
 use Rattle.et_refcount.specs.declared.objects.Place.{Place}
 use Rattle.et_refcount.specs.declared.objects.Place.TheVariants.{Unmade, Gone}
 use Rattle.et_refcount.specs.Objects.{size_of, held_at, weight_of, weight}
-use Rattle.et_refcount.proofs.Hits.{cases_eqb, below_or, not_both}
 
 -- the first of distinct numbers isn't among the others
 pub first_apart : (x : ℕ) (xs : List ℕ) → IsDistinct eqb (x ∷ xs) → (y : ℕ) → Contains xs y → y ≢ x
@@ -50,7 +52,7 @@ pub weight_is_sum : (f : ℕ → ℕ) (xs : List ℕ) (places : List Place) → 
 weight_is_sum f [] places d is none = weight_none places (λ o. none o (λ c. Contains-none o c))
 weight_is_sum f (x ∷ xs) places d is none =
     let here = is x (Contains-here x xs) in
-    let lt : x < length places = elim (below_or x (length places)) [ inl lt ↦ lt | inr ge ↦ absurd (some_none (f x) (sym here ∙ ap (λ (p : Place). size_of p) (get_or_past places x Unmade ge))) ] in
+    let lt : x < length places = elim (cases_lt x (length places)) [ inl lt ↦ lt | inr ge ↦ absurd (some_none (f x) (sym here ∙ ap (λ (p : Place). size_of p) (get_or_past places x Unmade ge))) ] in
     let places' = set places x Gone in
     let there : (o : ℕ) → o ≢ x → held_at places' o ≡ held_at places o = λ o ne. ap (λ (p : Place). size_of p) (get_or-set_other places x o Gone Unmade ne) in
     let rest = weight_is_sum f xs places' (rest_distinct x xs d)

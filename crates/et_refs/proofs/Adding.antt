@@ -3,17 +3,18 @@ use Rattle.std.proofs.Common.{◌≡◌, ℕ, zero, suc, ◌+◌, ◌-◌, ◌<�
 use Rattle.std.specs.Prelude.{ℤ}
 use Rattle.std.proofs.lemmas.Bool.{cases_eq}
 use Rattle.std.proofs.lemmas.List.Elements.{Contains-append_left, Contains-append_right}
+use Rattle.et_state.proofs.Numbered.{in_range}
 use Rattle.et_base.specs.declared.value.Value.{Value}
 use Rattle.et_base.specs.declared.value.Value.TheVariants.{Ref}
 use Rattle.et_graph.specs.Graph.{IsReached}
-use Rattle.et_base.proofs.Lists.{Contains-none, Contains-here, Contains-cons}
+use Rattle.et_base.proofs.Lists.{Contains-here, Contains-one}
 use Rattle.et_heap.specs.Objects.{IsHeld}
 use Rattle.et_heap.specs.Refs.{refs_of}
 use Rattle.et_state.specs.Threads.{FrameState}
 use Rattle.et_state.specs.ThreadRoots.{frame_roots}
 use Rattle.et_state.specs.State.{GuestState, Kept, MachineState, kept_of}
 use Rattle.et_state.specs.Words.{top, with_top, HasFrame, begun, steps_top, ticked}
-use Rattle.et_state.specs.Roots.{roots_of, graph_of, numbers_from}
+use Rattle.et_state.specs.Roots.{roots_of, graph_of}
 use Rattle.et_state.specs.Sound.{IsSound}
 use Rattle.et_state.specs.Moves.{IsOnWay, Led}
 use Rattle.et_state.proofs.Calls.{on_begin_event}
@@ -40,13 +41,6 @@ use Rattle.et_refs.proofs.Legal.{arrays_legal}
 has_frame_on : (g g' : GuestState) (t : ℕ) → g' ≡ g → HasFrame g t → HasFrame g' t
 has_frame_on g g' t e has = subst (λ (h : GuestState). HasFrame h t) (sym e) has
 
-in_range : (k n o : ℕ) → Contains (numbers_from k n) o → (k ≤ o) × (o < k + n)
-in_range k zero o c = absurd (Contains-none o c)
-in_range k (suc n) o c = elim (Contains-cons k (numbers_from (k + 1) n) o c) [
-  | inl e ↦ (omega arith, omega arith)
-  | inr d ↦ let h = in_range (k + 1) n o d in let low = h.0 in let high = h.1 in (omega arith, omega arith)
-]
-
 -- each object from k on is reached, where k is and each other one is tied
 reached_from : (s : Kept) (k fuel o : ℕ) → IsReached (graph_of s) k → ((u : ℕ) → k < u → u < length s.heap → IsTied s.heap k u) → o < fuel → k ≤ o → o < length s.heap → IsReached (graph_of s) o
 reached_from s k zero o first tied lt low high = absurd (omega arith)
@@ -60,9 +54,6 @@ reached_from s k (suc fuel) o first tied lt low high = elim (cases_eq o k) [
   where
     above : (o k : ℕ) → k ≤ o → (o ≡ k → ⊥) → k < o
     above o k low ne = omega arith
-
-only_first : (n o : ℕ) → Contains (n ∷ []) o → n ≡ o
-only_first n o z = elim (Contains-cons n [] o z) [ inl same ↦ same | inr d ↦ absurd (Contains-none o d) ]
 
 operand_first : (f : FrameState) (o n next : ℕ) → Contains (frame_roots (replaced n (Ref o ∷ []) next f)) o
 operand_first f o n next = Contains-append_right (refs_of f.locals) _ o (Contains-append_left (refs_of (Ref o ∷ drop n f.operands)) _ o (Contains-here o _))
@@ -82,7 +73,7 @@ added_led m m₃ t count next x sound has made is₃ =
     let guest : n.guest ≡ ticked m.guest = made.guest in
     let on : HasFrame n.guest t = has_frame_on (ticked m.guest) n.guest t guest (record { thread = has.thread; frame = has.frame }) in
     let same : f ≡ top m.guest t = ap (λ (g : GuestState). top g t) guest in
-    let one : (o : ℕ) → Contains (o₁ ∷ []) o → IsHeld n.heap o = λ o z. subst (λ (k : ℕ). IsHeld n.heap k) (only_first o₁ o z) made.first in
+    let one : (o : ℕ) → Contains (o₁ ∷ []) o → IsHeld n.heap o = λ o z. subst (λ (k : ℕ). IsHeld n.heap k) (Contains-one o₁ o z) made.first in
     let there = λ (o : ℕ) (z : Contains (frame_roots f) o). root_there s (kept_of n) o (top_root m.guest t o has (subst (λ (g : FrameState). Contains (frame_roots g) o) same z)) in
     let way : IsOnWay s m₃ =
     did_on_way s n t (replaced count (Ref o₁ ∷ []) next f) (refs_of (take count f.operands)) m₃ made.way on

@@ -5,7 +5,7 @@ use Rattle.std.proofs.lemmas.List.{length_push}
 use Rattle.std.proofs.lemmas.List.Elements.{Contains-append_left, Contains-append_right}
 use Rattle.et_base.specs.declared.value.Value.{Value}
 use Rattle.et_base.specs.declared.value.Value.TheVariants.{Unset, Int, Long, LongHigh, Null, Ref}
-use Rattle.et_base.proofs.Lists.{Contains-none, Contains-here, Contains-cons}
+use Rattle.et_base.proofs.Lists.{Contains-none, Contains-here, Contains-one}
 use Rattle.et_heap.specs.Objects.{ObjectState, IsHeld, new_object, has_room}
 use Rattle.et_heap.specs.Refs.{refs_of_value, refs_of}
 use Rattle.et_heap.proofs.HeapLists.{held_within}
@@ -156,9 +156,6 @@ write_steps p t at m m₃ d out out₂ out₃ c x has done may r₂ did =
       records = did.1 p s k refl ∙ (ap (λ (l : List Record). (updated e 0 x.slot old x.value (record { state = k; records = l })).records) r₂ ∙ updated_behind e 0 x.slot old x.value k out d.records);
     }
 
-pub only_newest : (n o : ℕ) → Contains (n ∷ []) o → n ≡ o
-only_newest n o z = elim (Contains-cons n [] o z) [ inl same ↦ same | inr d ↦ absurd (Contains-none o d) ]
-
 pub operand_first : (f : FrameState) (o next : ℕ) → Contains (frame_roots (replaced 0 (Ref o ∷ []) next f)) o
 operand_first f o next = Contains-append_right (refs_of f.locals) _ o (Contains-append_left (refs_of (Ref o ∷ drop 0 f.operands)) _ o (Contains-here o _))
 
@@ -173,7 +170,7 @@ make_steps p t at m m₃ d out out₂ out₃ c has done r₂ did =
     let o₁ : ℕ = length d.state.heap in
     let f : FrameState = top b.guest t in
     let on : HasFrame b.guest t = has_frame_on m.guest b.guest t done.threads has in
-    let one : (o : ℕ) → Contains (o₁ ∷ []) o → IsHeld b.heap o = λ o z. subst (λ (k : ℕ). IsHeld b.heap k) (only_newest o₁ o z) (newest_held d.state.heap y) in
+    let one : (o : ℕ) → Contains (o₁ ∷ []) o → IsHeld b.heap o = λ o z. subst (λ (k : ℕ). IsHeld b.heap k) (Contains-one o₁ o z) (newest_held d.state.heap y) in
     let way : IsOnWay s m₃ =
     did_on_way s b t (replaced 0 (Ref o₁ ∷ []) at.next f) [] m₃ (on_make s n c 0 slots done.made.way) on
     (record { is = did.0; moves = moves_held (MayEnter b) (MayBeLost s b) f 0 at.next (Ref o₁ ∷ []) one (λ o z. frame_there m b t o has done.threads z) }) in

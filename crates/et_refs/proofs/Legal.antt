@@ -1,8 +1,9 @@
 -- Arrays of some dimensions are made, and all of them are in the first one.
-use Rattle.std.proofs.Common.{◌≡◌, ℕ, zero, suc, ◌+◌, ◌<◌, ◌≤◌, ◌⊎◌, List, [], ◌∷◌, ◌++◌, length, set, get_or, replicate, Option, None, Some, refl, sym, ◌∙◌, ap, subst, arith, inl, inr, Contains, get_or-set_same}
+use Rattle.std.proofs.Common.{◌≡◌, ℕ, zero, suc, ◌+◌, ◌<◌, ◌≤◌, ◌⊎◌, List, [], ◌∷◌, ◌++◌, length, set, get_or, Option, None, Some, refl, sym, ◌∙◌, ap, subst, arith, inl, inr, Contains, get_or-set_same}
 use Rattle.std.proofs.lemmas.Bool.{cases_eq}
 use Rattle.std.proofs.lemmas.List.{length_push, length-set, length-replicate, get_or-set_other, get_or_append_left, get_or_at}
 use Rattle.std.proofs.lemmas.List.Elements.{Contains-append_left, Contains-append_right, Contains-append_cases}
+use Rattle.et_heap.proofs.References.{unset_at}
 use Rattle.et_base.specs.declared.value.Value.{Value}
 use Rattle.et_base.specs.declared.value.Value.TheVariants.{Unset, Ref}
 use Rattle.et_base.proofs.Lists.{Contains-none, Contains-here, Contains-cons}
@@ -31,11 +32,6 @@ refs_stay (x ∷ xs) (suc i) v o e c = elim (Contains-append_cases (refs_of_valu
   | inr there ↦ Contains-append_right (refs_of_value x) (refs_of (set xs i v)) o (refs_stay xs i v o e there)
 ]
 
-unset_there : (n j : ℕ) → get_or (replicate n Unset) j Unset ≡ Unset
-unset_there zero j = refl
-unset_there (suc n) zero = refl
-unset_there (suc n) (suc j) = unset_there n j
-
 -- THE ARRAY k, whose elements below i are there
 record IsFilled (s : Kept) (lost : List ℕ) (d x : Doing) (n i : ℕ) : Type 0 where
   made : HasMadeArrays s lost d x
@@ -58,7 +54,7 @@ begun e c n d s lost w =
         tied = λ o low high. absurd (omega (arith, long, low, high));
       };
       slots = ap (λ (x : ObjectState). length x.slots) here ∙ length-replicate n Unset;
-      unset = λ j le. ap (λ (x : ObjectState). slot_of x j) here ∙ unset_there n j;
+      unset = λ j le. ap (λ (x : ObjectState). slot_of x j) here ∙ unset_at n j;
     }
 
 -- one element more

@@ -3,7 +3,7 @@ use Rattle.std.proofs.Common.{◌≡◌, ℕ, ◌+◌, ◌*◌, ◌<◌, ◌≤�
 use Rattle.std.proofs.lemmas.List.{length_push}
 use Rattle.et_base.specs.declared.value.Value.{Value}
 use Rattle.et_base.specs.declared.value.Value.TheVariants.{Unset, Int, Long, LongHigh, Null, Ref}
-use Rattle.et_base.proofs.Lists.{Contains-none}
+use Rattle.et_base.proofs.Lists.{Contains-none, Contains-one}
 use Rattle.et_heap.specs.Objects.{ObjectState, Objects, IsHeld, has_room, new_object, referent_of}
 use Rattle.et_heap.specs.Refs.{refs_of_value}
 use Rattle.et_state.specs.Threads.{FrameState}
@@ -29,7 +29,7 @@ use Rattle.et_refs.proofs.Leading.{moves_held}
 use Rattle.et_initialize.proofs.Beginning.{strings_led}
 use Rattle.et_initialize.proofs.Stepping.{has_frame_on, one_fits}
 use Rattle.et_refs.specs.Accesses.{replaces}
-use Rattle.et_refs.proofs.Carrying.{HasInitialized, frame_there, only_newest, operand_first}
+use Rattle.et_refs.proofs.Carrying.{HasInitialized, frame_there, operand_first}
 use Rattle.et_refs.proofs.Quiet.{begun_initialized}
 
 no_refs : (v : Value) → referent_of v ≡ None → refs_of_value v ≡ []
@@ -73,7 +73,7 @@ module _ (p : Linked) (t c slot : ℕ) (at : Site) (m : MachineState) where
     done = begun_initialized p t m sound
 
     one : (n : MachineState) → n.heap ≡ made.heap → (o : ℕ) → Contains (number ∷ []) o → IsHeld n.heap o
-    one n same o z = subst (λ (h : Objects). IsHeld h o) (sym same) (subst (λ (k : ℕ). IsHeld made.heap k) (only_newest number o z) (newest_held m.heap stream))
+    one n same o z = subst (λ (h : Objects). IsHeld h o) (sym same) (subst (λ (k : ℕ). IsHeld made.heap k) (Contains-one number o z) (newest_held m.heap stream))
 
     way : IsOnWay (kept_of m) (pushed (with_out made))
     way =

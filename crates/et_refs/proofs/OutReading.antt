@@ -1,8 +1,9 @@
 -- What a getstatic that reads System.out comes to, by what its static slot holds.
-use Rattle.std.proofs.Common.{◌≡◌, ℕ, Bool, true, false, ◌++◌, Option, Some, None, Result, Ok, refl, sym, ◌∙◌, ap, subst}
-use Rattle.std.specs.Prelude.{is_some, option_and_then, option_map, if◌then◌else◌, IsSome}
+use Rattle.std.proofs.Common.{◌≡◌, ℕ, true, false, ◌++◌, Option, Some, None, Result, Ok, refl, sym, ◌∙◌, ap, subst}
+use Rattle.std.specs.Prelude.{is_some, option_and_then, option_map, IsSome}
 use Rattle.et_base.specs.declared.value.Value.{Value}
 use Rattle.et_base.specs.declared.value.Value.TheVariants.{Unset, Int, Long, LongHigh, Null, Ref}
+use Rattle.et_base.proofs.Options.{same_by_test}
 use Rattle.et_heap.specs.Objects.{referent_of}
 use Rattle.et_state.specs.declared.stage.Turn.TheVariants.{Instruction}
 use Rattle.et_state.specs.State.{MachineState, kept_of}
@@ -31,10 +32,6 @@ use Rattle.et_refs.proofs.OutFound.{found_exactly, out_found}
 use Rattle.et_refs.proofs.OutPlaces.{out_at_place}
 
 -- WHAT IS FOUND at the place, where the turn reads it
-
-same_slot : (b : Bool) (s k : ℕ) → Some k ≡ (if b then Some s else None) → k ≡ s
-same_slot true s k h = cc
-same_slot false s k h = cc
 
 same_site : (at : Site) (f : Option ℕ) (x : OutRead) → option_map (λ (k : ℕ). let y : OutRead = record { at = at; field = k } in y) f ≡ Some x → x.at ≡ at
 same_site at None x h = cc
@@ -68,7 +65,7 @@ module _ (p : Linked) (m : MachineState) (t : ℕ) (place : Place) (turn : turn_
     row_is : out_row e x ≡ out_read e at y.read.slot v (begins e)
     row_is =
         let slot : (field_at p x.field).slot ≡ y.read.slot =
-        same_slot (is_out_class e y.class) y.read.slot (field_at p x.field).slot (ap (option_map (λ (o : OutRead). (field_at p o.field).slot)) (sym here_is) ∙ out_found e at (Ok y) h) in
+        same_by_test (is_out_class e y.class) y.read.slot (field_at p x.field).slot (ap (option_map (λ (o : OutRead). (field_at p o.field).slot)) (sym here_is) ∙ out_found e at (Ok y) h) in
         let site : x.at ≡ at = same_site at (option_and_then (out_of e) (option_and_then (field_read e) (site_member at))) x here_is in
         ap (λ (k : ℕ). out_read e x.at k (static_at m.guest k) (begins e)) slot ∙ ap (λ (a : Site). out_read e a y.read.slot v (begins e)) site
 

@@ -1,7 +1,6 @@
 -- What stands in a slot, of which class an object is, and which field a name means.
-use Rattle.std.proofs.Common.{◌≡◌, ℕ, suc, ◌+◌, ◌<◌, Bool, true, false, cond, List, [], ◌∷◌, length, get_or, Option, None, Some, IfSome, IfOk, refl, subst, arith, Contains}
-use Rattle.std.specs.List.{position_from}
-use Rattle.std.specs.Option.{ok_or, option_or}
+use Rattle.std.proofs.Common.{◌≡◌, ℕ, ◌<◌, true, List, [], ◌∷◌, length, get_or, Option, None, Some, IfSome, IfOk, refl, subst, arith, Contains}
+use Rattle.std.specs.Option.{ok_or}
 use Rattle.std.specs.Str.{bytes_eq}
 use Rattle.std.specs.Prelude.{◌&&◌, ◌==◌}
 use Rattle.std.proofs.lemmas.Bool.{and_parts}
@@ -9,6 +8,8 @@ use Rattle.std.proofs.lemmas.Slice.Eq.{bytes_eq-Decides}
 use Rattle.et_base.specs.declared.value.Value.{Value}
 use Rattle.et_base.specs.declared.value.Value.TheVariants.{Unset, Int, Long, LongHigh, Null, Ref}
 use Rattle.et_base.proofs.Lists.{Contains-none}
+use Rattle.et_base.proofs.Options.{either_holds}
+use Rattle.et_base.proofs.Positions.{Passes, position_passes}
 use Rattle.et_heap.specs.Objects.{ObjectState, Objects, IsHeld, at, found, is_there, object_at}
 use Rattle.et_heap.specs.Refs.{refs_of_value}
 use Rattle.et_program.specs.declared.info.FieldInfo.{FieldInfo}
@@ -116,22 +117,6 @@ no_reference_there kind v (Ref x) h k old = absurd (no_such kind v x h k old)
 
 -- FIELDS: what resolution finds has the descriptor that was asked for
 
-abbrev Passes : {X : Type 0} → (X → Bool) → X → ℕ → List X → ℕ → Type 0
-Passes t d i xs j = (k : ℕ) × (j ≡ i + k) × (t (get_or xs k d) ≡ true)
-
-shifted : {X : Type 0} (t : X → Bool) (d : X) (i : ℕ) (x : X) (xs : List X) (o : Option ℕ) → IfSome o (Passes t d (i + 1) xs) → IfSome o (Passes t d i (x ∷ xs))
-shifted t d i x xs None h = tt
-shifted t d i x xs (Some j) h = let e : j ≡ i + 1 + h.0 = h.1 in (suc h.0, omega arith, h.2)
-
-by_test : {X : Type 0} (t : X → Bool) (d : X) (i : ℕ) (x : X) (xs : List X) (b : Bool) → t x ≡ b → IfSome (position_from t (i + 1) xs) (Passes t d (i + 1) xs)
-    → IfSome (cond b (Some i) (position_from t (i + 1) xs)) (Passes t d i (x ∷ xs))
-by_test t d i x xs true e h = (0, omega arith, e)
-by_test t d i x xs false e h = shifted t d i x xs (position_from t (i + 1) xs) h
-
-position_passes : {X : Type 0} (t : X → Bool) (d : X) (i : ℕ) (xs : List X) → IfSome (position_from t i xs) (Passes t d i xs)
-position_passes t d i [] = tt
-position_passes t d i (x ∷ xs) = by_test t d i x xs (t x) refl (position_passes t d (i + 1) xs)
-
 described : (f : FieldInfo) (name descriptor : List ℕ) (c : ℕ) → is_field name descriptor c f ≡ true → f.descriptor ≡ descriptor
 described f name descriptor c e =
     let rest = (and_parts (f.class == c) (bytes_eq f.name name && bytes_eq f.descriptor descriptor) e).1 in
@@ -141,16 +126,12 @@ described f name descriptor c e =
 found_in : (p : Linked) (name descriptor : List ℕ) (c : ℕ) (o : Option ℕ) → IfSome o (Passes (is_field name descriptor c) no_field 0 p.fields) → IfSome o (λ f. (field_at p f).descriptor ≡ descriptor)
 found_in p name descriptor c None h = tt
 found_in p name descriptor c (Some f) h =
-    let same : h.0 ≡ f = omega (arith, h.1) in
-    described (field_at p f) name descriptor c (subst (λ (k : ℕ). is_field name descriptor c (get_or p.fields k no_field) ≡ true) same h.2)
-
-either : (P : ℕ → Type 0) (a b : Option ℕ) → IfSome a P → IfSome b P → IfSome (option_or a b) P
-either P None b h i = i
-either P (Some x) b h i = h
+    let same : h.place ≡ f = omega (arith, h.is) in
+    described (field_at p f) name descriptor c (subst (λ (k : ℕ). is_field name descriptor c (get_or p.fields k no_field) ≡ true) same h.passes)
 
 first_found : (P : ℕ → Type 0) (member : ℕ → Option ℕ) → ((c : ℕ) → IfSome (member c) P) → (cs : List ℕ) → IfSome (first_in member cs) P
 first_found P member h [] = tt
-first_found P member h (c ∷ cs) = either P (member c) (first_in member cs) (h c) (first_found P member h cs)
+first_found P member h (c ∷ cs) = either_holds P (member c) (first_in member cs) (h c) (first_found P member h cs)
 
 as_ok : {E : Type 0} (P : ℕ → Type 0) (o : Option ℕ) (e : E) → IfSome o P → IfOk (ok_or o e) P
 as_ok P None e h = tt

@@ -2,6 +2,7 @@
 use Rattle.std.proofs.Common.{◌≡◌, ℕ, ◌<◌, Bool, true, false, List, length, Option, Some, None, unwrap_or, refl, sym, ◌∙◌, ap, subst}
 use Rattle.std.specs.Prelude.{Result, Ok, Err, IfOk, IsSome, option_map}
 use Rattle.std.specs.Option.{option_map_or}
+use Rattle.std.proofs.lemmas.Option.{same_Some}
 use Rattle.et_class.specs.Descriptors.{is_field_descriptor}
 use Rattle.et_pool.specs.Entries.{Item}
 use Rattle.et_program.specs.Entries.{Linked, field_at}
@@ -20,9 +21,6 @@ use Rattle.et_refs.proofs.Reading.{field_described}
 
 -- WHAT AN ENTRY NAMES
 
-same_answer : (a b : Result ℕ LinkError) → Some a ≡ Some b → a ≡ b
-same_answer a b e = cc
-
 -- a member that is a field, and what it means
 pub record IsFieldFound (p : Linked) (o : Option Member) (answer : Result ℕ LinkError) : Type 0 where
   pub member : Member
@@ -32,7 +30,7 @@ pub record IsFieldFound (p : Linked) (o : Option Member) (answer : Result ℕ Li
 
 pub found_field : (p : Linked) (o : Option Member) (answer : Result ℕ LinkError) → option_map_or (λ (m : Member). is_field_descriptor m.descriptor) o false ≡ true → Some answer ≡ option_map (field_of_member p) o → IsFieldFound p o answer
 found_field p None answer h e = cc
-found_field p (Some m) answer h e = record { member = m; there = refl; field = h; answered = same_answer answer (field_of_member p m) e }
+found_field p (Some m) answer h e = record { member = m; there = refl; field = h; answered = same_Some answer (field_of_member p m) e }
 
 -- there is one where there is a field
 pub field_there : (f : Member → Result ℕ LinkError) (o : Option Member) → option_map_or (λ (m : Member). is_field_descriptor m.descriptor) o false ≡ true → None ≡ option_map f o → ⊥

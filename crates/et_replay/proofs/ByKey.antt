@@ -1,12 +1,10 @@
 -- A list in order of a key is its parts of equal key, one after another.
-use Rattle.std.proofs.Common.{◌≡◌, ℕ, zero, suc, ◌<◌, ◌≤◌, Bool, true, false, eqb, ltb, List, [], ◌∷◌, ◌++◌, length, get_or, refl, sym, ap, ◌∙◌, arith, cond, ◌⊎◌, inl, inr}
+use Rattle.std.proofs.Common.{◌≡◌, ℕ, zero, suc, ◌<◌, ◌≤◌, Bool, true, false, eqb, ltb, List, [], ◌∷◌, ◌++◌, length, get_or, refl, sym, ap, ◌∙◌, arith, cond, inl, inr}
 use Rattle.std.specs.List.{filter, All}
 use Rattle.std.specs.List.Sorted.{IsNonDecreasingBy}
 use Rattle.std.proofs.lemmas.Bool.Decides.{nat_tests}
 use Rattle.std.proofs.lemmas.List.Elements.{filter-append}
-
-cases : (a b : ℕ) → (a ≤ b) ⊎ (b < a)
-cases a b = grind arith
+use Rattle.et_text.proofs.Due.{le_or_above}
 
 module _ {X : Type 0} where
   -- two tests that agree on the list
@@ -63,7 +61,7 @@ module _ {X : Type 0} (key : X → ℕ) where
   -- where the list is in order, what is below n + 1 is what is below n, and then what is n
   pub below-suc : (n : ℕ) (xs : List X) → IsNonDecreasingBy key xs → below (suc n) xs ≡ below n xs ++ equal n xs
   below-suc n [] s = refl
-  below-suc n (x ∷ xs) s = elim (cases n (key x)) [
+  below-suc n (x ∷ xs) s = elim (le_or_above n (key x)) [
     | inl le ↦
         let none = below_none n x xs s le in
         filter_same (λ y. ltb (key y) (suc n)) (λ y. eqb (key y) n) (x ∷ xs) (λ k d lt. (let low = least x xs s k d lt in test_same n (key (get_or (x ∷ xs) k d)) (omega (arith, low, le))))

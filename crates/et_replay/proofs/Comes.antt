@@ -6,12 +6,12 @@ use Rattle.std.proofs.Math.ListN.{get_or-append}
 use Rattle.std.proofs.Math.Seq.{get_or-append_seam}
 use Rattle.std.proofs.lemmas.List.{take-append-drop, take_more, take_all, reverse-append, get_or_default, drop_more}
 use Rattle.std.proofs.lemmas.List.Elements.{filter_map-append, All-append}
+use Rattle.et_base.proofs.Tests.{cases_eqb}
 use Rattle.et_replay.specs.declared.item.Item.{Item}
 use Rattle.et_replay.specs.declared.item.Item.TheVariants.{Alloc, Write, Death}
 use Rattle.et_replay.specs.Feeding.{MayCome, IsNewObject}
 use Rattle.et_replay.specs.Heap.{size_in, is_made}
 use Rattle.et_replay.specs.Items.{object_made, size_made, made_objects, sizes, MakesInOrder}
-use Rattle.et_replay.proofs.Living.{cases_eqb}
 
 -- an item more
 pub reverse_more : (items : List Item) (i : ℕ) (d : Item) → i < length items → reverse (take (i + 1) items) ≡ get_or items i d ∷ reverse (take i items)

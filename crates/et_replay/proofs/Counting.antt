@@ -5,12 +5,14 @@ use Rattle.std.specs.List.{sum_by}
 use Rattle.std.proofs.lemmas.Bool.Decides.{nat_tests}
 use Rattle.std.proofs.lemmas.List.Sums.{sum_by-cons}
 use Rattle.std.proofs.lemmas.List.Sorted.{sum_by-IsPermutation, list_any-IsPermutation, IsPermutation-reverse}
+use mathlib.Core.Bool.{and-false}
+use Rattle.std.proofs.lemmas.Bool.{and_parts, eqb-true}
 use Rattle.et_base.specs.declared.line.TraceLine.{TraceLine}
 use Rattle.et_base.specs.declared.line.TraceLine.TheVariants.{Alloc}
 use Rattle.et_text.specs.Rules.{objects, is_timely, AreFine}
 use Rattle.et_replay.specs.Curve.{tells_before, dies_before, live_size, live}
 use Rattle.et_replay.specs.Lives.{never, no_size, Sizes, born_by, died_by, size_below, sum_below}
-use Rattle.et_replay.proofs.Living.{Tells, tells, lives, follows, both_true, eqb-yes}
+use Rattle.et_replay.proofs.Living.{Tells, tells, lives, follows}
 use Rattle.et_replay.proofs.Adding.{sum_small}
 use Rattle.et_replay.proofs.Living.Tells.{Born, Died, Other}
 
@@ -38,8 +40,8 @@ size_on : (version : ℕ) (lines : List TraceLine) (e : ℕ) (past : List TraceL
     → live_size lines e line + sum_by (live_size lines e) past ≡ total (dies_before lines e) e 0 (born_by (line ∷ past))
 size_on version lines e past line (Born event thread object class size len) f ih =
     let g = follows past (Alloc event thread object class size len) f.2 in
-    let o = both_true (is_timely past event) (eqb object (objects past + 1)) g.ordered in
-    let next : object ≡ objects past + 1 = eqb-yes object (objects past + 1) o.1 in
+    let o = and_parts (is_timely past event) (eqb object (objects past + 1)) g.ordered in
+    let next : object ≡ objects past + 1 = eqb-true object (objects past + 1) o.1 in
     let h = lives version past f.0 in
     let many = h.many in
     let place : 0 + length (born_by past) + 1 ≡ object = omega (arith, many, next) in
@@ -53,10 +55,6 @@ size_on version lines e past line (Other other s) f ih =
 size_sum : (version : ℕ) (lines : List TraceLine) (e : ℕ) (past : List TraceLine) → AreFine version past → sum_by (live_size lines e) past ≡ total (dies_before lines e) e 0 (born_by past)
 size_sum version lines e [] f = refl
 size_sum version lines e (line ∷ past) f = sum_by-cons (live_size lines e) line past ∙ size_on version lines e past line (tells line) f (size_sum version lines e past f.0)
-
-and_false : (v : Bool) → (v && false) ≡ false
-and_false true = refl
-and_false false = refl
 
 and_true : (v : Bool) → (v && true) ≡ v
 and_true true = refl
@@ -72,7 +70,7 @@ one_part true e p t g same le =
     let lt : t.0 < e = grind (arith, nat_tests) in
     let early : p.0 < e + 1 = omega (arith, lt, le) in
     let b : ltb p.0 (e + 1) ≡ true = grind (arith, nat_tests) in
-    let c : part true e p ≡ 0 = rw (and_false (leb p.0 e)) refl in
+    let c : part true e p ≡ 0 = rw (and-false (leb p.0 e)) refl in
     let d : size_below e t ≡ t.1 = rw a refl in
     let f : size_below (e + 1) p ≡ p.1 = rw b refl in
     omega (arith, c, d, f, same)

@@ -1,11 +1,12 @@
 -- The deaths of a trace, by what is kept of its objects.
-use Rattle.std.proofs.Common.{◌≡◌, ◌≢◌, ℕ, zero, suc, ◌+◌, ◌-◌, ◌*◌, ◌<◌, ◌≤◌, Bool, true, false, cond, ◌||◌, eqb, List, [], ◌∷◌, ◌++◌, length, get_or, Some, None, refl, sym, ap, subst, ◌∙◌, arith, inl, inr, append_assoc, length-append}
+use Rattle.std.proofs.Common.{◌≡◌, ◌≢◌, ℕ, zero, suc, ◌+◌, ◌-◌, ◌*◌, ◌<◌, ◌≤◌, Bool, true, false, cond, eqb, List, [], ◌∷◌, ◌++◌, length, get_or, Some, None, refl, sym, ap, subst, ◌∙◌, arith, append_assoc, length-append}
 use Rattle.std.specs.Prelude.{reverse}
 use Rattle.std.specs.List.{filter_map}
 use Rattle.std.proofs.lemmas.Bool.Decides.{nat_tests}
 use Rattle.std.proofs.lemmas.List.{append-nil, reverse-append, reverse-reverse}
 use Rattle.std.proofs.lemmas.List.Elements.{filter_map-append, filter-append}
 use Rattle.std.proofs.lemmas.List.Sorted.{list_any-IsPermutation, IsPermutation-reverse}
+use Rattle.std.proofs.lemmas.Bool.{and_parts, not-true, or_parts, leb-true, eqb-true}
 use Rattle.et_base.specs.declared.line.TraceLine.{TraceLine}
 use Rattle.et_base.specs.declared.line.TraceLine.TheVariants.{Header, Class, Method, Alloc, Update, Enter, Exit, Unwind, Flush, Death, Finish}
 use Rattle.et_text.specs.Rules.{objects, births, is_reported, is_timely, AreFine}
@@ -15,7 +16,7 @@ use Rattle.et_replay.specs.Lives.{never, no_size, Sizes, with_time, died_by}
 use Rattle.et_replay.specs.Parts.{item_event, death_of, deaths_from}
 use Rattle.et_replay.specs.Timeline.{tells_at, dies_at, death_at}
 use Rattle.et_replay.proofs.ByKey.{equal}
-use Rattle.et_replay.proofs.Living.{follows, both_true, leb-yes, eqb-yes, lives, times_push, told_after, not_true, not_or}
+use Rattle.et_replay.proofs.Living.{follows, lives, times_push, told_after}
 
 abbrev at : Sizes → ℕ → ℕ × ℕ
 at sizes i = get_or sizes i no_size
@@ -32,7 +33,7 @@ not_told_by past (Exit event thread method) e o ih h = ih h
 not_told_by past (Unwind event thread method exception) e o ih h = ih h
 not_told_by past (Flush event deaths) e o ih h = ih h
 not_told_by past (Death object time) e o ih h =
-    let p = not_or (eqb object o) (is_reported past o) h in
+    let p = or_parts (eqb object o) (is_reported past o) h in
     let rest : dies_at past e o ≡ false = ih p.1 in
     let first : eqb object o ≡ false = p.0 in
     rw first rest
@@ -61,11 +62,11 @@ told_on version past (Flush event deaths) e f h = h
 told_on version past (Death object time) e f h =
     let g = follows past (Death object time) f.2 in
     let l = lives version past f.0 in
-    let known : object ≤ objects past = leb-yes object (objects past) g.known in
+    let known : object ≤ objects past = leb-true object (objects past) g.known in
     let many = l.many in
     let as_many = l.as_many in
     let low : 1 ≤ object = (let r = f.1 in omega arith) in
-    told_died past object time e (died_by past) low (omega (arith, known, many, as_many, low)) (not_true (is_reported past object) g.new) h
+    told_died past object time e (died_by past) low (omega (arith, known, many, as_many, low)) (not-true (is_reported past object) g.new) h
 told_on version past (Finish event how) e f h = h
 
 told : (version : ℕ) (past : List TraceLine) (e : ℕ) → e ≢ never → AreFine version past → IsTold past (died_by past) e
@@ -96,7 +97,7 @@ moment_here o e t = grind (arith, nat_tests)
 
 equal_one : (o e : ℕ) (q : ℕ × ℕ) (b : Bool) → e ≢ never → eqb q.0 e ≡ b → equal item_event (2 * e + 1) (death_of o q) ≡ cond b (items.Death o e ∷ []) []
 equal_one o e q true ne h =
-    let is : q.0 ≡ e = eqb-yes q.0 e h in
+    let is : q.0 ≡ e = eqb-true q.0 e h in
     let lives_not : eqb q.0 never ≡ false = grind (arith, nat_tests) in
     let yes : eqb (item_event (items.Death o q.0)) (2 * e + 1) ≡ true = moment_here o e q.0 ∙ h in
     rw (lives_not, yes) (ap (λ (t : ℕ). items.Death o t ∷ []) is)
@@ -133,8 +134,8 @@ deaths_on version lines past (Class number name) e f ih = by_none lines past (Cl
 deaths_on version lines past (Method number class name descriptor) e f ih = by_none lines past (Method number class name descriptor) e _ refl ih
 deaths_on version lines past (Alloc event thread object class size len) e f ih =
     let g = follows past (Alloc event thread object class size len) f.2 in
-    let o = both_true (is_timely past event) (eqb object (objects past + 1)) g.ordered in
-    let next : object ≡ 0 + objects past + 1 = (let n = eqb-yes object (objects past + 1) o.1 in omega arith) in
+    let o = and_parts (is_timely past event) (eqb object (objects past + 1)) g.ordered in
+    let next : object ≡ 0 + objects past + 1 = (let n = eqb-true object (objects past + 1) o.1 in omega arith) in
     let many : suc (objects past) ≡ objects (Alloc event thread object class size len ∷ past) = (let l = length_push past event in omega (arith, l)) in
     by_line lines past (Alloc event thread object class size len) e
     ∙ (ap (λ (t : List Item). t ++ filter_map (death_at lines e) (Alloc event thread object class size len ∷ [])) ih

@@ -1,12 +1,14 @@
 -- What is kept of the objects says which bytes are live.
-use Rattle.std.proofs.Common.{◌≡◌, ◌≢◌, ℕ, ◌+◌, ◌-◌, ◌^◌, ◌<◌, ◌≤◌, Bool, true, false, cond, not, ◌&&◌, ◌||◌, eqb, ltb, leb, List, [], ◌∷◌, ◌++◌, length, get_or, Some, None, refl, sym, ap, subst, ◌∙◌, arith, inl, inr, ◌⊎◌, length-append, get_or-set_same, get_or-set_other}
+use Rattle.std.proofs.Common.{◌≡◌, ◌≢◌, ℕ, ◌+◌, ◌-◌, ◌^◌, ◌<◌, ◌≤◌, Bool, true, false, cond, not, ◌&&◌, ◌||◌, eqb, ltb, List, [], ◌∷◌, ◌++◌, length, get_or, Some, None, refl, sym, ap, subst, ◌∙◌, arith, inl, inr, ◌⊎◌, length-append, get_or-set_same, get_or-set_other}
 use Rattle.std.specs.Prelude.{slice_index}
 use Rattle.std.proofs.Math.ListN.{length-set, get_or-append}
 use Rattle.std.proofs.Math.Seq.{get_or-append_seam}
 use Rattle.std.proofs.lemmas.Bool.Decides.{nat_tests}
 use Rattle.std.proofs.lemmas.List.{get_or_past}
+use Rattle.std.proofs.lemmas.Bool.{and_parts, not-true, or_parts, leb-true, eqb-true}
 use Rattle.et_base.specs.declared.line.TraceLine.{TraceLine}
 use Rattle.et_base.specs.declared.line.TraceLine.TheVariants.{Header, Class, Method, Alloc, Update, Enter, Exit, Unwind, Flush, Death, Finish}
+use Rattle.et_base.proofs.Tests.{cases_eqb}
 use Rattle.et_text.specs.Rules.{order, unknown, twice, after, has_ended, keeps_order, is_known, keeps_lives, is_new, next_fault, births, birth, objects, is_reported, is_timely, AreFine}
 use Rattle.et_replay.specs.Curve.{tells_before, dies_before, live_size}
 use Rattle.et_replay.specs.Lives.{never, no_size, Sizes, with_time, born_with, died_with, born_by, died_by}
@@ -31,14 +33,6 @@ pub follows : (past : List TraceLine) (line : TraceLine) → next_fault past lin
 follows past line h =
     let c = chain (has_ended past) (keeps_order past line) (is_known past line) (keeps_lives past line) (is_new past line) h in
     record { ordered = c.0; known = c.1; lives = c.2; new = c.3 }
-
-pub both_true : (a b : Bool) → (a && b) ≡ true → (a ≡ true) × (b ≡ true)
-both_true true b e = (refl, e)
-both_true false b e = absurd cc
-
-pub not_true : (b : Bool) → not b ≡ true → b ≡ false
-not_true true e = absurd cc
-not_true false e = refl
 
 -- THE KINDS OF LINES: one makes an object, one tells of a death, the others say nothing of objects
 pub record SaysNothing (line : TraceLine) : Type 0 where
@@ -80,9 +74,6 @@ pub record AreLives (past : List TraceLine) (b d : Sizes) : Type 0 where
   pub times : (e o : ℕ) → e ≤ never → 1 ≤ o → ltb (at d (o - 1)).0 e ≡ dies_before past e o
   pub small : (i : ℕ) → (at b i).1 ≤ 2 ^ 30
   pub few : length b < 2 ^ 24
-
-pub cases_eqb : (a b : ℕ) → ((eqb a b ≡ true) × (a ≡ b)) ⊎ ((eqb a b ≡ false) × (a ≢ b))
-cases_eqb a b = grind (arith, nat_tests)
 
 -- one place more
 at_front : (b : Sizes) (p : ℕ × ℕ) (i : ℕ) → i < length b → at (b ++ p ∷ []) i ≡ at b i
@@ -194,14 +185,10 @@ told_after test dies object time d low lt once h o ge = elim (cases_eqb object o
       rw t.0 (ap (λ (x : ℕ × ℕ). test x.0) (set_there d (object - 1) (o - 1) time apart) ∙ h o ge)
 ]
 
-pub not_or : (a b : Bool) → (a || b) ≡ false → (a ≡ false) × (b ≡ false)
-not_or true b e = absurd cc
-not_or false b e = (refl, e)
-
 not_told_by : (past : List TraceLine) (line : TraceLine) (e o : ℕ) → Tells line → (is_reported past o ≡ false → dies_before past e o ≡ false) → is_reported (line ∷ past) o ≡ false → dies_before (line ∷ past) e o ≡ false
 not_told_by past line e o (Born event thread object class size len) ih h = ih h
 not_told_by past line e o (Died object time) ih h =
-    let p = not_or (eqb object o) (is_reported past o) h in
+    let p = or_parts (eqb object o) (is_reported past o) h in
     let rest : dies_before past e o ≡ false = ih p.1 in
     let first : eqb object o ≡ false = p.0 in
     rw first rest
@@ -240,20 +227,14 @@ lives_died past object time b d low high made once h =
       few = h.few;
     }
 
-pub leb-yes : (a b : ℕ) → leb a b ≡ true → a ≤ b
-leb-yes a b e = grind (arith, nat_tests)
-
-pub eqb-yes : (a b : ℕ) → eqb a b ≡ true → a ≡ b
-eqb-yes a b e = grind (arith, nat_tests)
-
 lives_on : (version : ℕ) (past : List TraceLine) (line : TraceLine) → Tells line → AreFine version (line ∷ past) → AreLives past (born_by past) (died_by past) → AreLives (line ∷ past) (born_by (line ∷ past)) (died_by (line ∷ past))
 lives_on version past line (Born event thread object class size len) f h =
     let g = follows past (Alloc event thread object class size len) f.2 in
-    let o = both_true (is_timely past event) (eqb object (objects past + 1)) g.ordered in
-    lives_born past event thread object class size len (born_by past) (died_by past) (eqb-yes object (objects past + 1) o.1) (let r = f.1 in omega arith) (let r = f.1 in omega arith) (let r = f.1 in omega arith) h
+    let o = and_parts (is_timely past event) (eqb object (objects past + 1)) g.ordered in
+    lives_born past event thread object class size len (born_by past) (died_by past) (eqb-true object (objects past + 1) o.1) (let r = f.1 in omega arith) (let r = f.1 in omega arith) (let r = f.1 in omega arith) h
 lives_on version past line (Died object time) f h =
     let g = follows past (Death object time) f.2 in
-    lives_died past object time (born_by past) (died_by past) (let r = f.1 in omega arith) (leb-yes object (objects past) g.known) (leb-yes (birth past object) time g.lives) (not_true (is_reported past object) g.new) h
+    lives_died past object time (born_by past) (died_by past) (let r = f.1 in omega arith) (leb-true object (objects past) g.known) (leb-true (birth past object) time g.lives) (not-true (is_reported past object) g.new) h
 lives_on version past line (Other other s) f h =
     subst (λ (b : Sizes). AreLives (other ∷ past) b (died_by (other ∷ past))) (sym (s.born (born_by past)))
     (subst (λ (d : Sizes). AreLives (other ∷ past) (born_by past) d) (sym (s.died (died_by past))) (lives_other past other (born_by past) (died_by past) s h))

@@ -13,7 +13,7 @@ use Rattle.et_base.specs.declared.line.TraceLine.{TraceLine}
 use Rattle.et_base.specs.declared.line.TraceLine.TheVariants.{Header, Class, Method, Alloc, Update, Enter, Exit, Unwind, Flush, Death, Finish}
 use Rattle.et_text.specs.Rules.{is_open, is_timely, is_before, misses_no_flush, interval, newest_flush, objects, latest, AreFine}
 use Rattle.et_replay.specs.Curve.{happens_at, curve_events}
-use Rattle.et_replay.proofs.Living.{follows, both_true, leb-yes}
+use Rattle.et_replay.proofs.Living.{follows}
 use Rattle.std.proofs.Math.Seq.{get_or-append_seam}
 use Rattle.std.proofs.Common.{length-append, cond, take}
 use Rattle.std.proofs.Common.{◌^◌}
@@ -23,6 +23,7 @@ use Rattle.std.proofs.lemmas.List.Filters.{All-dedup}
 use Rattle.std.proofs.lemmas.List.{take_more}
 use Rattle.std.specs.Ordering.{is_lt}
 use Rattle.std.specs.declared.cmp.Ordering.TheVariants.{Equal, Greater}
+use Rattle.std.proofs.lemmas.Bool.{and_parts, leb-true}
 
 tie : (b : Bool) → is_lt (cond b Equal Greater) ≡ false
 tie true = refl
@@ -36,8 +37,8 @@ second_true true true c d e = refl
 second_true true false c d e = absurd cc
 second_true false b c d e = absurd cc
 
-timely : (past : List TraceLine) (event : ℕ) → is_timely past event ≡ true → latest past ≤ event
-timely past event e = leb-yes (latest past) event (second_true (is_open past) (leb (latest past) event) (is_before (newest_flush past) event) (misses_no_flush (interval past) (newest_flush past) event) e)
+pub timely : (past : List TraceLine) (event : ℕ) → is_timely past event ≡ true → latest past ≤ event
+timely past event e = leb-true (latest past) event (second_true (is_open past) (leb (latest past) event) (is_before (newest_flush past) event) (misses_no_flush (interval past) (newest_flush past) event) e)
 
 -- what a line does to the event of the newest line
 pub data Moves (past : List TraceLine) (line : TraceLine) : Type 0 where
@@ -48,7 +49,7 @@ pub moves : (version : ℕ) (past : List TraceLine) (line : TraceLine) → AreFi
 moves version past (Header v n) f = Rests refl (omega arith)
 moves version past (Class number name) f = Rests refl (omega arith)
 moves version past (Method number class name descriptor) f = Rests refl (omega arith)
-moves version past (Alloc event thread object class size len) f = Happens event refl refl (timely past event (both_true (is_timely past event) (eqb object (objects past + 1)) (follows past (Alloc event thread object class size len) f.2).ordered).0) (let r = f.1 in omega arith)
+moves version past (Alloc event thread object class size len) f = Happens event refl refl (timely past event (and_parts (is_timely past event) (eqb object (objects past + 1)) (follows past (Alloc event thread object class size len) f.2).ordered).0) (let r = f.1 in omega arith)
 moves version past (Update event thread object slot old new) f = Happens event refl refl (timely past event (follows past (Update event thread object slot old new) f.2).ordered) (let r = f.1 in omega arith)
 moves version past (Enter event thread method receiver) f = Happens event refl refl (timely past event (follows past (Enter event thread method receiver) f.2).ordered) (let r = f.1 in omega arith)
 moves version past (Exit event thread method) f = Happens event refl refl (timely past event (follows past (Exit event thread method) f.2).ordered) (let r = f.1 in omega arith)

@@ -10,6 +10,7 @@ use Rattle.std.proofs.lemmas.Bool.Decides.{nat_tests}
 use Rattle.std.proofs.lemmas.List.{append-nil, reverse-append, reverse-reverse}
 use Rattle.std.proofs.lemmas.List.Elements.{filter_map-append, filter-append, All-push, All-append, All-cons, All-tail, All-set}
 use Rattle.std.proofs.lemmas.List.Sorted.{All-permutation, IsNonDecreasingBy-push}
+use Rattle.std.proofs.lemmas.Bool.{and_parts, leb-true, eqb-true}
 use Rattle.et_base.specs.declared.line.TraceLine.{TraceLine}
 use Rattle.et_base.specs.declared.line.TraceLine.TheVariants.{Header, Class, Method, Alloc, Update, Enter, Exit, Unwind, Flush, Death, Finish}
 use Rattle.et_text.specs.Rules.{objects, births, newest_flush, is_timely, latest, awaited, last_dead, AreFine}
@@ -21,7 +22,7 @@ use Rattle.et_replay.specs.Parts.{item_of, item_event, death_of, deaths_from}
 use Rattle.et_replay.specs.Timeline.{item_at, death_at, items_at, items_to, timeline_items}
 use Rattle.et_replay.proofs.ByKey.{below, equal, below-suc, below-all, below-zero, same_by_key, filter_swap, filter_same}
 use Rattle.et_replay.proofs.Dying.{deaths_told}
-use Rattle.et_replay.proofs.Living.{follows, both_true, leb-yes, eqb-yes, lives}
+use Rattle.et_replay.proofs.Living.{follows, lives}
 use Rattle.et_replay.proofs.Rising.{moves, Happens, Rests}
 
 -- WHAT HAPPENS AT AN EVENT
@@ -197,7 +198,7 @@ times_low version (Flush event deaths ∷ past) f = low_on (latest past) event (
 times_low version (Death object time ∷ past) f =
     let g = follows past (Death object time) f.2 in
     let c = last_true (ltb 0 (awaited past)) (ltb (last_dead past) object) (leb time (unwrap_or (newest_flush past) 0)) g.ordered in
-    let a = leb-yes time (unwrap_or (newest_flush past) 0) c in
+    let a = leb-true time (unwrap_or (newest_flush past) 0) c in
     let b = flushed_low version past f.0 in
     All-set (IsLow (latest past)) (died_by past) (object - 1) (time, (get_or (died_by past) (object - 1) no_size).1) (λ ne. omega (arith, a, b)) (times_low version past f.0)
 times_low version (Finish event how ∷ past) f = times_low version past f.0
@@ -422,8 +423,8 @@ made_on version past (Class number name) f a = made_same past (Class number name
 made_on version past (Method number class name descriptor) f a = made_same past (Method number class name descriptor) (record { no_made = refl; no_sizes = refl; as_many = refl }) a
 made_on version past (Alloc event thread object class size len) f a =
     let g = follows past (Alloc event thread object class size len) f.2 in
-    let o = both_true (is_timely past event) (eqb object (objects past + 1)) g.ordered in
-    made_more past event thread object class size len (eqb-yes object (objects past + 1) o.1) (let r = f.1 in omega arith) a
+    let o = and_parts (is_timely past event) (eqb object (objects past + 1)) g.ordered in
+    made_more past event thread object class size len (eqb-true object (objects past + 1) o.1) (let r = f.1 in omega arith) a
 made_on version past (Update event thread object slot old new) f a = made_same past (Update event thread object slot old new) (record {
   no_made = elim (eqb object 0) as (λ v. made_objects (filter_map (λ (u : TraceLine). cond v None (Some (items.Write event object slot new))) (Update event thread object slot old new ∷ [])) ≡ []) [ true ↦ refl | false ↦ refl ];
   no_sizes = elim (eqb object 0) as (λ v. sizes (filter_map (λ (u : TraceLine). cond v None (Some (items.Write event object slot new))) (Update event thread object slot old new ∷ [])) ≡ []) [ true ↦ refl | false ↦ refl ];

@@ -1,7 +1,7 @@
 -- What a flush leaves, for each test that says what is reached.
-use Rattle.std.proofs.Common.{◌≡◌, ℕ, ◌+◌, ◌*◌, ◌≤◌, length, arith, Bool, true, Result, Ok, Err, sym, ap, ◌∙◌, subst, rules}
+use Rattle.std.proofs.Common.{◌≡◌, ℕ, ◌+◌, ◌*◌, ◌≤◌, length, arith, Bool, true, Result, Ok, Err, sym, ap, ◌∙◌, subst}
 use Rattle.std.specs.Prelude.{◌↔◌, IsTrue, OnOk}
-use Rattle.et_graph.specs.Graph.{Graph, IsReached}
+use Rattle.et_history.proofs.Wholes.{is_now, now_is}
 use Rattle.et_heap.specs.Objects.{held_count}
 use Rattle.et_heap.specs.Cleared.{cleared_references}
 use Rattle.et_state.specs.Enqueuing.{flushed_heap}
@@ -15,18 +15,8 @@ use Rattle.et_state.specs.Spoken.{spoken}
 use Rattle.et_state.specs.Texts.{Texts, no_texts, texts_left}
 use Rattle.et_history.specs.Settings.{IsSoundRun, flush_visits_of, flushed_of}
 
-is_now : (b : Bool) → IsTrue b → b ≡ true
-is_now b t = search (rules, t)
-
-now_is : (b : Bool) → b ≡ true → IsTrue b
-now_is b e = search (rules, e)
-
 true_is : (b : Bool) → IsTrue b ↔ (b ≡ true)
 true_is b = (λ t. is_now b t, λ e. now_is b e)
-
--- a test of what is reached, as an equation
-pub test_is : (g : Graph) (here : ℕ → Bool) → ((o : ℕ) → IsTrue (here o) ↔ IsReached g o) → (o : ℕ) → (here o ≡ true) ↔ IsReached g o
-test_is g here h o = (λ e. (h o).0 ((true_is (here o)).1 e), λ r. (true_is (here o)).0 ((h o).1 r))
 
 pub on_ok_map : {A E : Type 0} (r : Result A E) (P Q : Type 0) → OnOk r P → (P → Q) → OnOk r Q
 on_ok_map (Ok a) P Q h go = go h

@@ -3,9 +3,10 @@ use Rattle.std.proofs.Common.{◌≡◌, ℕ, ◌+◌, ◌==◌, ◌&&◌, ◌||
 use Rattle.std.specs.Prelude.{All}
 use Rattle.std.specs.List.{list_any}
 use Rattle.std.specs.Map.{keys_of}
-use Rattle.std.proofs.lemmas.Bool.{cases_Bool, eqb-true, eq-eqb, true≢false}
+use Rattle.std.proofs.lemmas.Bool.{cases_Bool, eqb-true, eq-eqb}
 use Rattle.std.proofs.lemmas.List.Elements.{All-head, All-tail, All-weaker, filter_agree}
 use Rattle.std.proofs.lemmas.List.Folds.{list_any_more}
+use Rattle.et_loop.proofs.Dates.{true_false}
 use Rattle.et_base.proofs.Lists.{has_contains, contains_has}
 use Rattle.et_graph.specs.Graph.{AreDead, IsDead, IsReached}
 use Rattle.et_graph.specs.Listing.{death_pairs}
@@ -60,16 +61,13 @@ listed_objects : (deaths : List Death) (o : ℕ) → list_any (λ d. d.object ==
 listed_objects [] o = refl
 listed_objects (d ∷ deaths) o = ap (λ b. d.object == o || b) (listed_objects deaths o)
 
-not_both : (b : Bool) → b ≡ true → b ≡ false → ⊥
-not_both b holds fails = true≢false (sym holds ∙ fails)
-
 module _ (s : Kept) (here : ℕ → Bool) (deaths : List Death) (none : IsHeld s.heap 0 → ⊥) (dead : AreDead (graph_of s) (map (λ d. d.0) (death_pairs deaths)))
     (tells : (o : ℕ) → IsHeld s.heap o → (here o ≡ true) ↔ IsReached (graph_of s) o) where
   is_positive : (o : ℕ) → IsHeld s.heap o → 0 < o
   is_positive o held =
       elim (cases_Bool (o == 0)) [
         | inl zero ↦ absurd (none (subst (λ n. IsHeld s.heap n) (eqb-true o 0 zero) held))
-        | inr other ↦ omega (arith, λ (e : o ≡ 0). not_both (o == 0) (eq-eqb o 0 e) other)
+        | inr other ↦ omega (arith, λ (e : o ≡ 0). true_false (o == 0) (eq-eqb o 0 e) other)
       ]
 
   held_dies : (o : ℕ) → IsHeld s.heap o → (IsReached (graph_of s) o → ⊥) → IsDead (graph_of s) o
@@ -92,7 +90,7 @@ module _ (s : Kept) (here : ℕ → Bool) (deaths : List Death) (none : IsHeld s
       by true false listed goes = refl
       by false true out stays = refl
       by false false out goes =
-          absurd (not_both (list_any (λ d. d.object == o) deaths) (there_dead (held_dies o held (λ r. not_both (here o) ((tells o held).1 r) goes))) out)
+          absurd (true_false (list_any (λ d. d.object == o) deaths) (there_dead (held_dies o held (λ r. true_false (here o) ((tells o held).1 r) goes))) out)
 
   -- so these are the texts that are left
   pub left_reached : (p : Linked) → HasSoundTexts p s → texts_left (unlisted deaths) s.guest.texts ≡ texts_left here s.guest.texts

@@ -1,13 +1,13 @@
 -- The first state: the step to it, and its records.
-use Rattle.std.proofs.Common.{◌≡◌, ℕ, zero, suc, ◌+◌, ◌<◌, ◌≤◌, List, [], ◌∷◌, ◌++◌, length, Option, Some, None, refl, sym, ap, subst, arith, Contains, inl, inr}
-use Rattle.std.specs.Prelude.{All, IfSome, unwrap_or, codes, replicate, slice_index}
+use Rattle.std.proofs.Common.{◌≡◌, ℕ, zero, suc, ◌+◌, ◌<◌, ◌≤◌, List, [], ◌∷◌, ◌++◌, length, refl, sym, ap, subst, arith, Contains, inl, inr}
+use Rattle.std.specs.Prelude.{All, codes, slice_index}
 use Rattle.std.specs.Str.{bytes_eq}
 use Rattle.std.proofs.lemmas.List.Elements.{All-nil, All-cons, All-get_or}
-use Rattle.et_base.specs.declared.value.Value.TheVariants.{Unset}
+use Rattle.et_heap.proofs.References.{none_unset}
+use Rattle.et_history.proofs.programs.Starting.{or_first}
 use Rattle.et_base.proofs.Lists.{Contains-here, Contains-none, Contains-cons}
 use Rattle.et_graph.specs.Graph.{Graph, nothing_made}
 use Rattle.et_graph.specs.Steps.{Step, IsLegalStep}
-use Rattle.et_heap.specs.Refs.{refs_of}
 use Rattle.et_program.specs.Entries.{Linked, ClassEntry, no_method}
 use Rattle.et_program.specs.Members.{class_named}
 use Rattle.et_program.specs.Tables.{IsTabled}
@@ -23,12 +23,8 @@ use Rattle.et_event.specs.Start.{start_records}
 use Rattle.et_loop.specs.Kept.{IsStepTo}
 use Rattle.et_history.specs.steps.Telling.{names_of_program}
 
-no_refs : (n : ℕ) → refs_of (replicate n Unset) ≡ []
-no_refs zero = refl
-no_refs (suc n) = no_refs n
-
 graph_is : (p : Linked) → graph_of (start p) ≡ record { made = 1; roots = 1 ∷ []; pairs = []; gone = [] }
-graph_is p = ap (λ (os : List ℕ). record { made = 1; roots = 1 ∷ (os ++ []); pairs = []; gone = [] }) (no_refs (length p.statics))
+graph_is p = ap (λ (os : List ℕ). record { made = 1; roots = 1 ∷ (os ++ []); pairs = []; gone = [] }) (none_unset (length p.statics))
 
 is_one : (o : ℕ) → Contains (1 ∷ []) o → 1 ≡ o
 is_one o c = elim (Contains-cons 1 [] o c) [ inl e ↦ e | inr d ↦ absurd (Contains-none o d) ]
@@ -61,10 +57,6 @@ pub first_step : (p : Linked) → IsStepTo nothing_made (graph_of (start p)) []
 first_step p = subst (λ (g : Graph). IsStepTo nothing_made g []) (sym (graph_is p)) (1 ∷ [], first_legal)
 
 -- THE RECORDS
-
-or_first : (o : Option ℕ) (n : ℕ) → 0 < n → IfSome o (λ c. c < n) → unwrap_or o 0 < n
-or_first None n some h = some
-or_first (Some c) n some h = h
 
 pub records_named : (p : Linked) → IsTabled p → All (IsNamed (names_of_program p)) (start_records p)
 records_named p tabled =

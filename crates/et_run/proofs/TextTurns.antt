@@ -2,7 +2,9 @@
 use Rattle.std.proofs.Common.{◌≡◌, ℕ, Bool, true, false, inl, inr, List, [], length, append-nil, Option, Some, None, Result, Ok, Err, refl, sym, ◌∙◌, ap, subst}
 use Rattle.std.specs.Prelude.{◌⊎◌, if◌then◌else◌, is_some, option_and_then, option_map, unwrap_or, IfOk, IsSome}
 use Rattle.std.specs.Option.{option_or, option_map_or}
+use Rattle.et_calls.proofs.Told.{same_native}
 use Rattle.et_base.specs.declared.value.Value.{Value}
+use Rattle.et_base.proofs.Options.{is_none}
 use Rattle.et_code.specs.declared.instr.Instr.{Instr}
 use Rattle.et_code.specs.declared.instr.CodeFault.{CodeFault}
 use Rattle.et_program.specs.BuiltIns.{text_method_of}
@@ -38,7 +40,7 @@ use Rattle.et_event.specs.Table.{row_of}
 use Rattle.et_event.specs.TextRows.{said_in}
 use Rattle.et_event.specs.Told.{event_with_texts, keeping, said_by}
 use Rattle.et_event.proofs.Answering.{if_ok}
-use Rattle.et_event.proofs.Deferrals.{answered, none_deferred}
+use Rattle.et_event.proofs.Deferrals.{answered, none_deferred, not_answered}
 use Rattle.et_event.proofs.Told.{beside-table, call-blind}
 use Rattle.et_event.proofs.Beside.{texts-answered}
 use Rattle.et_run.specs.WithTexts.{text_turn}
@@ -124,27 +126,17 @@ heap_read p s t is some = mapped (λ (x : OutRead). unwrap_or (top s.guest t).me
 
 -- A CALL is of texts where its method is one of texts
 
-not_answered : (o : Outcome Kept) (method : ℕ) (m m' : MachineState) (out out' : List Record) → EventAnswers o (ends.Native method) m m' out out' → ⊥
-not_answered (outcome.Goes next records) method m m' out out' a = a
-not_answered (outcome.Waits next) method m m' out out' a = a
-not_answered (outcome.IllTyped k pc) method m m' out out' a = a
-not_answered outcome.ObjectLimit method m m' out out' a = a
-
 -- the number that an answer has
 number_in : EventEnd → ℕ → ℕ
 number_in (ends.Native m) n = m
 number_in other n = n
-
-same_number : (a b : ℕ) → ends.Native a ≡ ends.Native b → a ≡ b
-unfolding number_in
-same_number a b e = ap (λ (x : EventEnd). number_in x b) e
 
 -- where another method was called, the turn is none of texts, and nothing was changed
 pub called_other : (p : Linked) (c d : Option ℕ) (o : Outcome Kept) (method : ℕ) (m m' : MachineState) (out out' : List Record) → d ≡ None → is_of_texts p method ≡ false → DefersOrAnswers c o (ends.Native method) m m' out out'
     → (option_or (kept (is_of_texts p) c) d ≡ None) × IsSome c × (m' ≡ m) × (out' ≡ out)
 called_other p None d o method m m' out out' none is h = absurd (not_answered o method m m' out out' h)
 called_other p (Some k) d o method m m' out out' none is h =
-    let here : is_of_texts p k ≡ false = subst (λ (n : ℕ). is_of_texts p n ≡ false) (same_number method k h.0) is in
+    let here : is_of_texts p k ≡ false = subst (λ (n : ℕ). is_of_texts p n ≡ false) (same_native method k h.0) is in
     (ap (λ (b : Bool). option_or (if b then Some k else None) d) here ∙ none, refl, h.1, h.2)
 
 -- .. and else what was answered is answered for it: a method of texts, or that no call was left to others
@@ -192,10 +184,6 @@ text_there p s t =
     let e : Moment = record { program = p; before = s; thread = t } in
     text_in e (turn_of (thread_of e))
 
-not_some : (o : Option TextCall) → is_some o ≡ false → o ≡ None
-not_some None h = refl
-not_some (Some x) h = cc
-
 some_of_two : (a b : Option ℕ) → IsSome (option_or a b) → IsSome a ⊎ IsSome b
 some_of_two None b h = inr h
 some_of_two (Some m) b h = inl h
@@ -214,7 +202,7 @@ of_texts p s t h =
 of_no_texts : (p : Linked) (s : Kept) (t : ℕ) → text_turn p s t ≡ None → (text_call p s t ≡ None) × (out_turn p s t ≡ None)
 of_no_texts p s t h =
     let none = none_of_two (kept (is_of_texts p) (deferred_call p s t)) (out_method p s t) h in
-    (not_some (text_call p s t) (text_there p s t ∙ ap (λ (o : Option ℕ). is_some o) none.0), unmapped (λ (x : OutRead). unwrap_or (top s.guest t).method 0) (out_turn p s t) none.1)
+    (is_none (text_call p s t) (text_there p s t ∙ ap (λ (o : Option ℕ). is_some o) none.0), unmapped (λ (x : OutRead). unwrap_or (top s.guest t).method 0) (out_turn p s t) none.1)
 
 -- A TURN THAT IS OF NO TEXTS: what the table says of it is told of the state with texts, and nothing is printed
 module _ (p : Linked) (x : Texts) (m : MachineState) (t : ℕ) (silent_now : m.guest.texts ≡ no_texts) (none : text_turn p (kept_of m) t ≡ None) where

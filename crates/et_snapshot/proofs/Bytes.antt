@@ -3,14 +3,14 @@ use Rattle.std.proofs.Common.{◌≡◌, ◌∙◌, ℕ, ◌+◌, ◌<◌, ◌�
 use Rattle.std.specs.Prelude.{reverse, filter}
 use Rattle.std.specs.List.{sum_by, AllByRecursion}
 use Rattle.std.proofs.lemmas.List.Sums.{sum_by-cons}
+use Rattle.std.proofs.lemmas.Bool.{ne_eqb}
 use Rattle.et_base.specs.declared.line.TraceLine.{TraceLine}
 use Rattle.et_base.specs.declared.line.TraceLine.TheVariants.{Header, Class, Method, Alloc, Update, Enter, Exit, Unwind, Flush, Death, Finish}
+use Rattle.et_base.proofs.Tests.{cases_eqb}
 use Rattle.et_text.specs.Rules.{AreFine}
 use Rattle.et_replay.specs.Curve.{live}
-use Rattle.et_replay.proofs.Living.{cases_eqb}
 use Rattle.et_snapshot.specs.Snapshot.{is_of_class, size_made, bytes_made, class_bytes, live_lines}
 use Rattle.et_snapshot.specs.Heap.{Kept, HasClass}
-use Rattle.et_snapshot.proofs.Keeping.{eqb_not}
 use Rattle.et_snapshot.proofs.Classes.{fields, Numbered}
 use Rattle.et_snapshot.proofs.Telling.{is_told, body_at, made_is_live}
 
@@ -66,7 +66,7 @@ module _ (born thread object class size len : ℕ) where
   counted_never n [] h le = refl
   counted_never n (Class number name ∷ xs) h le =
       let e = h.0 in
-      counted_other (Class number name) xs 0 (ap (λ (b : Bool). cond b size 0) (eqb_not class number (λ s. omega (arith, s, e, le)))) (counted_never (n + 1) xs h.1 (omega (arith, le)))
+      counted_other (Class number name) xs 0 (ap (λ (b : Bool). cond b size 0) (ne_eqb class number (λ s. omega (arith, s, e, le)))) (counted_never (n + 1) xs h.1 (omega (arith, le)))
   counted_never n (Header v i ∷ xs) h le = counted_other (Header v i) xs 0 refl (counted_never n xs h le)
   counted_never n (Method number of name descriptor ∷ xs) h le = counted_other (Method number of name descriptor) xs 0 refl (counted_never n xs h le)
   counted_never n (Alloc event t o of s l ∷ xs) h le = counted_other (Alloc event t o of s l) xs 0 refl (counted_never n xs h le)

@@ -3,14 +3,16 @@ use Rattle.std.proofs.Common.{◌≡◌, ◌∙◌, ℕ, suc, ◌+◌, ◌-◌, 
 use Rattle.std.specs.List.{filter_map, cons_option}
 use Rattle.std.proofs.lemmas.List.{append-nil}
 use Rattle.std.proofs.lemmas.List.Elements.{filter_map-append}
+use Rattle.std.proofs.lemmas.Bool.{and_parts, eqb-true}
 use Rattle.et_base.specs.declared.line.TraceLine.{TraceLine}
 use Rattle.et_base.specs.declared.line.TraceLine.TheVariants.{Header, Class, Method, Alloc, Update, Enter, Exit, Unwind, Flush, Death, Finish}
+use Rattle.et_base.proofs.Tests.{cases_eqb}
 use Rattle.et_text.specs.Rules.{classes, is_open, AreFine}
 use Rattle.et_text.specs.Spelling.{text_field}
-use Rattle.et_replay.proofs.Living.{follows, both_true, cases_eqb}
+use Rattle.et_replay.proofs.Living.{follows}
 use Rattle.et_snapshot.specs.Snapshot.{class_name}
 use Rattle.et_snapshot.specs.Heap.{field_of}
-use Rattle.et_snapshot.proofs.Keeping.{in_order, eqb_is}
+use Rattle.et_snapshot.proofs.Keeping.{in_order}
 
 abbrev pub fields : List TraceLine → List (List ℕ)
 fields lines = filter_map field_of lines
@@ -63,7 +65,7 @@ class_line past number name is h =
 numbered_on : (version : ℕ) (past : List TraceLine) (line : TraceLine) → AreFine version (line ∷ past) → AreNumbered past → AreNumbered (line ∷ past)
 numbered_on version past (Class number name) f h =
     let g = follows past (Class number name) f.2 in
-    class_line past number name (eqb_is number (classes past + 1) (both_true (is_open past) (eqb number (classes past + 1)) g.ordered).1) h
+    class_line past number name (eqb-true number (classes past + 1) (and_parts (is_open past) (eqb number (classes past + 1)) g.ordered).1) h
 numbered_on version past (Header v i) f h = other_line past (Header v i) refl (λ n. tt) refl h
 numbered_on version past (Method number class name descriptor) f h = other_line past (Method number class name descriptor) refl (λ n. tt) refl h
 numbered_on version past (Alloc event thread object class size len) f h = other_line past (Alloc event thread object class size len) refl (λ n. tt) refl h

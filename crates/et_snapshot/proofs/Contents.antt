@@ -9,11 +9,13 @@ use Rattle.std.specs.Ordering.{nat_cmp, match_ordering}
 use Rattle.std.specs.declared.cmp.Ordering.{Ordering}
 use Rattle.std.specs.declared.cmp.Ordering.TheVariants.{Less, Equal, Greater}
 use Rattle.std.proofs.lemmas.Bool.Decides.{nat_tests}
+use Rattle.std.proofs.lemmas.Bool.{ne_eqb, eq-eqb}
 use Rattle.et_base.proofs.Lists.{Contains-none, Contains-here, Contains-there, Contains-cons, pair_from, filter_kept, filter_keeps}
 use Rattle.et_base.specs.declared.line.TraceLine.{TraceLine}
-use Rattle.et_replay.proofs.Living.{cases_eqb}
+use Rattle.et_base.proofs.Tests.{cases_eqb}
+use Rattle.et_base.proofs.Options.{some_number}
 use Rattle.et_snapshot.specs.Snapshot.{writes, put_into, content, written, is_set, slots_at}
-use Rattle.et_snapshot.proofs.Keeping.{cmp_equal, eqb_not, eqb_yes}
+use Rattle.et_snapshot.proofs.Keeping.{cmp_equal}
 
 abbrev Slots : Type 0
 Slots = List (ℕ × ℕ)
@@ -121,7 +123,7 @@ has_by Greater slot k v e es is rest =
     apart slot k v e rest gt = elim (cases_eqb slot e.0) [
       | inl a ↦
           let s = a.1 in
-          let n : eqb slot k ≡ false = eqb_not slot k (λ q. omega (arith, q, s, gt)) in
+          let n : eqb slot k ≡ false = ne_eqb slot k (λ q. omega (arith, q, s, gt)) in
           ap (λ (b : Bool). cond b (Some e.1) (hit slot (k, v) rest)) a.0 ∙ sym (ap (λ (b : Bool). cond b (Some v) (hit slot e rest)) n ∙ ap (λ (b : Bool). cond b (Some e.1) rest) a.0)
       | inr a ↦ ap (λ (b : Bool). cond b (Some e.1) (hit slot (k, v) rest)) a.0 ∙ sym (ap (λ (b : Bool). hit slot (k, v) (cond b (Some e.1) rest)) a.0)
     ]
@@ -132,8 +134,8 @@ has_put slot k v (e ∷ es) = has_by (nat_cmp k e.0) slot k v e es refl (has_put
 
 last_put : (slot : ℕ) (w : ℕ × ℕ) (before : Option ℕ) (rest : List ℕ) → last_or (hit slot w before) rest ≡ last_or before (cons_option (put_into slot w) rest)
 last_put slot w before rest = elim (cases_eqb slot w.0) [
-  | inl e ↦ ap (λ (b : Bool). last_or (cond b (Some w.1) before) rest) e.0 ∙ sym (ap (λ (b : Bool). last_or before (cons_option (cond b (Some w.1) None) rest)) (eqb_yes w.0 slot (sym e.1)))
-  | inr n ↦ ap (λ (b : Bool). last_or (cond b (Some w.1) before) rest) n.0 ∙ sym (ap (λ (b : Bool). last_or before (cons_option (cond b (Some w.1) None) rest)) (eqb_not w.0 slot (λ q. n.1 (sym q))))
+  | inl e ↦ ap (λ (b : Bool). last_or (cond b (Some w.1) before) rest) e.0 ∙ sym (ap (λ (b : Bool). last_or before (cons_option (cond b (Some w.1) None) rest)) (eq-eqb w.0 slot (sym e.1)))
+  | inr n ↦ ap (λ (b : Bool). last_or (cond b (Some w.1) before) rest) n.0 ∙ sym (ap (λ (b : Bool). last_or before (cons_option (cond b (Some w.1) None) rest)) (ne_eqb w.0 slot (λ q. n.1 (sym q))))
 ]
 
 has_from : (slot : ℕ) (ws acc : Slots) → has slot (fold put acc ws) ≡ last_or (has slot acc) (filter_map (put_into slot) ws)
@@ -155,10 +157,10 @@ listed_has slot target [] h c = absurd (Contains-none (slot, target) c)
 listed_has slot target (e ∷ es) h c = has_cons slot e es ∙ elim (Contains-cons e es (slot, target) c) [
   | inl is ↦
       let key : e.0 ≡ slot = ap (λ (p : ℕ × ℕ). p.0) is in
-      ap (λ (b : Bool). cond b (Some e.1) (has slot es)) (eqb_yes slot e.0 (sym key)) ∙ ap (λ (p : ℕ × ℕ). Some p.1) is
+      ap (λ (b : Bool). cond b (Some e.1) (has slot es)) (eq-eqb slot e.0 (sym key)) ∙ ap (λ (p : ℕ × ℕ). Some p.1) is
   | inr more ↦
       let lt = above_has e.0 slot target es h.0 more in
-      ap (λ (b : Bool). cond b (Some e.1) (has slot es)) (eqb_not slot e.0 (λ q. omega (arith, q, lt))) ∙ listed_has slot target es h.1 more
+      ap (λ (b : Bool). cond b (Some e.1) (has slot es)) (ne_eqb slot e.0 (λ q. omega (arith, q, lt))) ∙ listed_has slot target es h.1 more
 ]
 
 has_listed : (slot target : ℕ) (es : Slots) → has slot es ≡ Some target → Contains es (slot, target)
@@ -175,14 +177,10 @@ has_listed slot target (e ∷ es) is = elim (cases_eqb slot e.0) [
 ]
 
 set_is : (slot target : ℕ) → is_set (slot, target) ≡ true → target ≢ 0
-set_is slot target e z = absurd (let y = eqb_yes target 0 z in cc)
+set_is slot target e z = absurd (let y = eq-eqb target 0 z in cc)
 
 is_set_of : (slot target : ℕ) → target ≢ 0 → is_set (slot, target) ≡ true
-is_set_of slot target ne = ap (λ (b : Bool). not b) (eqb_not target 0 ne)
-
-some_of : (o : Option ℕ) (target : ℕ) → unwrap_or o 0 ≡ target → target ≢ 0 → o ≡ Some target
-some_of None target is ne = absurd (ne (sym is))
-some_of (Some v) target is ne = ap (λ (n : ℕ). Some n) is
+is_set_of slot target ne = ap (λ (b : Bool). not b) (ne_eqb target 0 ne)
 
 pub shown_holds : (lines : List TraceLine) (e object slot target : ℕ) → Contains (slots_at lines e object) (slot, target) → (content lines e object slot ≡ target) × (target ≢ 0)
 shown_holds lines e object slot target c =
@@ -194,5 +192,5 @@ shown_holds lines e object slot target c =
 pub held_shows : (lines : List TraceLine) (e object slot target : ℕ) → (content lines e object slot ≡ target) × (target ≢ 0) → Contains (slots_at lines e object) (slot, target)
 held_shows lines e object slot target h =
     let ws = writes lines e object in
-    let is = some_of (last_or None (filter_map (put_into slot) ws)) target h.0 h.1 in
+    let is = some_number (last_or None (filter_map (put_into slot) ws)) target h.0 h.1 in
     filter_keeps is_set (written ws) (slot, target) (has_listed slot target (written ws) (has_from slot ws [] ∙ is)) (is_set_of slot target h.1)

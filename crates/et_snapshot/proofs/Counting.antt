@@ -6,10 +6,10 @@ use Rattle.std.proofs.Math.ListN.{set}
 use Rattle.std.proofs.lemmas.List.{append-nil, length-set, get_or-replicate}
 use Rattle.std.proofs.lemmas.List.Elements.{filter-append}
 use Rattle.std.proofs.lemmas.List.Sums.{sum_by-cons, sum_by-append}
-use Rattle.et_replay.proofs.Living.{cases_eqb}
+use Rattle.std.proofs.lemmas.Bool.{ne_eqb, eq-eqb}
+use Rattle.et_base.proofs.Tests.{cases_eqb}
 use Rattle.et_snapshot.specs.declared.totals.Total.{Total}
 use Rattle.et_snapshot.specs.Heap.{Kept, size_of, is_kept_of, no_total, IsTotal, AreTotals}
-use Rattle.et_snapshot.proofs.Keeping.{eqb_not, eqb_yes}
 
 -- these were counted
 pub record Counts (done : List Kept) (totals : List Total) (all : Total) : Type 0 where
@@ -80,14 +80,14 @@ counts_more done k totals all next next_all i class lt c count bytes count_all b
         each = λ j within. elim (cases_eqb j i) [
           | inl same ↦
               let s = same.1 in
-              let own : is_kept_of (j + 1) k ≡ true = eqb_yes k.1.class (j + 1) (omega (arith, s, class)) in
+              let own : is_kept_of (j + 1) k ≡ true = eq-eqb k.1.class (j + 1) (omega (arith, s, class)) in
               subst (λ (ks : List Kept). IsTotal (get_or (set totals i next) j no_total) ks) (sym (own_more (j + 1) done k true own))
               (subst (λ (m : ℕ). IsTotal (get_or (set totals i next) m no_total) (filter (is_kept_of (m + 1)) done ++ k ∷ [])) (sym s)
               (subst (λ (t : Total). IsTotal t (filter (is_kept_of (i + 1)) done ++ k ∷ [])) (sym (get_or-set_same totals i next no_total lt))
               (total_more (get_or totals i no_total) next (filter (is_kept_of (i + 1)) done) k (c.each.each i lt) count bytes)))
           | inr apart ↦
               let ne = apart.1 in
-              let other : is_kept_of (j + 1) k ≡ false = eqb_not k.1.class (j + 1) (λ q. ne (omega (arith, q, class))) in
+              let other : is_kept_of (j + 1) k ≡ false = ne_eqb k.1.class (j + 1) (λ q. ne (omega (arith, q, class))) in
               subst (λ (ks : List Kept). IsTotal (get_or (set totals i next) j no_total) ks) (sym (own_more (j + 1) done k false other ∙ append-nil (filter (is_kept_of (j + 1)) done)))
               (subst (λ (t : Total). IsTotal t (filter (is_kept_of (j + 1)) done)) (sym (get_or-set_other totals i j next no_total ne)) (c.each.each j (omega (arith, within, long))))
         ];

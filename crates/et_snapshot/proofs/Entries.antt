@@ -1,5 +1,5 @@
 -- The entries of objects, of which some are dead.
-use Rattle.std.proofs.Common.{◌≡◌, ◌≢◌, ◌∙◌, ℕ, zero, suc, ◌<◌, ◌≤◌, ◌+◌, Bool, true, false, cond, not, List, [], ◌∷◌, ◌++◌, length, get_or, take, drop, map, Option, Some, None, Result, Ok, Err, refl, sym, ap, subst, arith, drop-cons, inl, inr, ◌⊎◌}
+use Rattle.std.proofs.Common.{◌≡◌, ◌≢◌, ◌∙◌, ℕ, zero, suc, ◌<◌, ◌≤◌, ◌+◌, Bool, true, false, cond, not, List, [], ◌∷◌, ◌++◌, length, get_or, take, drop, map, Option, Some, None, Result, Ok, Err, refl, sym, ap, subst, arith, drop-cons, inl, inr}
 use Rattle.std.specs.Prelude.{filter, option_map, is_some, IfSome, IfNone, All}
 use Rattle.std.specs.Result.{result_ok}
 use Rattle.std.specs.List.{cons_option, flat_map, AllByRecursion, HoldsAt}
@@ -16,10 +16,10 @@ use Rattle.std.proofs.lemmas.List.Sorted.{IsNonDecreasingBy-from_default}
 use Rattle.std.specs.declared.vec.Vec.{Vec}
 use Rattle.std.specs.declared.alloc.Global.{Global}
 use Rattle.std.specs.Vec.{with_items}
+use Rattle.std.proofs.lemmas.Bool.{cases_lt, ne_eqb, eq-eqb}
 use Rattle.et_snapshot.specs.declared.objects.Entry.{Entry}
 use Rattle.et_snapshot.specs.declared.objects.Seen.{Seen}
 use Rattle.et_snapshot.specs.Heap.{Kept, body_of, kept_as, kept_in, kept_where, objects_of, numbers_of, written_to, is_other, with_slot, rows_of, rows_in, RiseTo}
-use Rattle.et_snapshot.proofs.Keeping.{eqb_not, eqb_yes}
 
 -- NUMBERS THAT RISE
 
@@ -60,8 +60,6 @@ others_above top low object [] r le = tt
 others_above top low object (e ∷ es) r le = let lt = r.0 in ((λ s. omega (arith, s, lt, le)), others_above top e.object object es r.1 (omega (arith, lt, le)))
 
 -- A SEARCH
-side : (k i : ℕ) → (k < i) ⊎ (i ≤ k)
-side k i = grind arith
 
 module _ (top : ℕ) (es : List Entry) (r : RiseTo top 0 (numbers_of es)) (object : ℕ) where
   -- the comparisons rise along the list, as a binary search asks
@@ -87,7 +85,7 @@ module _ (top : ℕ) (es : List Entry) (r : RiseTo top 0 (numbers_of es)) (objec
   search_finds (Err i) within parted = record {
     within = tt;
     found = tt;
-    absent = λ k d lt. elim (side k i) [
+    absent = λ k d lt. elim (cases_lt k i) [
       | inl below ↦ less_not (get_or es k d).object ((parted (comparisons_rise d)).0 k d (omega arith) below)
       | inr above ↦ greater_not (get_or es k d).object ((parted (comparisons_rise d)).1 k d above lt)
     ];
@@ -102,7 +100,7 @@ map_option f (Some x) xs = refl
 -- a write to another object
 other_written : (object slot new n : ℕ) (s : Option Seen) → n ≢ object → option_map (written_to object slot new) (kept_as n s) ≡ kept_as n s
 other_written object slot new n None ne = refl
-other_written object slot new n (Some s) ne = ap (λ (b : Bool). Some (cond b (n, with_slot slot new (body_of s)) (n, body_of s))) (eqb_not object n (λ e. ne (sym e)))
+other_written object slot new n (Some s) ne = ap (λ (b : Bool). Some (cond b (n, with_slot slot new (body_of s)) (n, body_of s))) (ne_eqb object n (λ e. ne (sym e)))
 
 pub absent_written : (object slot new : ℕ) (es : List Entry) → AllByRecursion (λ (e : Entry). e.object ≢ object) es → map (written_to object slot new) (objects_of es) ≡ objects_of es
 absent_written object slot new [] a = refl
@@ -115,12 +113,12 @@ absent_written object slot new (e ∷ es) a =
 other_stays : (object n : ℕ) (s : Option Seen) (ks ks' : List Kept) → n ≢ object → filter (is_other object) ks ≡ ks' → filter (is_other object) (cons_option (kept_as n s) ks) ≡ cons_option (kept_as n s) ks'
 other_stays object n None ks ks' ne is = is
 other_stays object n (Some s) ks ks' ne is =
-    ap (λ (b : Bool). cond (not b) ((n, body_of s) ∷ filter (is_other object) ks) (filter (is_other object) ks)) (eqb_not object n (λ e. ne (sym e))) ∙ ap (λ (t : List Kept). (n, body_of s) ∷ t) is
+    ap (λ (b : Bool). cond (not b) ((n, body_of s) ∷ filter (is_other object) ks) (filter (is_other object) ks)) (ne_eqb object n (λ e. ne (sym e))) ∙ ap (λ (t : List Kept). (n, body_of s) ∷ t) is
 
 -- .. and the dead one goes
 dead_goes : (object n : ℕ) (s : Option Seen) (ks : List Kept) → n ≡ object → filter (is_other object) (cons_option (kept_as n s) ks) ≡ filter (is_other object) ks
 dead_goes object n None ks is = refl
-dead_goes object n (Some s) ks is = ap (λ (b : Bool). cond (not b) ((n, body_of s) ∷ filter (is_other object) ks) (filter (is_other object) ks)) (eqb_yes object n (sym is))
+dead_goes object n (Some s) ks is = ap (λ (b : Bool). cond (not b) ((n, body_of s) ∷ filter (is_other object) ks) (filter (is_other object) ks)) (eq-eqb object n (sym is))
 
 pub absent_forgotten : (object : ℕ) (es : List Entry) → AllByRecursion (λ (e : Entry). e.object ≢ object) es → filter (is_other object) (objects_of es) ≡ objects_of es
 absent_forgotten object [] a = refl

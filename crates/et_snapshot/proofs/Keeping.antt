@@ -1,5 +1,5 @@
 -- What is kept of the lines of a good trace is what is live at the event.
-use Rattle.std.proofs.Common.{◌≡◌, ◌≢◌, ◌∙◌, ℕ, ◌+◌, ◌^◌, ◌<◌, ◌≤◌, Bool, true, false, cond, not, ◌&&◌, ◌||◌, eqb, ltb, leb, List, [], ◌∷◌, ◌++◌, map, Option, Some, None, refl, sym, ap, subst, arith, inl, inr, ◌⊎◌, length-append}
+use Rattle.std.proofs.Common.{◌≡◌, ◌∙◌, ℕ, ◌+◌, ◌^◌, ◌<◌, ◌≤◌, Bool, true, false, cond, not, ◌&&◌, ◌||◌, eqb, ltb, leb, List, [], ◌∷◌, ◌++◌, map, Option, Some, None, refl, sym, ap, subst, arith, inl, inr, length-append}
 use Rattle.std.specs.Prelude.{reverse, filter, option_map}
 use Rattle.std.proofs.lemmas.Grind.{reverse_onto}
 use Rattle.std.specs.List.{filter_map, cons_option, AllByRecursion}
@@ -10,28 +10,21 @@ use Rattle.std.proofs.lemmas.List.Elements.{filter_map-append}
 use Rattle.std.proofs.lemmas.List.Folds.{list_any-append}
 use Rattle.std.proofs.lemmas.List.Sums.{fold-append}
 use Rattle.std.proofs.lemmas.List.{append-nil}
+use Rattle.std.proofs.lemmas.Bool.{and_parts, cases_Bool, ne_eqb, eqb-true, leb-true}
+use mathlib.Core.Bool.{and-false}
 use Rattle.et_base.specs.declared.line.TraceLine.{TraceLine}
 use Rattle.et_base.specs.declared.line.TraceLine.TheVariants.{Header, Class, Method, Alloc, Update, Enter, Exit, Unwind, Flush, Death, Finish}
+use Rattle.et_base.proofs.Tests.{cases_eqb}
 use Rattle.et_text.specs.Rules.{objects, births, classes, is_timely, AreFine}
 use Rattle.et_replay.specs.Curve.{tells_before, dies_before}
-use Rattle.et_replay.proofs.Living.{follows, both_true, cases_eqb}
+use Rattle.et_replay.proofs.Living.{follows}
 use Rattle.et_snapshot.specs.Snapshot.{write_by, writes, written}
 use Rattle.et_snapshot.specs.Heap.{Body, Kept, with_slot, written_to, is_other, note_kept, IsAbove, top_after, kept_by, size_of, HasClass}
 
 -- NUMBERS THAT RISE
 
-pub cases_bool : (b : Bool) → (b ≡ true) ⊎ (b ≡ false)
-cases_bool true = inl refl
-cases_bool false = inr refl
-
 pub cmp_equal : (a b : ℕ) → is_eq (nat_cmp a b) ≡ eqb a b
 cmp_equal a b = grind (arith, nat_tests)
-
-pub eqb_not : (a b : ℕ) → a ≢ b → eqb a b ≡ false
-eqb_not a b ne = elim (cases_eqb a b) [ inl e ↦ absurd (ne e.1) | inr n ↦ n.0 ]
-
-pub eqb_yes : (a b : ℕ) → a ≡ b → eqb a b ≡ true
-eqb_yes a b e = grind (arith, nat_tests)
 
 -- the numbers of the objects rise, from above `low`
 abbrev pub Rise : ℕ → List Kept → Type 0
@@ -54,7 +47,7 @@ none_written : (low object slot new : ℕ) (ks : List Kept) → Rise low ks → 
 none_written low object slot new [] r le = refl
 none_written low object slot new (k ∷ ks) r le =
     let lt = r.0 in
-    let n : eqb object k.0 ≡ false = eqb_not object k.0 (λ e. omega (arith, e, lt, le)) in
+    let n : eqb object k.0 ≡ false = ne_eqb object k.0 (λ e. omega (arith, e, lt, le)) in
     ap (λ (b : Bool). cond b (k.0, with_slot slot new k.1) k ∷ map (written_to object slot new) ks) n ∙ ap (λ (t : List Kept). k ∷ t) (none_written k.0 object slot new ks r.1 (omega (arith, lt, le)))
 
 one_number : (object slot new : ℕ) (k : Kept) → (written_to object slot new k).0 ≡ k.0
@@ -285,16 +278,12 @@ module _ (e : ℕ) (past : List TraceLine) (born thread object class size len : 
 
 -- A SLOT IS WRITTEN
 
-and_no : (a : Bool) → (a && false) ≡ false
-and_no true = refl
-and_no false = refl
-
 late_write : (e event thread object slot old new : ℕ) → leb event e ≡ false → IsQuiet e (Update event thread object slot old new)
 late_write e event thread object slot old new off = record {
   notes = λ ks. ap (λ (b : Bool). cond (b && not (eqb object 0)) (map (written_to object slot new) ks) ks) off;
   kept = λ lines. refl;
   tells = λ o. refl;
-  writes = λ o. ap (λ (b : Bool). cond (eqb object o && b) (Some (slot, new)) None) off ∙ ap (λ (b : Bool). cond b (Some (slot, new)) None) (and_no (eqb object o));
+  writes = λ o. ap (λ (b : Bool). cond (eqb object o && b) (Some (slot, new)) None) off ∙ ap (λ (b : Bool). cond b (Some (slot, new)) None) (and-false (eqb object o));
   many = λ past. refl;
   names = λ past. omega arith;
 }
@@ -353,7 +342,7 @@ module _ (e : ℕ) (past : List TraceLine) (event thread object slot old new : �
         rise = rise_map 0 object slot new ks h.rise;
         fit = all_written (objects past) (classes past) object slot new ks h.fit;
         no_death = λ o lt. w_dies o ∙ h.no_death o lt;
-        no_write = λ o lt. w_wrote o ∙ (ap (λ (b : Bool). writes w_lines e o ++ cons_option (cond b (Some (slot, new)) None) []) (eqb_not object o (λ s. omega (arith, s, lt, known))) ∙ (append-nil (writes w_lines e o) ∙ h.no_write o lt));
+        no_write = λ o lt. w_wrote o ∙ (ap (λ (b : Bool). writes w_lines e o ++ cons_option (cond b (Some (slot, new)) None) []) (ne_eqb object o (λ s. omega (arith, s, lt, known))) ∙ (append-nil (writes w_lines e o) ∙ h.no_write o lt));
       })
 
 -- AN OBJECT IS DEAD
@@ -362,7 +351,7 @@ late_death : (e object time : ℕ) → ltb time e ≡ false → IsQuiet e (Death
 late_death e object time off = record {
   notes = λ ks. ap (λ (b : Bool). cond b (filter (is_other object) ks) ks) off;
   kept = λ lines. refl;
-  tells = λ o. ap (λ (b : Bool). eqb object o && b) off ∙ and_no (eqb object o);
+  tells = λ o. ap (λ (b : Bool). eqb object o && b) off ∙ and-false (eqb object o);
   writes = λ o. refl;
   many = λ past. refl;
   names = λ past. omega arith;
@@ -406,17 +395,11 @@ module _ (e : ℕ) (past : List TraceLine) (object time : ℕ) (ks : List Kept) 
         same = sym (all_more_at d_lines d_line e ∙ (append-nil (filter_map (kept_at d_more e) d_lines) ∙ (filtered_list (kept_at d_more e) (kept_at d_lines e) (is_other object) d_lines d_one ∙ ap (λ (t : List Kept). filter (is_other object) t) (sym h.same))));
         rise = rise_filter 0 (is_other object) ks h.rise;
         fit = all_filter (Fits (objects past) (classes past)) (is_other object) ks h.fit;
-        no_death = λ o lt. d_dies o ∙ (ap (λ (b : Bool). dies_before d_lines e o || ((b && true) || false)) (eqb_not object o (λ s. omega (arith, s, lt, known))) ∙ (or_false (dies_before d_lines e o) ∙ h.no_death o lt));
+        no_death = λ o lt. d_dies o ∙ (ap (λ (b : Bool). dies_before d_lines e o || ((b && true) || false)) (ne_eqb object o (λ s. omega (arith, s, lt, known))) ∙ (or_false (dies_before d_lines e o) ∙ h.no_death o lt));
         no_write = λ o lt. d_wrote o ∙ h.no_write o lt;
       })
 
 -- ALL LINES
-
-pub eqb_is : (a b : ℕ) → eqb a b ≡ true → a ≡ b
-eqb_is a b e = grind (arith, nat_tests)
-
-leb_is : (a b : ℕ) → leb a b ≡ true → a ≤ b
-leb_is a b e = grind (arith, nat_tests)
 
 quiet : (e : ℕ) (line : TraceLine) → ((ks : List Kept) → note_kept e ks line ≡ ks) → ((lines : List TraceLine) → kept_at lines e line ≡ None) → ((o : ℕ) → tells_before e o line ≡ false) → ((o : ℕ) → write_by e o line ≡ None) → ((past : List TraceLine) → objects (line ∷ past) ≡ objects past) → ((past : List TraceLine) → classes past ≤ classes (line ∷ past)) → IsQuiet e line
 quiet e line n k t w m c = record { notes = n; kept = k; tells = t; writes = w; many = m; names = c }
@@ -424,20 +407,20 @@ quiet e line n k t w m c = record { notes = n; kept = k; tells = t; writes = w; 
 kept_on : (version e : ℕ) (past : List TraceLine) (line : TraceLine) (ks : List Kept) → AreFine version (line ∷ past) → IsKept e past ks → IsKept e (line ∷ past) (note_kept e ks line)
 kept_on version e past (Alloc born thread object class size len) ks f h =
     let g = follows past (Alloc born thread object class size len) f.2 in
-    let next = (both_true (is_timely past born) (eqb object (objects past + 1)) g.ordered).1 in
+    let next = (and_parts (is_timely past born) (eqb object (objects past + 1)) g.ordered).1 in
     let r = f.1 in
-    born_is_kept e past born thread object class size len ks (eqb_is object (objects past + 1) next) (omega (arith, r)) ((omega (arith, r)), leb_is class (classes past) g.known) h
+    born_is_kept e past born thread object class size len ks (eqb-true object (objects past + 1) next) (omega (arith, r)) ((omega (arith, r)), leb-true class (classes past) g.known) h
 kept_on version e past (Update event thread object slot old new) ks f h =
     let g = follows past (Update event thread object slot old new) f.2 in
-    let known = leb_is object (objects past) (both_true (leb object (objects past)) (leb old (objects past)) (both_true (leb object (objects past) && leb old (objects past)) (leb new (objects past)) g.known).0).0 in
-    elim (cases_bool (leb event e)) [
+    let known = leb-true object (objects past) (and_parts (leb object (objects past)) (leb old (objects past)) (and_parts (leb object (objects past) && leb old (objects past)) (leb new (objects past)) g.known).0).0 in
+    elim (cases_Bool (leb event e)) [
       | inl y ↦ wrote_is_kept e past event thread object slot old new ks known y h
       | inr n ↦ quiet_is_kept e past (Update event thread object slot old new) ks (late_write e event thread object slot old new n) h
     ]
 kept_on version e past (Death object time) ks f h =
     let g = follows past (Death object time) f.2 in
-    let known = leb_is object (objects past) g.known in
-    elim (cases_bool (ltb time e)) [
+    let known = leb-true object (objects past) g.known in
+    elim (cases_Bool (ltb time e)) [
       | inl y ↦ died_is_kept e past object time ks known y h
       | inr n ↦ quiet_is_kept e past (Death object time) ks (late_death e object time n) h
     ]
@@ -458,7 +441,7 @@ is_kept version e (line ∷ past) f = kept_on version e past line (kept_by e pas
 pub is_above : (version : ℕ) (past : List TraceLine) (line : TraceLine) → AreFine version (line ∷ past) → IsAbove (objects past) line × (top_after (objects past) line ≡ objects (line ∷ past))
 is_above version past (Alloc born thread object class size len) f =
     let g = follows past (Alloc born thread object class size len) f.2 in
-    let next = eqb_is object (objects past + 1) (both_true (is_timely past born) (eqb object (objects past + 1)) g.ordered).1 in
+    let next = eqb-true object (objects past + 1) (and_parts (is_timely past born) (eqb object (objects past + 1)) g.ordered).1 in
     let count = length-append (births past) (born ∷ []) in
     (omega (arith, next), omega (arith, next, count))
 is_above version past (Header v n) f = (tt, refl)

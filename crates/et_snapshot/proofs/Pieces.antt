@@ -1,6 +1,6 @@
 -- What a sink took of rows that follow what was gathered before.
 use Rattle.std.proofs.Common.{◌≡◌, ◌∙◌, ℕ, zero, suc, ◌+◌, ◌<◌, ◌≤◌, List, [], ◌∷◌, ◌++◌, length, get_or, drop, refl, sym, ap, subst, append_assoc, arith}
-use Rattle.std.specs.Prelude.{Result, Ok, Err, OnErr, OnOk}
+use Rattle.std.specs.Prelude.{Result, Ok, Err, OnOk}
 use Rattle.std.specs.List.{flat_map, zip}
 use Rattle.std.proofs.lemmas.Grind.{flat_map-append}
 use Rattle.std.proofs.lemmas.List.{append-nil}
@@ -70,10 +70,6 @@ puts_next row all rest rest' x old mid new start text more left e p is t = puts_
 -- .. or fails to be
 pub puts_break : {A : Type 0} (row : A → List ℕ) (all rest rest' : List A) (x : A) (old mid new : Log) (start text more : List ℕ) → rest ≡ x ∷ rest' → Puts row all rest old mid start text → more ≡ text ++ row x → TakesPrefix mid new more → TakesPrefix old new (start ++ flat_map row all)
 puts_break row all rest rest' x old mid new start text more e p is t = puts_fail row all rest rest' x old mid new start text e p (subst (λ (l : List ℕ). TakesPrefix mid new l) is t)
-
-pub on_err : {T E : Type 0} {P : Type 0} (r : Result T E) → P → OnErr r P
-on_err (Ok x) p = tt
-on_err (Err e) p = p
 
 pub on_ok : {T E : Type 0} {P : Type 0} (r : Result T E) → P → OnOk r P
 on_ok (Ok x) p = p

@@ -7,6 +7,7 @@ use Rattle.std.specs.Ordering.{nat_cmp}
 use Rattle.std.proofs.lemmas.List.{append-nil, length-map, reverse-reverse}
 use Rattle.std.proofs.lemmas.List.Elements.{filter_map-append, All-from_recursion}
 use Rattle.std.proofs.lemmas.List.Sums.{fold-append, sum_by-cons}
+use Rattle.std.proofs.lemmas.Bool.{ne_eqb}
 use Rattle.et_base.specs.declared.line.TraceLine.{TraceLine}
 use Rattle.et_base.specs.declared.line.TraceLine.TheVariants.{Header, Class, Method, Alloc, Update, Enter, Exit, Unwind, Flush, Death, Finish}
 use Rattle.et_text.specs.Rules.{objects, classes, AreFine}
@@ -16,7 +17,7 @@ use Rattle.et_replay.proofs.Living.{lives}
 use Rattle.et_snapshot.specs.Snapshot.{write_by, writes, written, is_set, slots_at, makes_live, live_lines, is_of_class, size_made, bytes_made, class_name, static_row, object_rows, class_row}
 use Rattle.et_snapshot.specs.Heap.{Kept, note_static, statics_by, kept_by, size_of, is_kept_of, IsTotal, AreTotals, HasClass, row_in, row_of, rows_of, total_row, total_rows, no_total}
 use Rattle.et_snapshot.specs.declared.totals.Total.{Total}
-use Rattle.et_snapshot.proofs.Keeping.{in_order, in_order_is, kept_at, all_at, Rise, Below, Fits, AllFit, is_kept, below, eqb_not, all_more}
+use Rattle.et_snapshot.proofs.Keeping.{in_order, in_order_is, kept_at, all_at, Rise, Below, Fits, AllFit, is_kept, below, all_more}
 use Rattle.et_snapshot.proofs.Classes.{fields, Numbered, are_numbered, named}
 
 -- STATIC SLOTS
@@ -201,7 +202,7 @@ object_rows_are lines e kept t =
 -- ROWS OF CLASSES
 same_class : (lines : List TraceLine) (e class : ℕ) (x : TraceLine) → 1 ≤ class → is_kept_of class (body_at lines e x) ≡ is_of_class class x
 same_class lines e class (Alloc born thread object of size len) low = refl
-same_class lines e class _ low = eqb_not 0 class (λ z. omega (arith, z, low))
+same_class lines e class _ low = ne_eqb 0 class (λ z. omega (arith, z, low))
 
 of_class : (lines : List TraceLine) (e class : ℕ) (xs : List TraceLine) → 1 ≤ class → filter (is_kept_of class) (map (body_at lines e) xs) ≡ map (body_at lines e) (filter (is_of_class class) xs)
 of_class lines e class [] low = refl

@@ -2,8 +2,9 @@
 use Rattle.std.proofs.Common.{◌≡◌, ℕ, ◌<◌, false, List, [], ◌∷◌, ◌++◌, length, Option, Some, None, Contains, refl, sym, ◌∙◌, subst, inl, inr, arith, append-nil, option_to_list}
 use Rattle.std.proofs.lemmas.List.{length-set}
 use Rattle.std.proofs.lemmas.List.Elements.{Contains-append_left}
+use Rattle.et_graph.proofs.Among.{waits_one}
 use Rattle.et_base.specs.declared.value.Value.{Value}
-use Rattle.et_base.proofs.Lists.{Contains-none, Contains-here, Contains-cons}
+use Rattle.et_base.proofs.Lists.{Contains-none, Contains-here}
 use Rattle.et_heap.specs.declared.monitor.Monitor.{Monitor}
 use Rattle.et_heap.specs.Objects.{IsHeld, object_at, new_object, slot_of, with_slot, with_referent, with_queue, with_monitor, with_object_at, Objects, referent_value}
 use Rattle.et_heap.specs.Refs.{refs_of_value, refs_of, leads_to}
@@ -21,9 +22,6 @@ use Rattle.et_state.specs.Sound.{IsSound}
 use Rattle.et_state.specs.Moves.{Moves, WasThere, MayBeTied, IsUnderWay, IsOnWay, AreInHeap, WereThere}
 use Rattle.et_state.proofs.Places.{moves_none, frame_push, frame_pop, frame_clear, frame_set_local, frame_in_clinit, guest_top, guest_dropped, guest_entered, guest_over, guest_pending, guest_started, guest_ended, guest_set_entered, guest_static, guest_interned, moves_place, moves_left, moves_right, moves_anew, moves_first, leads-new}
 use Rattle.et_state.proofs.UnderWay.{start, law_guest, law_lose, law_object, law_leads, law_beside, law_make, waiting_pair}
-
-pub only_held : (H : ℕ → Type 0) (o : ℕ) → H o → (p : ℕ) → Contains (o ∷ []) p → H p
-only_held H o h p c = elim (Contains-cons o [] p c) [ inl e ↦ subst H e h | inr d ↦ absurd (Contains-none p d) ]
 
 -- root places change
 guest : (s : Kept) (m : MachineState) (g : GuestState) (l : List ℕ) → IsOnWay s m → Moves (IsHeld m.heap) (WasThere s (kept_of m)) (roots_of m.guest) (roots_of g) l → IsOnWay s (steps_guest m g l)
@@ -74,7 +72,7 @@ on_drop_frame s m t w has were = guest s m _ _ w (guest_dropped (IsHeld m.heap) 
 
 pub on_throw : (s : Kept) (m : MachineState) (t o : ℕ) → IsOnWay s m → t < length m.guest.threads → IsHeld m.heap o → WereThere s m (option_to_list (thread_at m.guest t).pending)
     → IsOnWay s (steps_thread m t (with_pending (Some o) (thread_at m.guest t)) (option_to_list (thread_at m.guest t).pending))
-on_throw s m t o w lt held were = guest s m _ _ w (guest_pending (IsHeld m.heap) (WasThere s (kept_of m)) m.guest t (Some o) lt (only_held (IsHeld m.heap) o held) were)
+on_throw s m t o w lt held were = guest s m _ _ w (guest_pending (IsHeld m.heap) (WasThere s (kept_of m)) m.guest t (Some o) lt (waits_one (IsHeld m.heap) o held) were)
 
 pub on_take_pending : (s : Kept) (m : MachineState) (t : ℕ) → IsOnWay s m → t < length m.guest.threads → WereThere s m (option_to_list (thread_at m.guest t).pending)
     → IsOnWay s (steps_thread m t (with_pending None (thread_at m.guest t)) (option_to_list (thread_at m.guest t).pending))
@@ -91,7 +89,7 @@ on_end_thread s m t w is were = guest s m _ _ w (guest_ended (IsHeld m.heap) (Wa
 pub on_start_thread : (s : Kept) (m : MachineState) (o : ℕ) → IsOnWay s m → IsHeld m.heap o → IsOnWay s (with_guest m (with_new_thread m.guest (new_thread None (Some o))))
 on_start_thread s m o w held =
     lost_same s (kept_of (with_guest m (with_new_thread m.guest (new_thread None (Some o))))) m.lost
-    (guest s m _ [] w (guest_started (IsHeld m.heap) (WasThere s (kept_of m)) m.guest (new_thread None (Some o)) (only_held (IsHeld m.heap) o held)))
+    (guest s m _ [] w (guest_started (IsHeld m.heap) (WasThere s (kept_of m)) m.guest (new_thread None (Some o)) (waits_one (IsHeld m.heap) o held)))
 
 pub on_set_static : (s : Kept) (m : MachineState) (i : ℕ) (v : Value) → IsOnWay s m → i < length m.guest.statics → AreInHeap m (refs_of_value v) → WereThere s m (refs_of_value (static_at m.guest i))
     → IsOnWay s (steps_guest m (with_static m.guest i v) (refs_of_value (static_at m.guest i)))

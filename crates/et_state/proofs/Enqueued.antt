@@ -108,7 +108,7 @@ module _ (coming : ℕ → List ℕ) (begins : ℕ → Bool) where
 
 -- THE NEWCOMERS
 
-one_of : (b : Bool) (k r : ℕ) → Contains (if b then k ∷ [] else []) r → (k ≡ r) × (b ≡ true)
+pub one_of : (b : Bool) (k r : ℕ) → Contains (if b then k ∷ [] else []) r → (k ≡ r) × (b ≡ true)
 one_of true k r c = elim (Contains-cons k [] r c) [ inl e ↦ (e, refl) | inr d ↦ absurd (Contains-none r d) ]
 one_of false k r c = absurd (Contains-none r c)
 

@@ -11,3 +11,5 @@ pub mod Enqueued
 pub mod Steps
 mod ClassStates
 pub mod Unended
+pub mod Interned
+pub mod Numbered

@@ -1,13 +1,13 @@
 -- What is reported stays apart from what is held.
-use Rattle.std.proofs.Common.{◌≡◌, ℕ, zero, suc, ◌+◌, ◌-◌, ◌<◌, ◌≤◌, Bool, true, false, List, [], ◌∷◌, ◌++◌, length, set, Option, Some, None, Contains, refl, sym, ap, subst, inl, inr, arith, if◌then◌else◌}
-use Rattle.std.proofs.lemmas.List.{length-set, length_push}
+use Rattle.std.proofs.Common.{◌≡◌, ℕ, zero, suc, ◌+◌, ◌-◌, ◌<◌, ◌≤◌, Bool, true, false, List, [], ◌∷◌, ◌++◌, length, Option, Some, None, Contains, refl, sym, ap, subst, inl, inr, arith, if◌then◌else◌}
 use Rattle.std.proofs.lemmas.Bool.{cases_eq}
 use Rattle.std.proofs.lemmas.List.Elements.{Contains-append_cases}
+use Rattle.et_state.proofs.Wholes.{length-remaining}
 use Rattle.et_graph.specs.Graph.{IsReached, IsWalk}
 use Rattle.et_heap.specs.Objects.{ObjectState, Objects, IsHeld, is_there}
 use Rattle.et_heap.specs.Refs.{pairs_of, gone_of}
 use Rattle.et_heap.specs.Remaining.{left_place, remaining}
-use Rattle.et_heap.proofs.HeapLists.{pair_at, pair_held, held_within, set_held, gone_at, at_gone}
+use Rattle.et_heap.proofs.HeapLists.{pair_at, pair_held, held_within, gone_at, at_gone}
 use Rattle.et_state.specs.State.{State, Kept}
 use Rattle.et_state.specs.Roots.{graph, graph_of, fresh_of}
 use Rattle.et_state.specs.Past.{IsPast, reporting, first_of}
@@ -18,10 +18,6 @@ length-reporting : (here : ℕ → Bool) (k : ℕ) (xs rs : Objects) → length 
 length-reporting here k [] rs = refl
 length-reporting here k (x ∷ xs) [] = ap suc (length-reporting here (k + 1) xs [])
 length-reporting here k (x ∷ xs) (r ∷ rs) = ap suc (length-reporting here (k + 1) xs rs)
-
-length-left : (here : ℕ → Bool) (k : ℕ) (xs : Objects) → length (remaining here k xs) ≡ length xs
-length-left here k [] = refl
-length-left here k (x ∷ xs) = ap suc (length-left here (k + 1) xs)
 
 place_apart : (here : ℕ → Bool) (b : Bool) (x r : Option ObjectState) → (is_there x → ¬ is_there r) → is_there (left_place here b x) → is_there (first_of r (if b then None else x)) → ⊥
 place_apart here true (Some x) None apart a c = c
@@ -39,7 +35,7 @@ flush_apart here k (x ∷ xs) (r ∷ rs) (suc u) past a b = flush_apart here (k 
 -- objects are reported
 pub past_cleared : (here : ℕ → Bool) (heap reported : Objects) → IsPast heap reported → IsPast (remaining here 0 heap) (reporting here 0 heap reported)
 past_cleared here heap reported past = record {
-  within = (let a = length-reporting here 0 heap reported in let b = length-left here 0 heap in omega arith);
+  within = (let a = length-reporting here 0 heap reported in let b = length-remaining here 0 heap in omega arith);
   apart = λ u a b. flush_apart here 0 heap reported u past a b;
 }
 

@@ -1,9 +1,10 @@
 -- Places that hold references, before and after a change.
-use Rattle.std.proofs.Common.{◌≡◌, ℕ, zero, suc, ◌-◌, ◌<◌, ◌⊎◌, List, [], ◌∷◌, ◌++◌, length, get_or, set, Option, Contains, inl, inr, arith, refl, sym, ap, ◌∙◌, subst, take, drop, replicate, reverse, false, if◌then◌else◌, option_to_list, append-nil, append_assoc}
+use Rattle.std.proofs.Common.{◌≡◌, ℕ, zero, suc, ◌-◌, ◌<◌, ◌⊎◌, List, [], ◌∷◌, ◌++◌, length, get_or, set, Option, Contains, inl, inr, arith, sym, ap, ◌∙◌, subst, take, drop, replicate, reverse, false, if◌then◌else◌, option_to_list, append-nil, append_assoc}
 use Rattle.std.specs.List.{flat_map}
 use Rattle.std.proofs.lemmas.List.{map-append, reverse-append, reverse-reverse, take-append-drop}
 use Rattle.std.proofs.lemmas.Grind.{flat_map-append}
 use Rattle.std.proofs.lemmas.List.Elements.{Contains-append_left, Contains-append_right, Contains-append_cases}
+use Rattle.et_heap.proofs.References.{none_unset}
 use Rattle.et_base.specs.declared.value.Value.{Value}
 use Rattle.et_base.specs.declared.value.Value.TheVariants.{Unset}
 use Rattle.et_base.proofs.Lists.{Contains-none}
@@ -151,17 +152,13 @@ frame_pops H R f n r = moves_right H R _ _ (refs_of (take n f.operands)) (refs_o
 pub frame_clear : (H R : ℕ → Type 0) (f : FrameState) → ((o : ℕ) → Contains (refs_of f.operands) o → R o) → Moves H R (frame_roots f) (frame_roots (without_operands f)) (refs_of f.operands)
 frame_clear H R f r = moves_right H R _ _ (refs_of f.operands) (refs_of f.locals) (moves_left H R (refs_of f.operands) [] (refs_of f.operands) _ (moves_all H R (refs_of f.operands) r))
 
-pub refs_of-unset : (n : ℕ) → refs_of (replicate n Unset) ≡ []
-refs_of-unset zero = refl
-refs_of-unset (suc n) = refs_of-unset n
-
 -- a new object leads to nothing
 pub leads-new : (class elements n : ℕ) → leads_to (new_object class elements n) ≡ []
-leads-new class elements n = append-nil (refs_of (replicate n Unset)) ∙ refs_of-unset n
+leads-new class elements n = append-nil (refs_of (replicate n Unset)) ∙ none_unset n
 
 -- the locals of a frame that begins refer to what its arguments refer to
 pub refs_of-locals_with : (n : ℕ) (vs : List Value) → refs_of (locals_with n vs) ≡ refs_of vs ++ []
-refs_of-locals_with n vs = flat_map-append refs_of_value vs (replicate (n - length vs) Unset) ∙ ap (λ os. refs_of vs ++ os) (refs_of-unset (n - length vs))
+refs_of-locals_with n vs = flat_map-append refs_of_value vs (replicate (n - length vs) Unset) ∙ ap (λ os. refs_of vs ++ os) (none_unset (n - length vs))
 
 refs_append : (vs ws : List Value) → refs_of (vs ++ ws) ≡ refs_of vs ++ refs_of ws
 refs_append vs ws = flat_map-append refs_of_value vs ws

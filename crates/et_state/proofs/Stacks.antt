@@ -200,7 +200,7 @@ local_frames h below vs i v n a lt =
       frames_are h below (set vs (h.base + i) v) (set own i v) (take h.base vs) d t ∙ ap (λ f. f ∷ frames_in below (take h.base vs)) (local_in h own i v below_locals),
     )
 
-length-locals_with : (count : ℕ) (args : List Value) → length args ≤ count → length (locals_with count args) ≡ count
+pub length-locals_with : (count : ℕ) (args : List Value) → length args ≤ count → length (locals_with count args) ≡ count
 length-locals_with count args le = omega (arith, length-append args (replicate (count - length args) Unset), length-replicate (count - length args) Unset, le)
 
 -- a frame begins on top of these values

@@ -1,5 +1,5 @@
 -- What an event has done to the topmost frame of a thread so far, call by call, and how it ends.
-use Rattle.std.proofs.Common.{◌≡◌, ℕ, zero, suc, ◌+◌, ◌-◌, ◌<◌, ◌≤◌, List, [], ◌∷◌, ◌++◌, length, get_or, set, take, drop, Some, None, refl, sym, ◌∙◌, ap, subst, arith, Contains, get_or-set_same, set-set, append-nil, append_assoc, inl, inr}
+use Rattle.std.proofs.Common.{◌≡◌, ℕ, zero, suc, ◌+◌, ◌-◌, ◌<◌, ◌≤◌, List, [], ◌∷◌, ◌++◌, length, get_or, set, Some, None, refl, sym, ◌∙◌, ap, subst, arith, Contains, get_or-set_same, set-set, append-nil, append_assoc, inl, inr}
 use Rattle.std.specs.List.{flat_map}
 use Rattle.std.proofs.lemmas.List.{length-set, length_push, get_or_at}
 use Rattle.std.proofs.lemmas.List.Elements.{Contains-append_left}
@@ -9,14 +9,14 @@ use Rattle.et_graph.specs.Graph.{IsReached}
 use Rattle.et_base.proofs.Lists.{Contains-none, Contains-here, Contains-there, Contains-cons}
 use Rattle.et_heap.specs.Objects.{ObjectState, Objects, IsHeld, is_there, object_at, slot_of, with_slot, with_object_at}
 use Rattle.et_heap.specs.Refs.{refs_of_value, refs_of, leads_to}
-use Rattle.et_state.specs.Threads.{FrameState, ThreadState, no_thread, at_pc, pushed, popped, without_operands, with_local, operand_of, local_of, in_clinit, first_frame, rest_of, top_of, with_top_of, without_top, entered_by}
+use Rattle.et_state.specs.Threads.{FrameState, ThreadState, no_thread, at_pc, pushed, popped, without_operands, with_local, operand_of, local_of, first_frame, rest_of, top_of, with_top_of}
 use Rattle.et_state.specs.ThreadRoots.{frame_roots, thread_roots}
 use Rattle.et_state.specs.State.{GuestState, Kept, MachineState, kept_of}
-use Rattle.et_state.specs.Words.{thread_at, with_thread, top, with_top, HasFrame, ticked, begun, steps_guest, steps_thread, steps_top, steps_object}
+use Rattle.et_state.specs.Words.{thread_at, top, with_top, HasFrame, ticked, begun, steps_top, steps_object}
 use Rattle.et_state.specs.Roots.{roots_of, graph_of, numbers_from, fresh_of}
 use Rattle.et_state.specs.Sound.{IsSound}
 use Rattle.et_state.specs.Moves.{Moves, WasThere, IsOnWay, IsEventOf, Led}
-use Rattle.et_state.proofs.Places.{moves_none, moves_then, frame_push, frame_pop, frame_clear, frame_set_local, frame_in_clinit, guest_top, top_root, operand_root, local_root, guest_dropped, part_contained, thread_root, guest_entered}
+use Rattle.et_state.proofs.Places.{moves_none, moves_then, frame_push, frame_pop, frame_clear, frame_set_local, guest_top, top_root, operand_root, local_root, part_contained, thread_root}
 use Rattle.et_state.proofs.UnderWay.{start, law_guest, law_make, finish, no_fresh, root_is_reached, slot_is_reached, slot_pair}
 use Rattle.et_state.proofs.Calls.{on_begin_event, on_set_slot}
 
@@ -29,7 +29,7 @@ pub with_top-with_top : (g : GuestState) (t : ℕ) (f h : FrameState) → t < le
 with_top-with_top g t f h lt =
     rw (get_or-set_same g.threads t (with_top_of (thread_at g t) f) no_thread lt, set-set g.threads t (with_top_of (thread_at g t) f) (with_top_of (thread_at g t) h))
 
-with_first : (fs : List FrameState) → 0 < length fs → first_frame fs ∷ rest_of fs ≡ fs
+pub with_first : (fs : List FrameState) → 0 < length fs → first_frame fs ∷ rest_of fs ≡ fs
 with_first [] h = absurd (omega arith)
 with_first (f ∷ fs) h = refl
 

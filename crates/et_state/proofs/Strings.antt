@@ -11,19 +11,8 @@ use Rattle.std.specs.Map.{lookup}
 use Rattle.std.specs.Str.{bytes_eq}
 use Rattle.std.specs.declared.vec.Vec.{Vec}
 use Rattle.std.specs.declared.alloc.Global.{Global}
+use Rattle.std.proofs.lemmas.Option.{none-some, same_Some}
 use Rattle.et_state.specs.Interned.{object_of, interned_text, interned_objects}
-
-none_some : (i : ℕ) → None ≡ Some i → ⊥
-none_some i e = cc
-
-none_list : (t : List ℕ) → None ≡ Some t → ⊥
-none_list t e = cc
-
-some_inj : (i j : ℕ) → Some i ≡ Some j → i ≡ j
-some_inj i j e = cc
-
-some_entry : (x y : Vec ℕ Global × ℕ) → Some x ≡ Some y → x ≡ y
-some_entry x y e = cc
 
 abbrev pub Entries : Type 0
 Entries = List (Vec ℕ Global × ℕ)
@@ -36,7 +25,7 @@ object-shown text [] = refl
 object-shown text (e ∷ es) = ap (λ o. cond (bytes_eq text e.0.items) (Some e.1) o) (object-shown text es)
 
 absent_step : (b : Bool) (p : List ℕ × ℕ) (i : ℕ) (at : Option ℕ) (r : Option (List ℕ × ℕ)) → (at ≡ None → option_map (λ q. q.0) r ≡ None) → cond b (Some i) at ≡ None → option_map (λ q. q.0) (cond b (Some p) r) ≡ None
-absent_step true p i at r ih h = absurd (none_some i (sym h))
+absent_step true p i at r ih h = absurd (none-some i (sym h))
 absent_step false p i at r ih h = ih h
 
 -- an object that stands nowhere has no bytes
@@ -45,11 +34,11 @@ text-absent o i [] h = refl
 text-absent o i (e ∷ es) h = absent_step (o == e.1) (e.0.items, e.1) i (position_from (λ k. o == k) (i + 1) (interned_objects (shown es))) (find (λ p. o == p.1) (shown es)) (text-absent o (i + 1) es) h
 
 from_step : (b : Bool) (i j : ℕ) (at : Option ℕ) → (at ≡ Some j → i + 1 ≤ j) → cond b (Some i) at ≡ Some j → i ≤ j
-from_step true i j at ih h = let e : i ≡ j = some_inj i j h in omega arith
+from_step true i j at ih h = let e : i ≡ j = same_Some i j h in omega arith
 from_step false i j at ih h = let le = ih h in omega arith
 
 position_from-le : (o i j : ℕ) (ks : List ℕ) → position_from (λ k. o == k) i ks ≡ Some j → i ≤ j
-position_from-le o i j [] h = absurd (none_some j h)
+position_from-le o i j [] h = absurd (none-some j h)
 position_from-le o i j (k ∷ ks) h = from_step (o == k) i j (position_from (λ u. o == u) (i + 1) ks) (position_from-le o (i + 1) j ks) h
 
 first_step : (b : Bool) (p : List ℕ × ℕ) (i : ℕ) (at : Option ℕ) (r : Option (List ℕ × ℕ)) → (at ≡ Some i → i + 1 ≤ i) → cond b (Some i) at ≡ Some i → option_map (λ q. q.0) (cond b (Some p) r) ≡ Some p.0
@@ -57,24 +46,24 @@ first_step true p i at r le h = refl
 first_step false p i at r le h = let lt = le h in absurd (omega arith)
 
 later_step : (b : Bool) (p : List ℕ × ℕ) (i j : ℕ) (at : Option ℕ) (r : Option (List ℕ × ℕ)) (t : List ℕ) → i < j → (at ≡ Some j → option_map (λ q. q.0) r ≡ Some t) → cond b (Some i) at ≡ Some j → option_map (λ q. q.0) (cond b (Some p) r) ≡ Some t
-later_step true p i j at r t lt ih h = let e : i ≡ j = some_inj i j h in absurd (omega arith)
+later_step true p i j at r t lt ih h = let e : i ≡ j = same_Some i j h in absurd (omega arith)
 later_step false p i j at r t lt ih h = ih h
 
 -- an object that stands at a place has the bytes that stand there
 pub text-present : (o i k : ℕ) (es : Entries) (e : Vec ℕ Global × ℕ) → position_from (λ u. o == u) i (interned_objects (shown es)) ≡ Some (i + k) → slice_get es k ≡ Some e → interned_text (shown es) o ≡ Some e.0.items
-text-present o i k [] e h g = absurd (none_some (i + k) h)
+text-present o i k [] e h g = absurd (none-some (i + k) h)
 text-present o i zero (x ∷ es) e h g =
     let same : i + 0 ≡ i = omega arith in
     let first = first_step (o == x.1) (x.0.items, x.1) i (position_from (λ u. o == u) (i + 1) (interned_objects (shown es))) (find (λ p. o == p.1) (shown es))
     (position_from-le o (i + 1) i (interned_objects (shown es))) (h ∙ ap Some same) in
-    first ∙ ap (λ (y : Vec ℕ Global × ℕ). Some y.0.items) (some_entry x e g)
+    first ∙ ap (λ (y : Vec ℕ Global × ℕ). Some y.0.items) (same_Some x e g)
 text-present o i (suc k) (x ∷ es) e h g =
     let same : (i + 1) + k ≡ i + suc k = omega arith in
     later_step (o == x.1) (x.0.items, x.1) i (i + suc k) (position_from (λ u. o == u) (i + 1) (interned_objects (shown es))) (find (λ p. o == p.1) (shown es)) e.0.items (omega arith)
     (λ (at : position_from (λ u. o == u) (i + 1) (interned_objects (shown es)) ≡ Some (i + suc k)). text-present o (i + 1) k es e (at ∙ ap Some (sym same)) g) h
 
 none_step : (b : Bool) (p : List ℕ × ℕ) (r : Option (List ℕ × ℕ)) (c : Bool) → (option_map (λ q. q.0) r ≡ None → c ≡ false) → option_map (λ q. q.0) (cond b (Some p) r) ≡ None → (b || c) ≡ false
-none_step true p r c ih h = absurd (none_list p.0 (sym h))
+none_step true p r c ih h = absurd (none-some p.0 (sym h))
 none_step false p r c ih h = ih h
 
 -- an object that has no bytes stands nowhere
@@ -98,7 +87,7 @@ abbrev pub same_text : Vec ℕ Global → Vec ℕ Global → Bool
 same_text x y = bytes_eq x.items y.items
 
 insert_step : (b : Bool) (e : Vec ℕ Global × ℕ) (v : ℕ) (es inserted : Entries) (x : Vec ℕ Global × ℕ) (l : Option ℕ) → (l ≡ None → inserted ≡ es ++ x ∷ []) → cond b (Some e.1) l ≡ None → (if b then (e.0, v) ∷ es else (e ∷ inserted)) ≡ e ∷ (es ++ x ∷ [])
-insert_step true e v es inserted x l ih h = absurd (none_some e.1 (sym h))
+insert_step true e v es inserted x l ih h = absurd (none-some e.1 (sym h))
 insert_step false e v es inserted x l ih h = ap (λ ys. e ∷ ys) (ih h)
 
 inserted_last : (es : Entries) (k : Vec ℕ Global) (v : ℕ) → lookup (λ x. bytes_eq k.items x.items) es ≡ None → insert_entry same_text es k v ≡ es ++ (k, v) ∷ []

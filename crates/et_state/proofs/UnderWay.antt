@@ -86,7 +86,7 @@ law_lose s x lost l w was =
     law_guest s x lost x.guest l w (record { on = λ o c. inl c; off = λ o c. inl c; was = was })
 
 -- THE HEAP: a call that changes what an object leads to, or its referent
-targets_found : (x : Option ObjectState) → targets_of x ≡ leads_to (found x)
+pub targets_found : (x : Option ObjectState) → targets_of x ≡ leads_to (found x)
 targets_found None = refl
 targets_found (Some x) = refl
 
@@ -96,7 +96,7 @@ set_pair_same xs o y z lt c = subst (λ (v : Option ObjectState). Contains (targ
 pair_set_same : (xs : Objects) (o : ℕ) (y : ObjectState) (z : ℕ) → o < length xs → Contains (leads_to y) z → Contains (pairs_of (set xs o (Some y))) (o, z)
 pair_set_same xs o y z lt c = at_pair (set xs o (Some y)) o z (subst (λ (v : Option ObjectState). Contains (targets_of v) z) (sym (get_or-set_same xs o (Some y) None lt)) c)
 
-at_other : (xs : Objects) (o u : ℕ) (y : ObjectState) → (u ≡ o → ⊥) → at (set xs o (Some y)) u ≡ at xs u
+pub at_other : (xs : Objects) (o u : ℕ) (y : ObjectState) → (u ≡ o → ⊥) → at (set xs o (Some y)) u ≡ at xs u
 at_other [] o u y ne = refl
 at_other (x ∷ xs) zero zero y ne = absurd (ne refl)
 at_other (x ∷ xs) zero (suc u) y ne = refl

@@ -62,7 +62,7 @@ IsEither heap reported u z = IsPair heap u z ⊎ IsPair reported u z
 no_targets : (z : ℕ) → Contains (targets_of None) z → ⊥
 no_targets z c = Contains-none z c
 
-targets_left : (here : ℕ → Bool) (b : Bool) (x : Option ObjectState) (z : ℕ) → Contains (targets_of (left_place here b x)) z → Contains (targets_of x) z
+pub targets_left : (here : ℕ → Bool) (b : Bool) (x : Option ObjectState) (z : ℕ) → Contains (targets_of (left_place here b x)) z → Contains (targets_of x) z
 targets_left here b None z c = c
 targets_left here true (Some x) z c = c
 targets_left here false (Some x) z c = absurd (no_targets z c)
@@ -144,7 +144,7 @@ remaining_pair here k [] u z c = c
 remaining_pair here k (x ∷ xs) zero z c = targets_left here (here k) x z c
 remaining_pair here k (x ∷ xs) (suc u) z c = remaining_pair here (k + 1) xs u z c
 
-place_pair_stays : (here : ℕ → Bool) (b : Bool) (x : Option ObjectState) (z : ℕ) → b ≡ true → Contains (targets_of x) z → Contains (targets_of (left_place here b x)) z
+pub place_pair_stays : (here : ℕ → Bool) (b : Bool) (x : Option ObjectState) (z : ℕ) → b ≡ true → Contains (targets_of x) z → Contains (targets_of (left_place here b x)) z
 place_pair_stays here true x z e c = left_targets here x z c
 place_pair_stays here false x z e c = cc
 

@@ -5,6 +5,7 @@ use Rattle.std.specs.List.{list_all}
 use Rattle.std.specs.Str.{bytes_eq}
 use Rattle.std.proofs.lemmas.Bool.{and_parts, leb-true}
 use Rattle.std.proofs.lemmas.Slice.Eq.{bytes_eq-Decides}
+use Rattle.std.proofs.lemmas.Option.{same_Some, none-some}
 use Rattle.et_class.specs.Descriptors.{types_of, after_dimensions, after_name}
 use Rattle.et_class.specs.Operands.{returned_width}
 use Rattle.et_event.specs.Sound.{returned_of}
@@ -28,15 +29,9 @@ all_have_room : list_all has_room text_methods ≡ true
 unfolding types_of after_dimensions after_name
 all_have_room = refl
 
-some_same : (a b : TextMethod) → Some a ≡ Some b → a ≡ b
-some_same a b e = cc
-
-none_some : (b : TextMethod) → None ≡ Some b → ⊥
-none_some b e = cc
-
 room_by : (class name descriptor : List ℕ) (t : TextMethod) (rows : List Line) → list_all has_room rows ≡ true → option_map (λ (row : Line). row.3) (find (is_text_method class name descriptor) rows) ≡ Some t
     → entries_given t ≤ returned_width (returned_of (with_descriptor descriptor))
-room_by class name descriptor t [] all e = absurd (none_some t e)
+room_by class name descriptor t [] all e = absurd (none-some t e)
 room_by class name descriptor t (row ∷ rows) all e = by (is_text_method class name descriptor row) refl e (room_by class name descriptor t rows parts.1)
   where
     parts : (has_room row ≡ true) × (list_all has_room rows ≡ true)
@@ -47,7 +42,7 @@ room_by class name descriptor t (row ∷ rows) all e = by (is_text_method class 
     by true is q more =
         let type : row.2 ≡ descriptor = (bytes_eq-Decides row.2 descriptor).0 (and_parts (bytes_eq row.0 class && bytes_eq row.1 name) (bytes_eq row.2 descriptor) is).1 in
         let few : entries_given row.3 ≤ returned_width (returned_of (with_descriptor row.2)) = leb-true (entries_given row.3) (returned_width (returned_of (with_descriptor row.2))) parts.0 in
-        subst (λ (k : TextMethod). entries_given k ≤ returned_width (returned_of (with_descriptor descriptor))) (some_same row.3 t q)
+        subst (λ (k : TextMethod). entries_given k ≤ returned_width (returned_of (with_descriptor descriptor))) (same_Some row.3 t q)
         (subst (λ (d : List ℕ). entries_given row.3 ≤ returned_width (returned_of (with_descriptor d))) type few)
     by false is q more = more q
 

@@ -3,6 +3,7 @@ use Rattle.std.proofs.Common.{◌≡◌, ℕ, ◌<◌, ◌≤◌, ℤ, Bool, tru
 use Rattle.std.specs.Prelude.{if◌then◌else◌, slice_index_or}
 use Rattle.et_base.specs.declared.value.Value.{Value}
 use Rattle.et_base.specs.declared.value.Value.TheVariants.{Int, Ref}
+use Rattle.et_base.proofs.Options.{none_by_test}
 use Rattle.et_heap.specs.Objects.{referent_of}
 use Rattle.et_state.specs.Outcome.{Outcome}
 use Rattle.et_state.specs.Spoken.{text_of}
@@ -47,10 +48,6 @@ some_unit : (b : Bool) (v unit : ℕ) → (if b then Some v else None) ≡ Some 
 some_unit true v unit is = (refl, cc)
 some_unit false v unit is = cc
 
-no_unit : (b : Bool) (v : ℕ) → (if b then Some v else None) ≡ None → b ≡ false
-no_unit true v is = cc
-no_unit false v is = refl
-
 -- there is one
 pub char-given : (e : Moment) (at : Site) (d : Doing) (arguments : List Value) (o : ℕ) (i : ℤ) (unit : ℕ) → argument arguments 1 ≡ Int i → unit_numbered (text_of e.before o) i ≡ Some unit
     → text_done e at d arguments o CharAt ≡ goes (answering e at arguments (Int (pos unit) ∷ []) d)
@@ -65,7 +62,7 @@ pub char-throws : (e : Moment) (at : Site) (d : Doing) (arguments : List Value) 
     → text_done e at d arguments o CharAt ≡ throws e StringIndexOutOfBoundsException d
 char-throws e at d arguments o i is none =
     numbered e at d arguments o i is
-    ∙ ap (λ (b : Bool). throws_unless e d StringIndexOutOfBoundsException b (unit_given e at d arguments o i)) (no_unit (in_bounds i (length (text_of e.before o))) (slice_index_or (text_of e.before o) (natural_of i) 0) none)
+    ∙ ap (λ (b : Bool). throws_unless e d StringIndexOutOfBoundsException b (unit_given e at d arguments o i)) (none_by_test (in_bounds i (length (text_of e.before o))) (slice_index_or (text_of e.before o) (natural_of i) 0) none)
 
 -- A TEXT IS GIVEN
 

@@ -12,7 +12,7 @@ none_missed every flush event some le =
     let below = div_below (event - 1) every (flush / every + 1) some room in
     omega arith
 
-le_or_above : (a b : ℕ) → (a ≤ b) ⊎ (b < a)
+pub le_or_above : (a b : ℕ) → (a ≤ b) ⊎ (b < a)
 le_or_above a b = grind (arith, nat_tests)
 
 is_near : (every flush event : ℕ) → 0 < every → (event - 1) / every ≤ flush / every → event - (flush - flush % every) ≤ every

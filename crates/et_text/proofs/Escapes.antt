@@ -2,12 +2,13 @@
 use Rattle.std.proofs.Common.{◌≡◌, ℕ, zero, suc, ◌+◌, ◌-◌, ◌*◌, ◌/◌, ◌%◌, ◌<◌, ◌≤◌, true, false, cond, ◌&&◌, eqb, leb, ltb, List, [], ◌∷◌, ◌++◌, length, Some, None, refl, sym, ap, subst, ◌∙◌, append_assoc, arith, inl, inr, length-append}
 use Rattle.std.specs.Fmt.{digit_glyph}
 use Rattle.std.specs.List.{AllByRecursion}
-use Rattle.std.proofs.lemmas.Bool.{leb-true, le-leb, ltb-false, ltb-true, lt-ltb, le-ltb}
+use Rattle.std.proofs.lemmas.Bool.{leb-true, le-leb, ltb-false, ltb-true, lt-ltb, le-ltb, and_parts, eqb-true}
 use Rattle.std.proofs.lemmas.Bool.Decides.{nat_tests}
+use Rattle.std.proofs.lemmas.Option.{same_Some}
 use Rattle.et_text.specs.Spelling.{is_escaped, escape, escapes}
 use Rattle.et_text.specs.Reading.{◌>>=◌, hex_value, escaped_at, byte_at, is_break, name_bytes_at, unless_empty, text_field_at}
 use Rattle.et_base.specs.Digits.{is_digit}
-use Rattle.et_text.proofs.Numbers.{bind_some, chosen, some_is, guard_some, both_true, digit_range, digit_is, eqb-yes}
+use Rattle.et_text.proofs.Numbers.{bind_some, chosen, guard_some, digit_range, digit_is}
 
 pub record IsHex (b v : ℕ) : Type 0 where
   pub small : v < 16
@@ -29,10 +30,10 @@ pub hex_takes : (b v : ℕ) → hex_value b ≡ Some v → IsHex b v
 unfolding hex_value
 hex_takes b v e =
     elim (chosen (is_digit b) (Some (b - 48)) (cond (leb 65 b && leb b 70) (Some (b - 55)) None) (Some v) e) [
-      | inl d ↦ let r = digit_range b d.0 in hex_low b v r.0 r.1 (some_is (b - 48) v d.1)
+      | inl d ↦ let r = digit_range b d.0 in hex_low b v r.0 r.1 (same_Some (b - 48) v d.1)
       | inr d ↦
           let g = guard_some (leb 65 b && leb b 70) (b - 55) v d.1 in
-          let p = both_true (leb 65 b) (leb b 70) g.0 in
+          let p = and_parts (leb 65 b) (leb b 70) g.0 in
           hex_high b v (leb-true 65 b p.0) (leb-true b 70 p.1) g.1
     ]
 
@@ -101,13 +102,13 @@ unfolding byte_at
 byte_takes [] b rest e = absurd cc
 byte_takes (x ∷ bs) b rest e =
     elim (chosen (eqb x 37) (escaped_at bs) (cond (is_escaped x) None (Some (x, bs))) (Some (b, rest)) e) [
-      | inl z ↦ let is : x ≡ 37 = eqb-yes x 37 z.0 in subst (λ (y : ℕ). IsByte (y ∷ bs) b rest) (sym is) (escaped_takes bs b rest z.1)
+      | inl z ↦ let is : x ≡ 37 = eqb-true x 37 z.0 in subst (λ (y : ℕ). IsByte (y ∷ bs) b rest) (sym is) (escaped_takes bs b rest z.1)
       | inr z ↦ elim (chosen (is_escaped x) None (Some (x, bs)) (Some (b, rest)) z.1) [
         | inl n ↦ absurd (let f = n.1 in cc)
         | inr n ↦
             let lt : x < 127 = not_escaped x n.0 in
             let one : IsByte (x ∷ bs) x bs = record { parts = ap (λ (t : List ℕ). t ++ bs) (sym (escape_no x n.0)); small = omega arith } in
-            subst (as_byte (x ∷ bs)) (some_is (x, bs) (b, rest) n.1) one
+            subst (as_byte (x ∷ bs)) (same_Some (x, bs) (b, rest) n.1) one
       ]
     ]
 
@@ -154,10 +155,10 @@ nothing bytes = record { parts = refl; small = tt }
 
 pub bytes_takes : (k : ℕ) (bytes name rest : List ℕ) → name_bytes_at k bytes ≡ Some (name, rest) → IsNameAt bytes name rest
 unfolding name_bytes_at
-bytes_takes zero bytes name rest e = subst (as_name bytes) (some_is ([], bytes) (name, rest) e) (nothing bytes)
+bytes_takes zero bytes name rest e = subst (as_name bytes) (same_Some ([], bytes) (name, rest) e) (nothing bytes)
 bytes_takes (suc k) bytes name rest e =
     elim (chosen (is_break bytes) (Some ([], bytes)) (byte_at bytes >>= λ x. name_bytes_at k x.1 >>= λ y. Some (x.0 ∷ y.0, y.1)) (Some (name, rest)) e) [
-      | inl z ↦ subst (as_name bytes) (some_is ([], bytes) (name, rest) z.1) (nothing bytes)
+      | inl z ↦ subst (as_name bytes) (same_Some ([], bytes) (name, rest) z.1) (nothing bytes)
       | inr z ↦
           let p = bind_some (byte_at bytes) (λ x. name_bytes_at k x.1 >>= λ y. Some (x.0 ∷ y.0, y.1)) (name, rest) z.1 in
           let q = bind_some (name_bytes_at k p.0.1) (λ y. Some (p.0.0 ∷ y.0, y.1)) (name, rest) p.2 in
@@ -167,7 +168,7 @@ bytes_takes (suc k) bytes name rest e =
             parts = b.parts ∙ ap (λ (t : List ℕ). escape p.0.0 ++ t) ih.parts ∙ sym (append_assoc (escape p.0.0) (escapes q.0.0) q.0.1);
             small = (b.small, ih.small);
           } in
-          subst (as_name bytes) (some_is (p.0.0 ∷ q.0.0, q.0.1) (name, rest) q.2) one
+          subst (as_name bytes) (same_Some (p.0.0 ∷ q.0.0, q.0.1) (name, rest) q.2) one
     ]
 
 stop_again : (k : ℕ) (rest : List ℕ) → is_break rest ≡ true → name_bytes_at k rest ≡ Some ([], rest)
@@ -205,7 +206,7 @@ as_text bytes p = IsTextAt bytes p.0 p.1
 some_takes : (bytes : List ℕ) (p : List ℕ × List ℕ) (name rest : List ℕ) → IsNameAt bytes p.0 p.1 → unless_empty p ≡ Some (name, rest) → IsTextAt (32 ∷ bytes) name rest
 some_takes bytes ([], after) name rest h e = absurd cc
 some_takes bytes (b ∷ bs, after) name rest h e =
-    subst (as_text (32 ∷ bytes)) (some_is (b ∷ bs, after) (name, rest) e) (record { parts = ap (λ (t : List ℕ). 32 ∷ t) h.parts; small = h.small; some = omega arith })
+    subst (as_text (32 ∷ bytes)) (same_Some (b ∷ bs, after) (name, rest) e) (record { parts = ap (λ (t : List ℕ). 32 ∷ t) h.parts; small = h.small; some = omega arith })
 
 pub text_takes : (bytes name rest : List ℕ) → text_field_at bytes ≡ Some (name, rest) → IsTextAt bytes name rest
 unfolding text_field_at
@@ -213,7 +214,7 @@ text_takes [] name rest e = absurd cc
 text_takes (b ∷ bs) name rest e =
     elim (chosen (eqb b 32) (name_bytes_at (length bs) bs >>= unless_empty) None (Some (name, rest)) e) [
       | inl z ↦
-          let is : b ≡ 32 = eqb-yes b 32 z.0 in
+          let is : b ≡ 32 = eqb-true b 32 z.0 in
           let p = bind_some (name_bytes_at (length bs) bs) unless_empty (name, rest) z.1 in
           subst (λ (x : ℕ). IsTextAt (x ∷ bs) name rest) (sym is) (some_takes bs p.0 name rest (bytes_takes (length bs) bs p.0.0 p.0.1 p.1) p.2)
       | inr z ↦ absurd (let f = z.1 in cc)

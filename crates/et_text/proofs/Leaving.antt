@@ -1,9 +1,9 @@
 -- What a line leaves, by the rules of the lines.
-use Rattle.std.proofs.Common.{◌≡◌, ℕ, ◌+◌, ◌≤◌, Bool, true, false, cond, not, ◌&&◌, eqb, List, ◌∷◌, length, Option, Some, None, refl, sym, ap, subst, ◌∙◌, arith}
-use Rattle.std.proofs.lemmas.Bool.{leb-true}
-use Rattle.std.proofs.lemmas.Bool.Decides.{nat_tests}
+use Rattle.std.proofs.Common.{◌≡◌, ℕ, ◌+◌, ◌≤◌, Bool, true, false, cond, not, eqb, List, ◌∷◌, length, Option, Some, None, refl, sym, ap, subst, ◌∙◌, arith}
+use Rattle.std.proofs.lemmas.Bool.{leb-true, not-true, eqb-true}
 use Rattle.et_base.specs.declared.line.TraceLine.{TraceLine}
 use Rattle.et_base.specs.declared.line.TraceLine.TheVariants.{Header, Class, Method, Alloc, Update, Enter, Exit, Unwind, Flush, Death, Finish}
+use Rattle.et_base.proofs.Tests.{and_second}
 use Rattle.et_text.specs.Ranges.{IsInRange}
 use Rattle.et_text.specs.Rules.{order, unknown, twice, after, has_ended, keeps_order, is_known, keeps_lives, is_new, next_fault}
 use Rattle.et_text.specs.declared.standing.Standing.{Standing}
@@ -74,21 +74,10 @@ new_by s s' past (Flush event deaths) added n h d = sym n.0
 new_by s s' past (Death object time) added n h d = d ∙ sym n.0
 new_by s s' past (Finish event how) added n h d = sym n.0
 
-both_true : (a b : Bool) → (a && b) ≡ true → b ≡ true
-both_true true b e = e
-both_true false b e = absurd cc
-
-not_true : (b : Bool) → not b ≡ true → b ≡ false
-not_true true e = absurd cc
-not_true false e = refl
-
-eqb-yes : (a b : ℕ) → eqb a b ≡ true → a ≡ b
-eqb-yes a b e = grind (arith, nat_tests)
-
 pub stands_on : (version : ℕ) (s s' : Standing) (past : List TraceLine) (line : TraceLine) (added : Bool) → s.ended ≡ false → order_in s line ≡ true → known_in s line ≡ true → IsInRange version line → Notes s s' line added → StandsForLines s past → StandsForLines s' (line ∷ past)
-stands_on version s s' past (Header v every) added unended o k r n h = subst (λ (t : Standing). StandsForLines t (Header v every ∷ past)) (sym n.1) (stands_header s past v every unended (ap (λ (k : Said). k.begun) (sym h.said_is) ∙ not_true s.begun o) h)
-stands_on version s s' past (Class number name) added unended o k r n h = stands_class s s' past number name added unended (eqb-yes number (s.classes + 1) (both_true (is_open_in s) (eqb number (s.classes + 1)) o)) n h
-stands_on version s s' past (Method number class name descriptor) added unended o k r n h = stands_method s s' past number class name descriptor added unended (eqb-yes number (s.methods + 1) (both_true (is_open_in s) (eqb number (s.methods + 1)) o)) n h
+stands_on version s s' past (Header v every) added unended o k r n h = subst (λ (t : Standing). StandsForLines t (Header v every ∷ past)) (sym n.1) (stands_header s past v every unended (ap (λ (k : Said). k.begun) (sym h.said_is) ∙ not-true s.begun o) h)
+stands_on version s s' past (Class number name) added unended o k r n h = stands_class s s' past number name added unended (eqb-true number (s.classes + 1) (and_second (is_open_in s) (eqb number (s.classes + 1)) o)) n h
+stands_on version s s' past (Method number class name descriptor) added unended o k r n h = stands_method s s' past number class name descriptor added unended (eqb-true number (s.methods + 1) (and_second (is_open_in s) (eqb number (s.methods + 1)) o)) n h
 stands_on version s s' past (Alloc event thread object class size len) added unended o k r n h = stands_object s s' past event thread object class size len unended n.1 h
 stands_on version s s' past (Update event thread object slot old new) added unended o k r n h = subst (λ (t : Standing). StandsForLines t (Update event thread object slot old new ∷ past)) (sym n.1) (stands_update s past event unended h thread object slot old new)
 stands_on version s s' past (Enter event thread method receiver) added unended o k r n h = subst (λ (t : Standing). StandsForLines t (Enter event thread method receiver ∷ past)) (sym n.1) (stands_enter s past event unended h thread method receiver)

@@ -7,10 +7,12 @@ use Rattle.et_base.specs.declared.line.TraceLine.{TraceLine}
 use Rattle.et_base.specs.declared.line.TraceLine.TheVariants.{Header, Class, Method, Alloc, Update, Enter, Exit, Unwind, Flush, Death, Finish}
 use Rattle.et_text.specs.Ranges.{IsInRange}
 use Rattle.std.proofs.lemmas.List.{append-nil}
+use Rattle.std.proofs.lemmas.Option.{same_Some}
+use Rattle.std.proofs.lemmas.Bool.{eqb-true}
 use Rattle.et_text.specs.Spelling.{escapes, fields, field_text, letter, line_body, SpelledField, Number}
 use Rattle.et_text.specs.Text.{IsLineSpelled}
 use Rattle.et_text.specs.Reading.{◌>>=◌, is_break, number_field_in, text_field_at, done, turn_at, header_line_at, class_line_at, method_line_at, alloc_at, update_at, enter_at, exit_at, unwind_at, flush_at, death_line_at, finish_at, front_at, line_at}
-use Rattle.et_text.proofs.Numbers.{IsWithin, bind_some, chosen, some_is, eqb-yes, in_takes, in_again}
+use Rattle.et_text.proofs.Numbers.{IsWithin, bind_some, chosen, in_takes, in_again}
 use Rattle.et_text.proofs.Escapes.{AreBytes, text_takes, text_again}
 
 pub to_all : (P : ℕ → Type 0) (xs : List ℕ) → AllByRecursion P xs → All P xs
@@ -22,7 +24,7 @@ pub from_all : (P : ℕ → Type 0) (xs : List ℕ) → All P xs → AllByRecurs
 from_all P [] h = tt
 from_all P (x ∷ xs) h = (h 0 x (omega arith), from_all P xs (λ k d lt. h (suc k) d (omega arith)))
 
-all_bytes : (xs : List ℕ) → AreBytes xs → All (λ b. b < 256) xs
+pub all_bytes : (xs : List ℕ) → AreBytes xs → All (λ b. b < 256) xs
 all_bytes xs h = to_all (λ b. b < 256) xs h
 
 are_bytes : (xs : List ℕ) → All (λ b. b < 256) xs → AreBytes xs
@@ -33,7 +35,7 @@ record IsDone (line : TraceLine) (rest : List ℕ) (read : TraceLine) : Type 0 w
   pub same : line ≡ read
 
 done_is : (line : TraceLine) (rest : List ℕ) (read : TraceLine) → done line rest ≡ Some read → IsDone line rest read
-done_is line [] read e = record { empty = refl; same = some_is line read e }
+done_is line [] read e = record { empty = refl; same = same_Some line read e }
 done_is line (b ∷ rest) read e = absurd cc
 
 -- what is read, and what is left behind it
@@ -43,7 +45,7 @@ record IsLeft (line : TraceLine) (left : List ℕ) (read : TraceLine) (rest : Li
 
 left_is : (line : TraceLine) (left : List ℕ) (read : TraceLine) (rest : List ℕ) → ◌≡◌ {A = Option (TraceLine × List ℕ)} (Some (line, left)) (Some (read, rest)) → IsLeft line left read rest
 left_is line left read rest e =
-    let p : ◌≡◌ {A = TraceLine × List ℕ} (line, left) (read, rest) = some_is (line, left) (read, rest) e in
+    let p : ◌≡◌ {A = TraceLine × List ℕ} (line, left) (read, rest) = same_Some (line, left) (read, rest) e in
     record { rest_is = ap (λ (x : TraceLine × List ℕ). x.1) p; same = ap (λ (x : TraceLine × List ℕ). x.0) p }
 
 -- fields, and bytes behind them
@@ -73,7 +75,7 @@ turn_takes bytes event thread rest e =
     let p = in_takes 0 (2 ^ 40) bytes a.0.0 a.0.1 a.1 in
     let q = in_takes 0 63 a.0.1 b.0.0 b.0.1 b.1 in
     let one : IsTurn bytes a.0.0 b.0.0 b.0.1 = record { parts = p.0 ∙ ap (λ (t : List ℕ). 32 ∷ decimal a.0.0 ++ t) q.0; event_is = p.1.high_is; thread_is = q.1.high_is } in
-    subst (as_turn bytes) (some_is ((a.0.0, b.0.0), b.0.1) ((event, thread), rest) b.2) one
+    subst (as_turn bytes) (same_Some ((a.0.0, b.0.0), b.0.1) ((event, thread), rest) b.2) one
 
 turn_again : (event thread : ℕ) (rest : List ℕ) → event ≤ 2 ^ 40 → thread ≤ 63 → is_break rest ≡ true → turn_at (32 ∷ decimal event ++ (32 ∷ decimal thread ++ rest)) ≡ Some ((event, thread), rest)
 unfolding turn_at
@@ -243,7 +245,7 @@ line_again (Finish event how) r =
     rw (in_again 0 (2 ^ 40) event (32 ∷ decimal how ++ []) (omega arith) (omega arith) (omega arith) refl, in_again 0 (3) how [] (omega arith) (omega arith) (omega arith) refl) refl
 
 -- a body that begins with a letter
-body : (b letter : ℕ) (rest tail : List ℕ) → b ≡ letter → rest ≡ tail → b ∷ rest ≡ letter ∷ tail
+pub body : (b letter : ℕ) (rest tail : List ℕ) → b ≡ letter → rest ≡ tail → b ∷ rest ≡ letter ∷ tail
 body b letter rest tail e f = ap (λ (x : ℕ). x ∷ rest) e ∙ ap (λ (t : List ℕ). letter ∷ t) f
 
 -- the bytes are a line with these behind it
@@ -252,7 +254,7 @@ pub record IsFront (line : TraceLine) (bytes rest : List ℕ) : Type 0 where
   pub spelled : bytes ≡ letter line ∷ before (fields line) rest
 
 spelled_by : (b first : ℕ) (rest : List ℕ) (line : TraceLine) (left : List ℕ) → eqb b first ≡ true → IsTail first line rest left → IsFront line (b ∷ rest) left
-spelled_by b first rest line left e h = record { range = h.range; spelled = body b (letter line) rest (before (fields line) left) (eqb-yes b first e ∙ h.first_is) h.spelled }
+spelled_by b first rest line left e h = record { range = h.range; spelled = body b (letter line) rest (before (fields line) left) (eqb-true b first e ∙ h.first_is) h.spelled }
 
 -- what is read at the front is spelled so
 front_takes : (bytes : List ℕ) (line : TraceLine) (left : List ℕ) → front_at bytes ≡ Some (line, left) → IsFront line bytes left
@@ -329,7 +331,7 @@ pub one_line : (a b : TraceLine) (bytes : List ℕ) → IsLineSpelled a bytes �
 one_line a b bytes p q =
     let x : line_at bytes ≡ Some a = rw p.spelled (line_again a p.range) in
     let y : line_at bytes ≡ Some b = rw q.spelled (line_again b q.range) in
-    some_is a b (sym x ∙ y)
+    same_Some a b (sym x ∙ y)
 
 -- where nothing is read, the bytes are no line
 pub no_line : (bytes : List ℕ) (line : TraceLine) → line_at bytes ≡ None → IsLineSpelled line bytes → ⊥

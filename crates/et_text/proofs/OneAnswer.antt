@@ -21,7 +21,7 @@ in_range : (past : List TraceLine) → AreFine 1 past → InRange (reverse past)
 in_range [] h = tt
 in_range (a ∷ past) h = subst InRange (sym (reverse-append (a ∷ []) past)) (in_range_push (reverse past) a (in_range past h.0) h.1)
 
-lf_in : (x y : List ℕ) → NoLf (x ++ 10 ∷ y) → ⊥
+pub lf_in : (x y : List ℕ) → NoLf (x ++ 10 ∷ y) → ⊥
 lf_in [] y h = h.0 refl
 lf_in (b ∷ x) y h = lf_in x y h.1
 
@@ -44,7 +44,7 @@ stuck_end past rest o = record {
   no_more = λ a more ra na e. lf_in (line_body a) more (subst NoLf e (from_all (λ x. x ≢ 10) rest o));
 }
 
-back : (p q : List TraceLine) → reverse p ≡ reverse q → p ≡ q
+pub back : (p q : List TraceLine) → reverse p ≡ reverse q → p ≡ q
 back p q e = sym (reverse-reverse p) ∙ (ap reverse e ∙ reverse-reverse q)
 
 fine_back : (p : List TraceLine) → AreFine 1 p → AreFine 1 (reverse (reverse p))

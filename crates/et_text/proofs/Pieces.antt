@@ -1,5 +1,5 @@
 -- A text in pieces.
-use Rattle.std.proofs.Common.{◌≡◌, ◌≢◌, ℕ, ◌+◌, ◌<◌, Bool, true, false, Option, Some, None, Result, Ok, Err, List, [], ◌∷◌, ◌++◌, length, refl, sym, ap, subst, ◌∙◌, append_assoc, arith, inr}
+use Rattle.std.proofs.Common.{◌≡◌, ◌≢◌, ℕ, ◌+◌, ◌<◌, Bool, true, false, Option, Some, None, Result, Ok, Err, List, [], ◌∷◌, ◌++◌, length, refl, sym, ap, subst, ◌∙◌, append_assoc, inr}
 use Rattle.std.specs.Prelude.{reverse, IfOk, IfErr, OnOk}
 use Rattle.std.proofs.lemmas.List.{append-nil, length-reverse, reverse-reverse}
 use Rattle.et_base.specs.declared.line.TraceLine.{TraceLine}
@@ -36,7 +36,7 @@ shows_more bytes more kind number s = record {
 read_to : (taken : Taken) (ended : Bool) (rest : List ℕ) → AreRead taken ended rest → IsReadTo (reverse taken.lines) rest (bytes_read taken rest)
 read_to taken ended rest a = record { fine = a.fine; parts = ap (λ (t : List TraceLine). text t ++ rest) (sym (reverse-reverse taken.lines)) }
 
-number_is : (lines : List TraceLine) (number : ℕ) → number ≡ length lines + 1 → number ≡ length (reverse lines) + 1
+pub number_is : (lines : List TraceLine) (number : ℕ) → number ≡ length lines + 1 → number ≡ length (reverse lines) + 1
 number_is lines number n = n ∙ ap (λ (k : ℕ). k + 1) (sym (length-reverse lines))
 
 -- what was read shows no fault
@@ -158,7 +158,3 @@ lacks fault taken ended rest f old is a l =
 pub lacks_by : (r : Result (List TraceLine) TraceFault) (taken : Taken) (ended : Bool) (rest : List ℕ) (f : Option TraceFault) (old : Reading) → reading (bytes_read taken rest) f ≡ old → AreRead taken ended rest → IfErr r (LacksEnd taken.lines) → IfErr r (HasTextFault old.bytes)
 lacks_by (Ok trace) taken ended rest f old is a l = tt
 lacks_by (Err fault) taken ended rest f old is a l = lacks fault taken ended rest f old is a l
-
-pub none_where_empty : (bytes : List ℕ) → length bytes ≡ 0 → bytes ≡ []
-none_where_empty [] e = refl
-none_where_empty (b ∷ bytes) e = absurd (omega arith)

@@ -1,11 +1,12 @@
 -- What the next line changes keeps what is kept in step with the lines.
-use Rattle.std.proofs.Common.{◌≡◌, ◌≢◌, ℕ, zero, suc, ◌+◌, ◌-◌, ◌<◌, ◌≤◌, Bool, true, false, cond, not, ◌&&◌, ◌||◌, eqb, List, [], ◌∷◌, ◌++◌, length, get_or, set, Option, Some, None, refl, sym, ap, ◌∙◌, arith, get_or-set_same, get_or-set_other, length-append, inl, inr, ◌⊎◌}
+use Rattle.std.proofs.Common.{◌≡◌, ◌≢◌, ℕ, zero, suc, ◌+◌, ◌-◌, ◌<◌, ◌≤◌, Bool, true, false, cond, not, ◌&&◌, ◌||◌, eqb, List, [], ◌∷◌, ◌++◌, length, get_or, set, Option, Some, None, refl, sym, ap, ◌∙◌, arith, get_or-set_same, get_or-set_other, length-append, inl, inr}
 use Rattle.std.proofs.Math.ListN.{length-set}
-use Rattle.std.proofs.lemmas.Bool.Decides.{nat_tests}
 use Rattle.et_base.specs.declared.line.TraceLine.{TraceLine}
 use Rattle.et_base.specs.declared.line.TraceLine.TheVariants.{Header, Class, Method, Alloc, Update, Enter, Exit, Unwind, Flush, Death, Finish}
 use Rattle.et_text.specs.Rules.{has_begun, interval, newest_flush, is_final, is_reported, has_class, has_method}
 use Rattle.std.specs.Prelude.{bytes_eq}
+use Rattle.std.proofs.lemmas.Bool.{ne_eqb}
+use Rattle.et_base.proofs.Tests.{cases_eqb}
 use Rattle.et_text.specs.NameSets.{has_name, has_key, same_method}
 use Rattle.et_text.specs.declared.standing.Standing.{Standing}
 use Rattle.et_text.specs.ByStanding.{flag_at, reported_in}
@@ -94,19 +95,10 @@ stands_object s s' past event thread object class size len unended n h = record 
 
 -- A LINE THAT REPORTS A DEATH
 
-eqb-at : (a b : ℕ) → a ≡ b → eqb a b ≡ true
-eqb-at a b e = grind (arith, nat_tests)
-
-eqb-off : (a b : ℕ) → a ≢ b → eqb a b ≡ false
-eqb-off a b n = grind (arith, nat_tests)
-
-cases_eqb : (a b : ℕ) → ((eqb a b ≡ true) × (a ≡ b)) ⊎ ((eqb a b ≡ false) × (a ≢ b))
-cases_eqb a b = grind (arith, nat_tests)
-
 reported_now : (flags : List Bool) (past : List TraceLine) (object time o : ℕ) → 1 ≤ object → object ≤ length flags → flag_at flags o ≡ is_reported past o → flag_at (set flags (object - 1) true) o ≡ is_reported (Death object time ∷ past) o
 reported_now flags past object time o made known so_far =
     elim (cases_eqb o 0) [
-      | inl z ↦ let none : o ≡ 0 = z.1 in rw (z.0, eqb-off object o (omega arith)) (rw z.0 at so_far)
+      | inl z ↦ let none : o ≡ 0 = z.1 in rw (z.0, ne_eqb object o (omega arith)) (rw z.0 at so_far)
       | inr z ↦
           let some : o ≢ 0 = z.1 in
           rw z.0 (elim (cases_eqb object o) [

@@ -92,7 +92,7 @@ kept_on s s' lines line k h r short e =
       known = λ b. subst (λ (past : List TraceLine). IsVersion (version_of past)) back (known_on (reverse lines) line k.known r e);
     }
 
-begun_where_ended : (past : List TraceLine) → has_ended past ≡ true → has_begun past ≡ true
+pub begun_where_ended : (past : List TraceLine) → has_ended past ≡ true → has_begun past ≡ true
 begun_where_ended [] e = absurd cc
 begun_where_ended (x ∷ past) e = refl
 

@@ -1,5 +1,5 @@
 -- What a file that is held says of the command that reads it.
-use Rattle.std.proofs.Common.{◌≡◌, ℕ, suc, ◌-◌, ◌<◌, ◌≤◌, ◌↔◌, Bool, true, false, List, [], ◌∷◌, ◌++◌, length, length-append, Option, Some, Result, Ok, Err, refl, sym, ◌∙◌, ap, subst, arith, rules}
+use Rattle.std.proofs.Common.{◌≡◌, ℕ, suc, ◌-◌, ◌<◌, ◌≤◌, ◌↔◌, Bool, true, false, List, [], ◌∷◌, ◌++◌, length, length-append, Some, Result, Ok, Err, refl, sym, ◌∙◌, ap, subst, arith}
 use Rattle.std.specs.Prelude.{nat_le, slice_get, if◌then◌else◌}
 use Rattle.std.proofs.lemmas.Bool.Decides.{nat_tests}
 use Rattle.et_base.specs.declared.line.TraceLine.{TraceLine}
@@ -8,7 +8,7 @@ use Rattle.et_graph.specs.Graph.{Graph}
 use Rattle.et_io.specs.Sink.{Log, taken_bytes, with_more}
 use Rattle.et_io.proofs.Taking.{bytes_of_taken}
 use Rattle.et_files.specs.Faults.{Fault, BadEvent}
-use Rattle.et_files.specs.Loaded.{file_bytes, IsTraceOf, event_of_end, last_event, reaching}
+use Rattle.et_files.specs.Loaded.{IsTraceOf, event_of_end, last_event, reaching}
 use Rattle.et_top.specs.Top.{Defined, Writes, defined_text}
 
 bytes_in : Log → List ℕ
@@ -19,10 +19,6 @@ bytes_in _ = []
 pub one_text : (a b : List ℕ) → with_more (Some []) a ≡ with_more (Some []) b → a ≡ b
 unfolding bytes_in
 one_text a b e = sym (bytes_of_taken a) ∙ (ap bytes_in e ∙ bytes_of_taken b)
-
--- the bytes of a file that is not too long
-pub bytes_there : (most : ℕ) (file : Option (List ℕ)) (bytes : List ℕ) → file ≡ Some bytes → length bytes ≤ most → file_bytes most file ≡ Ok bytes
-bytes_there most file bytes is within = ap (file_bytes most) is ∙ first_of (search rules, grind (arith, nat_tests))
 
 -- what a command that reads a trace is defined to write, where the trace has these lines
 module _ (text : (Graph → ℕ → Bool) → List TraceLine → List ℕ) (file : Result (List ℕ) Fault) (lines : List TraceLine) (read : (trace : Result (List TraceLine) Fault) → IsTraceOf file trace ↔ (trace ≡ Ok lines)) (d : Defined) where

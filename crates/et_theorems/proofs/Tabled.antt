@@ -9,12 +9,12 @@ use Rattle.et_class.specs.Spelling.{IsClassSpelled}
 use Rattle.et_class.proofs.Respelled.{class_spelled}
 use Rattle.et_link.specs.Declaring.{AreRows}
 use Rattle.et_link.proofs.LinkingLemmas.{tabled_program}
-use Rattle.et_link.proofs.TabledLemmas.{length-classes}
+use Rattle.et_link.proofs.TabledLemmas.{length-classes, length-set}
 use Rattle.et_history.proofs.programs.Supers.{below}
 use Rattle.et_hierarchy.proofs.LinkLemmas.{are_within}
 use Rattle.et_program.specs.declared.fault.LinkFaultKind.TheVariants.{TooMany, NoMain}
 use Rattle.et_program.specs.Entries.{Linked}
-use Rattle.et_program.specs.Files.{boots, boot_outline, file_outline, set_of}
+use Rattle.et_program.specs.Files.{boots, set_of}
 use Rattle.et_program.specs.Linking.{IsOfFile}
 use Rattle.et_program.specs.LinkFaults.{IsLinkable}
 use Rattle.et_program.specs.Loaded.{LoadedClass, loaded_class, loaded_field, loaded_method}
@@ -61,17 +61,10 @@ boot_method_count : length (numbered boot_methods 0 boots) < 2 ^ 16
 unfolding boots
 boot_method_count = omega arith
 
-set_length : (files : List LoadedClass) → length (set_of files) ≡ length boots + length files
-set_length files =
-    let both = length-append (map boot_outline boots) (map file_outline files) in
-    let front = length-map boots boot_outline in
-    let back = length-map files file_outline in
-    omega (arith, both, front, back)
-
 pub few_files : (files : List LoadedClass) → IsLinkable files → length files ≤ 4096
 few_files files linkable =
     elim (cases_lt 4096 (length files)) [
-      | inl many ↦ let all = set_length files in absurd (linkable TooMany (length boots + 4096) (omega (arith, all, many)) refl)
+      | inl many ↦ let all = length-set files in absurd (linkable TooMany (length boots + 4096) (omega (arith, all, many)) refl)
       | inr few ↦ few
     ]
 
@@ -82,7 +75,7 @@ HasMain o = (m : ℕ) × (o ≡ Some m)
 main_by : (files : List LoadedClass) → 0 < length files → IsLinkable files → (o : Option ℕ) → main_of (methods_of files) ≡ o → HasMain o
 unfolding HasMain
 main_by files some linkable (Some m) e = (m, refl)
-main_by files some linkable None e = let all = set_length files in absurd (linkable NoMain (length boots) (omega (arith, all, some)) (refl, e))
+main_by files some linkable None e = let all = length-set files in absurd (linkable NoMain (length boots) (omega (arith, all, some)) (refl, e))
 
 main_there : (files : List LoadedClass) → 0 < length files → IsLinkable files → (m : ℕ) × (main_of (methods_of files) ≡ Some m)
 unfolding HasMain

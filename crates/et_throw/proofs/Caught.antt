@@ -1,10 +1,12 @@
 -- The event in which a handler is entered.
-use Rattle.std.proofs.Common.{◌≡◌, ℕ, ◌+◌, ◌<◌, ◌≤◌, ◌^◌, Bool, List, [], ◌∷◌, ◌++◌, length, Option, Some, None, option_to_list, refl, sym, ◌∙◌, ap, subst, arith, Contains, get_or-set_same, set-set, append-nil, ltb, inl, inr}
+use Rattle.std.proofs.Common.{◌≡◌, ℕ, ◌+◌, ◌<◌, ◌≤◌, ◌^◌, Bool, List, [], ◌∷◌, ◌++◌, length, Some, None, option_to_list, refl, sym, ◌∙◌, ap, subst, arith, Contains, get_or-set_same, set-set, append-nil, ltb, inl, inr}
 use Rattle.std.proofs.lemmas.List.{length-set, length-append}
 use Rattle.std.proofs.lemmas.List.Elements.{Contains-append_left, Contains-append_right}
 use Rattle.std.proofs.lemmas.Bool.{lt-ltb}
+use Rattle.et_heap.proofs.Places.{at_most_one}
+use Rattle.et_heap.proofs.References.{one_reference}
 use Rattle.et_base.specs.declared.value.Value.{Value}
-use Rattle.et_base.specs.declared.value.Value.TheVariants.{Unset, Int, Long, LongHigh, Null, Ref}
+use Rattle.et_base.specs.declared.value.Value.TheVariants.{Ref}
 use Rattle.et_base.proofs.Lists.{Contains-cons, Contains-none}
 use Rattle.et_heap.specs.Objects.{IsHeld}
 use Rattle.et_heap.specs.Refs.{refs_of, refs_of_value}
@@ -67,31 +69,19 @@ handled_led m t o handler m₁ m₂ m₃ m₄ m₅ sound has pending e₁ e₂ e
 
 -- WHAT IT LOSES
 
-few_refs : (v : Value) → length (refs_of_value v) ≤ 1
-few_refs Unset = omega arith
-few_refs (Int n) = omega arith
-few_refs (Long n) = omega arith
-few_refs LongHigh = omega arith
-few_refs Null = omega arith
-few_refs (Ref o) = omega arith
-
 refs_are_few : (vs : List Value) → length (refs_of vs) ≤ length vs
 refs_are_few [] = omega arith
 refs_are_few (v ∷ vs) =
-    let one : length (refs_of_value v) ≤ 1 = few_refs v in
+    let one : length (refs_of_value v) ≤ 1 = one_reference v in
     let rest : length (refs_of vs) ≤ length vs = refs_are_few vs in
     let all : length (refs_of_value v ++ refs_of vs) ≡ length (refs_of_value v) + length (refs_of vs) = length-append _ _ in
     omega arith
-
-lock_is_one : (lock : Option ℕ) → length (option_to_list lock) ≤ 1
-lock_is_one None = omega arith
-lock_is_one (Some o) = omega arith
 
 pub roots_are_few : (f : FrameState) → length f.locals + length f.operands < 2 ^ 17 → length (frame_roots f) ≤ 2 ^ 17
 roots_are_few f small =
     let locals : length (refs_of f.locals) ≤ length f.locals = refs_are_few f.locals in
     let operands : length (refs_of f.operands) ≤ length f.operands = refs_are_few f.operands in
-    let lock : length (option_to_list f.lock) ≤ 1 = lock_is_one f.lock in
+    let lock : length (option_to_list f.lock) ≤ 1 = at_most_one f.lock in
     let all : length (frame_roots f) ≡ length (refs_of f.locals) + length (refs_of f.operands ++ option_to_list f.lock) = length-append _ _ in
     let rest : length (refs_of f.operands ++ option_to_list f.lock) ≡ length (refs_of f.operands) + length (option_to_list f.lock) = length-append _ _ in
     omega arith

@@ -1,15 +1,17 @@
 -- The event in which an initializer fails.
-use Rattle.std.proofs.Common.{◌≡◌, ℕ, zero, suc, ◌+◌, ◌*◌, ◌<◌, ◌≤◌, ◌^◌, Bool, true, false, ◌&&◌, List, [], ◌∷◌, ◌++◌, length, replicate, set, get_or, Option, Some, None, option_to_list, refl, sym, ◌∙◌, ap, subst, arith, inl, inr, Contains, get_or-set_same, append-nil, append_assoc}
+use Rattle.std.proofs.Common.{◌≡◌, ℕ, zero, suc, ◌+◌, ◌*◌, ◌<◌, ◌≤◌, ◌^◌, Bool, true, false, ◌&&◌, List, [], ◌∷◌, ◌++◌, length, set, get_or, Option, Some, None, option_to_list, refl, sym, ◌∙◌, ap, subst, arith, inl, inr, Contains, get_or-set_same, append-nil, append_assoc}
 use Rattle.std.specs.Prelude.{nat_le}
 use Rattle.std.proofs.Math.Seq.{set-append_seam}
 use Rattle.std.proofs.lemmas.Bool.{cases_lt}
-use Rattle.std.proofs.lemmas.List.{length-set, length-replicate, length_push, get_or_at, get_or-replicate, get_or_past, set_past}
+use Rattle.std.proofs.lemmas.List.{length-set, length-replicate, length_push, get_or_at, get_or_past, set_past}
 use Rattle.std.proofs.lemmas.List.Sums.{sum_by_push}
+use Rattle.et_graph.proofs.Among.{waits_one}
+use Rattle.et_heap.proofs.References.{unset_at, found_there}
 use Rattle.et_base.specs.declared.value.Value.{Value}
 use Rattle.et_base.specs.declared.value.Value.TheVariants.{Unset, Ref}
 use Rattle.et_graph.specs.Graph.{IsReached}
-use Rattle.et_base.proofs.Lists.{Contains-here, Contains-cons, Contains-none}
-use Rattle.et_heap.specs.Objects.{ObjectState, Objects, IsHeld, is_there, at, object_at, found, new_object, slot_of, with_slot, with_object_at, slots_in, made_count, slot_count, most_objects, most_slots, has_room}
+use Rattle.et_base.proofs.Lists.{Contains-here, Contains-none}
+use Rattle.et_heap.specs.Objects.{ObjectState, Objects, IsHeld, at, object_at, found, new_object, slot_of, with_slot, with_object_at, slots_in, made_count, slot_count, most_objects, most_slots, has_room}
 use Rattle.et_heap.specs.Refs.{refs_of_value}
 use Rattle.et_heap.proofs.HeapLists.{held_set}
 use Rattle.et_program.specs.Entries.{Linked, class_at}
@@ -86,25 +88,13 @@ newest heap x = ap found (get_or_at heap (Some x) [] None (length heap) refl)
 pub newest_slots : (m : MachineState) (class slots : ℕ) → length (object_at (m.heap ++ Some (error_object class slots) ∷ []) (length m.heap)).slots ≡ slots
 newest_slots m class slots = ap (λ (x : ObjectState). length x.slots) (newest m.heap (error_object class slots)) ∙ length-replicate slots Unset
 
--- nothing was written to it
-unwritten : (n i : ℕ) → get_or (replicate n Unset) i Unset ≡ Unset
-unwritten n i =
-    elim (cases_lt i n) [
-      | inl lt ↦ get_or-replicate n i Unset Unset lt
-      | inr le ↦ get_or_past (replicate n Unset) i Unset (subst (λ (k : ℕ). k ≤ i) (sym (length-replicate n Unset)) le)
-    ]
-
 first_cause : (heap : Objects) (class slots : ℕ) → slot_of (object_at (heap ++ Some (error_object class slots) ∷ []) (length heap)) 1 ≡ Unset
-first_cause heap class slots = ap (λ (x : ObjectState). slot_of x 1) (newest heap (error_object class slots)) ∙ unwritten slots 1
+first_cause heap class slots = ap (λ (x : ObjectState). slot_of x 1) (newest heap (error_object class slots)) ∙ unset_at slots 1
 
 set_itself : (xs : Objects) (i : ℕ) (x : Option ObjectState) → x ≡ get_or xs i None → set xs i x ≡ xs
 set_itself [] i x e = refl
 set_itself (y ∷ ys) zero x e = ap (λ (z : Option ObjectState). z ∷ ys) e
 set_itself (y ∷ ys) (suc i) x e = ap (λ (zs : Objects). y ∷ zs) (set_itself ys i x e)
-
-found_there : (x : Option ObjectState) → is_there x → Some (found x) ≡ x
-found_there None h = absurd h
-found_there (Some x) h = refl
 
 -- where it has no slot for it, writing it changes nothing
 no_cause : (m : MachineState) (o cause : ℕ) → IsHeld m.heap o → length (object_at m.heap o).slots ≤ 1
@@ -132,9 +122,6 @@ thrown b t n = steps_thread b t (with_pending (Some n) (thread_at b.guest t)) (o
 
 abbrev with_error : MachineState → ℕ → ℕ → ℕ → ℕ → ℕ → MachineState
 with_error m t class kind slots o = thrown (caused (without_initializer m t class kind slots) (length m.heap) o) t (length m.heap)
-
-only : (P : ℕ → Type 0) (o : ℕ) → P o → (q : ℕ) → Contains (o ∷ []) q → P q
-only P o h q c = elim (Contains-cons o [] q c) [ inl same ↦ subst P same h | inr more ↦ absurd (Contains-none q more) ]
 
 -- what is known where the frame of the initializer was dropped
 record IsDropped (m : MachineState) (t o : ℕ) (b : MachineState) : Type 0 where
@@ -167,8 +154,8 @@ caused_on_way m t class kind slots o sound has pending =
     elim (cases_lt 1 slots) [
       | inl lt ↦
           on_set_slot s b n 1 (Ref o) d.way (newest_held m.heap y) (new_there s (kept_of b) n (omega arith) (omega arith)) (subst (λ (k : ℕ). 1 < k) (sym (newest_slots m kind slots)) lt)
-          (only (IsHeld b.heap) o (pending_held (kept_of b) t o d.way.sound d.long d.pending))
-          (only (WasThere s (kept_of b)) o (pending_was m t o (kept_of b) has pending))
+          (waits_one (IsHeld b.heap) o (pending_held (kept_of b) t o d.way.sound d.long d.pending))
+          (waits_one (WasThere s (kept_of b)) o (pending_was m t o (kept_of b) has pending))
           (λ q c. absurd (Contains-none q (subst (λ (v : Value). Contains (refs_of_value v) q) (first_cause m.heap kind slots) c)))
       | inr le ↦ subst (λ (z : MachineState). IsOnWay s z) (no_cause b n o (newest_held m.heap y) (subst (λ (k : ℕ). k ≤ 1) (sym (newest_slots m kind slots)) le)) d.way
     ]
@@ -184,7 +171,7 @@ replaced_led m m' t class kind slots o sound has pending e =
     let d : IsDropped m t o b₃ = is_dropped m t class kind slots o sound has pending in
     let held : IsHeld b₄.heap n = held_set b₃.heap n (with_cause o (object_at b₃.heap n)) n (newest_held m.heap y) (newest_held m.heap y) in
     let were : WereThere s b₄ (option_to_list (thread_at b₄.guest t).pending) =
-    λ q c. only (WasThere s (kept_of b₄)) o (pending_was m t o (kept_of b₄) has pending) q (subst (λ (p : Option ℕ). Contains (option_to_list p) q) d.pending c) in
+    λ q c. waits_one (WasThere s (kept_of b₄)) o (pending_was m t o (kept_of b₄) has pending) q (subst (λ (p : Option ℕ). Contains (option_to_list p) q) d.pending c) in
     let w : IsOnWay s b₅ = on_throw s b₄ t n (caused_on_way m t class kind slots o sound has pending) d.long held were in
     let x : ThreadState = with_pending (Some n) (thread_at b₄.guest t) in
     let long : t < length b₅.guest.threads = subst (λ (j : ℕ). t < j) (sym (length-set b₄.guest.threads t x)) d.long in

@@ -1,20 +1,11 @@
 -- Items and models one after another.
-use Rattle.std.proofs.Common.{◌≡◌, ℕ, ◌+◌, ◌<◌, List, [], ◌∷◌, ◌++◌, length, map, drop, get_or, suc, refl, sym, ◌∙◌, ap, subst, add-one}
+use Rattle.std.proofs.Common.{◌≡◌, ◌+◌, List, [], ◌∷◌, ◌++◌, map, refl, sym, ◌∙◌, ap, subst}
 use Rattle.std.specs.Prelude.{Option, Some, None}
 use Rattle.std.specs.List.{AllZip, filter_map}
-use Rattle.std.proofs.Math.Seq.{drop-cons}
-use Rattle.std.proofs.lemmas.List.{length-append}
 use Rattle.std.proofs.lemmas.List.Elements.{filter_map-append}
-use Rattle.et_replay.specs.declared.item.Item.{Item}
+use Rattle.et_link.proofs.Lists.{map_push}
 use Rattle.et_replay.specs.declared.model.Policy.{Policy}
-use Rattle.et_replay.specs.Items.{made_objects, object_made}
 use Rattle.et_top.specs.Told.{IsPrepared}
-
--- the items from here on make what the first makes, and what the others do
-pub made_next : (xs : List Item) (i : ℕ) (d : Item) → i < length xs → length (made_objects (drop i xs)) ≡ length (made_objects (get_or xs i d ∷ [])) + length (made_objects (drop (i + 1) xs))
-made_next xs i d lt =
-    rw add-one (ap (λ ys. length (made_objects ys)) (drop-cons xs i d lt)
-    ∙ (ap length (filter_map-append object_made (get_or xs i d ∷ []) (drop (suc i) xs)) ∙ length-append (made_objects (get_or xs i d ∷ [])) (made_objects (drop (suc i) xs))))
 
 zip_append : {B : Type 0} (R : B → Policy → Type 0) (bs : List B) (ps : List Policy) (b : B) (p : Policy) → AllZip R bs ps → R b p → AllZip R (bs ++ b ∷ []) (ps ++ p ∷ [])
 zip_append R [] [] b p z r = (r, tt)
@@ -26,12 +17,8 @@ append_nothing : (ps : List Policy) → ps ++ [] ≡ ps
 append_nothing [] = refl
 append_nothing (p ∷ ps) = ap (λ qs. p ∷ qs) (append_nothing ps)
 
-map_append : {A B : Type 0} (f : A → B) (xs : List A) (x : A) → map f (xs ++ x ∷ []) ≡ map f xs ++ f x ∷ []
-map_append f [] x = refl
-map_append f (y ∷ ys) x = ap (λ zs. f y ∷ zs) (map_append f ys x)
-
 one_more : {A K : Type 0} (kind : A → K) (policy : K → Option Policy) (xs : List A) (x : A) → filter_map policy (map kind (xs ++ x ∷ [])) ≡ filter_map policy (map kind xs) ++ filter_map policy (kind x ∷ [])
-one_more kind policy xs x = ap (filter_map policy) (map_append kind xs x) ∙ filter_map-append policy (map kind xs) (kind x ∷ [])
+one_more kind policy xs x = ap (filter_map policy) (map_push kind xs x) ∙ filter_map-append policy (map kind xs) (kind x ∷ [])
 
 -- a model that is asked for joins those that are
 pub joins : {A B K : Type 0} (R : B → Policy → Type 0) (kind : A → K) (policy : K → Option Policy) (xs : List A) (x : A) (bs : List B) (b : B) → AllZip R bs (filter_map policy (map kind xs)) → IsPrepared R (policy (kind x)) (Some b) → AllZip R (bs ++ b ∷ []) (filter_map policy (map kind (xs ++ x ∷ [])))

@@ -51,7 +51,7 @@ fn makes(item: &Item) -> u32
 }
 
 /// How many objects the items make.
-#[tactic(auto, using(crate::proofs::ModelLemmas::made_next))]
+#[tactic(auto, using(et_replay::proofs::Comes::made_left))]
 fn count_made(items: &[Item]) -> u32
     requires { length (made_objects items.now) < 2 ^ 24 }
     ensures { result ≡ length (made_objects items.now) }

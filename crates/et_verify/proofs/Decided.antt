@@ -4,6 +4,7 @@ use Rattle.std.specs.Prelude.{option_map, replicate}
 use Rattle.std.specs.Option.{option_map_or}
 use Rattle.std.proofs.lemmas.List.{length-append}
 use Rattle.std.proofs.lemmas.List.Elements.{All-nil}
+use Rattle.std.proofs.lemmas.Option.{same_Some, none-some}
 use Rattle.et_class.specs.Descriptors.{MethodType, method_type}
 use Rattle.et_class.specs.Operands.{operand_kind}
 use Rattle.et_class.specs.PoolOperands.Operand.{Operand}
@@ -37,22 +38,10 @@ has_type p m shape e = by (method_type (method_at p m).descriptor) refl e
     by None t e = cc
     by (Some type) t e = let s : shape ≡ shape_of type = cc in record { type = type; typed = t; is = s }
 
-unsome : (a b : MethodType) → Some a ≡ Some b → a ≡ b
-unsome a b e = cc
-
-unsome_body : (a b : Body) → Some a ≡ Some b → a ≡ b
-unsome_body a b e = cc
-
-none_body : (b : Body) → None ≡ Some b → ⊥
-none_body b e = cc
-
-none_shape : (s : Shape) → None ≡ Some s → ⊥
-none_shape s e = cc
-
 pub no_type : (p : Linked) (m : ℕ) (body : Body) → (method_at p m).code ≡ Some body → None ≡ shape_in (method_at p m).descriptor → HasTyping p m → ⊥
 no_type p m body code e h =
     let t : IsTyping p m body h.typing = h.is body code in
-    none_shape (shape_of t.type) (e ∙ ap (option_map shape_of) t.typed)
+    none-some (shape_of t.type) (e ∙ ap (option_map shape_of) t.typed)
 
 -- what is returned
 pub returns_shape : (p : Linked) (m : ℕ) (shape : Shape) → Some shape ≡ shape_in (method_at p m).descriptor → return_of (returned_of (method_at p m)) ≡ shape.returned
@@ -72,7 +61,7 @@ first_are p m body shape h ts static s o l =
 
 -- a method without code has one
 pub no_code : (p : Linked) (m : ℕ) → (method_at p m).code ≡ None → HasTyping p m
-no_code p m none = record { typing = λ pc. None; is = λ body code. absurd (none_body body (sym none ∙ code)) }
+no_code p m none = record { typing = λ pc. None; is = λ body code. absurd (none-some body (sym none ∙ code)) }
 
 -- A TYPING, or none
 
@@ -87,13 +76,13 @@ module _ (p : Linked) (m : ℕ) (body : Body) (type : MethodType) (typed : metho
       let fit : FitFrame body first = record { used = All-nil (λ (t : EntryType). t ≡ entry.Free → ⊥); few = omega arith; locals = sym (ap (λ (t : TypesOf). length t.locals) e) ∙ long } in
       record {
         typing = restricted body found.typing;
-        is = λ b here. subst (λ (x : Body). IsTyping p m x (restricted body found.typing)) (unsome_body body b (sym code ∙ here)) (method_typing p m body found.typing type is typed (begins some) fit);
+        is = λ b here. subst (λ (x : Body). IsTyping p m x (restricted body found.typing)) (same_Some body b (sym code ∙ here)) (method_typing p m body found.typing type is typed (begins some) fit);
       }
 
   pub no_typing : (ts : TypesOf) → ts ≡ first_types p m body type → (HasFlowTyping (leads_in p m body) ts → ⊥) → HasTyping p m → ⊥
   no_typing ts e none h =
       let t : IsTyping p m body h.typing = h.is body code in
-      let same : t.type ≡ type = unsome t.type type (sym t.typed ∙ typed) in
+      let same : t.type ≡ type = same_Some t.type type (sym t.typed ∙ typed) in
       let first : first_types p m body t.type ≡ ts = ap (first_types p m body) same ∙ sym e in
       none (record { typing = h.typing; is = subst (λ (x : TypesOf). IsFlowTyping (leads_in p m body) x h.typing) first (flow_typing p m body h.typing t) })
 
@@ -103,7 +92,7 @@ module _ (p : Linked) (m : ℕ) (body : Body) (type : MethodType) (typed : metho
   pub no_locals : body.max_locals < length (argument_entries (entered p m) (map operand_kind type.parameters)) → HasTyping p m → ⊥
   no_locals lt h =
       let t : IsTyping p m body h.typing = h.is body code in
-      let same : t.type ≡ type = unsome t.type type (sym t.typed ∙ typed) in
+      let same : t.type ≡ type = same_Some t.type type (sym t.typed ∙ typed) in
       by t same (h.typing 0) refl t.entry
     where
       by : (t : IsTyping p m body h.typing) → t.type ≡ type → (o : Option TypesOf) → h.typing 0 ≡ o → AreAbove (first_types p m body t.type) o → ⊥

@@ -5,7 +5,7 @@ use Rattle.std.specs.Int.{w8, w16}
 use Rattle.std.specs.Option.{ok_or}
 use Rattle.std.specs.Result.{result_ok}
 use Rattle.std.proofs.Math.Dec.{eqb-suc-zero}
-use Rattle.std.proofs.lemmas.Bool.{false≢true}
+use Rattle.std.proofs.lemmas.Bool.{false≢true, and_parts, or_parts}
 use Rattle.std.proofs.lemmas.List.{append-nil}
 use Rattle.et_base.specs.Steps.{◌>>=◌}
 use Rattle.et_base.specs.Numbers.{number_at}
@@ -40,16 +40,11 @@ agrees : List ℕ → ℕ → Bool
 agrees [] k = true
 agrees (n ∷ ns) k = is_entry n k && agrees ns (suc k)
 
-both : (x y : Bool) → (x && y) ≡ true → (x ≡ true) × (y ≡ true)
-both true true e = (refl, refl)
-both true false e = absurd (false≢true e)
-both false y e = absurd (false≢true e)
-
 agrees_at : (ns : List ℕ) (k n m : ℕ) → agrees ns k ≡ true → n < length ns → m ≡ n + k → is_entry (get_or ns n 0) m ≡ true
 unfolding agrees
 agrees_at [] k n m e lt s = absurd (omega arith)
-agrees_at (x ∷ ns) k zero m e lt s = let s' : m ≡ k = omega arith in ap (is_entry x) s' ∙ (both _ _ e).0
-agrees_at (x ∷ ns) k (suc n) m e lt s = agrees_at ns (suc k) n m (both _ _ e).1 (omega arith) (omega arith)
+agrees_at (x ∷ ns) k zero m e lt s = let s' : m ≡ k = omega arith in ap (is_entry x) s' ∙ (and_parts _ _ e).0
+agrees_at (x ∷ ns) k (suc n) m e lt s = agrees_at ns (suc k) n m (and_parts _ _ e).1 (omega arith) (omega arith)
 
 table_agrees : agrees LENGTHS 0 ≡ true
 unfolding agrees
@@ -95,7 +90,7 @@ unfolding form_of
 simple_at opcode lt =
     let n : ℕ = get_or LENGTHS opcode 0 in
     let is : is_entry n opcode ≡ true = agrees_at LENGTHS 0 opcode opcode table_agrees (omega (arith, table_length)) (omega arith) in
-    let parts = both (is_form n (run_of form_runs opcode)) ((n == 0) || not (turns opcode)) is in
+    let parts = and_parts (is_form n (run_of form_runs opcode)) ((n == 0) || not (turns opcode)) is in
     record {
       one = λ e. form_one n (run_of form_runs opcode) parts.0 e;
       two = λ e. form_two n (run_of form_runs opcode) parts.0 e;
@@ -126,15 +121,10 @@ module _ (code : List ℕ) (pc opcode at : ℕ) (here : number_at w8 code pc ≡
   pub short_here : (n next : ℕ) → form_of opcode ≡ form.U2 → number_at w16 code at ≡ Some (n, next) → instruction_at code pc ≡ Ok (instr opcode false (pos n) (pos 0) 0, next)
   short_here n next e there = read_here form.U2 e ∙ operand_there n next (number_at w16 code at) there
 
-or_false : (a b : Bool) → (a || b) ≡ false → (a ≡ false) × (b ≡ false)
-or_false false false e = (refl, refl)
-or_false false true e = absurd (false≢true (sym e))
-or_false true b e = absurd (false≢true (sym e))
-
 pub no_offsets : (code : List ℕ) (i : Instr) → turns i.opcode ≡ false → offsets code i ≡ []
 no_offsets code i e =
-    let some = or_false (is_branch i.opcode || (i.opcode == TABLESWITCH)) (i.opcode == LOOKUPSWITCH) e in
-    let one = or_false (is_branch i.opcode) (i.opcode == TABLESWITCH) some.0 in
+    let some = or_parts (is_branch i.opcode || (i.opcode == TABLESWITCH)) (i.opcode == LOOKUPSWITCH) e in
+    let one = or_parts (is_branch i.opcode) (i.opcode == TABLESWITCH) some.0 in
     ap (λ (b : Bool). if b then i.first ∷ [] else (if i.opcode == TABLESWITCH then code_word_at code i.table ∷ table_rows code i.table else (if i.opcode == LOOKUPSWITCH then code_word_at code i.table ∷ map (λ p. p.1) (lookup_pairs code i.table) else []))) one.0
     ∙ (ap (λ (b : Bool). if b then code_word_at code i.table ∷ table_rows code i.table else (if i.opcode == LOOKUPSWITCH then code_word_at code i.table ∷ map (λ p. p.1) (lookup_pairs code i.table) else [])) one.1
     ∙ ap (λ (b : Bool). if b then code_word_at code i.table ∷ map (λ p. p.1) (lookup_pairs code i.table) else []) some.1)

@@ -3,6 +3,7 @@ use Rattle.std.proofs.Common.{◌≡◌, ℕ, Bool, true, false, List, Option, S
 use Rattle.std.specs.Prelude.{if◌then◌else◌, option_map, option_and_then}
 use Rattle.std.specs.Option.{option_map_or}
 use Rattle.std.proofs.lemmas.Bool.{false≢true}
+use Rattle.std.proofs.lemmas.Option.{none-some, same_Some}
 use Rattle.et_class.specs.Descriptors.{is_field_descriptor}
 use Rattle.et_class.specs.Entries.{Item}
 use Rattle.et_class.specs.Looks.{utf8_at, class_name_at, name_and_type_at, member_at}
@@ -12,37 +13,31 @@ use Rattle.et_event.specs.Sites.{Site, site_member, pool_index}
 use Rattle.et_verify.specs.Effects.{described_by, field_type}
 use Rattle.et_verify.specs.Named.{descriptor_in}
 
-no_member : (m : Member) → None ≡ Some m → ⊥
-no_member m e = cc
-
-one_member : (k m : Member) → Some k ≡ Some m → k ≡ m
-one_member k m e = cc
-
 -- THE DESCRIPTOR of a member that is given
 
 abbrev member_of : List ℕ → List ℕ → List ℕ → Member
 member_of owner name descriptor = record { owner = owner; name = name; descriptor = descriptor }
 
 by_text : (m : Member) (owner : List ℕ) (name text : Option (List ℕ)) → option_and_then (λ n. option_map (λ d. member_of owner n d) text) name ≡ Some m → text ≡ Some m.descriptor
-by_text m owner None text e = absurd (no_member m e)
-by_text m owner (Some n) None e = absurd (no_member m e)
-by_text m owner (Some n) (Some d) e = ap (λ (k : Member). Some k.descriptor) (one_member (member_of owner n d) m e)
+by_text m owner None text e = absurd (none-some m e)
+by_text m owner (Some n) None e = absurd (none-some m e)
+by_text m owner (Some n) (Some d) e = ap (λ (k : Member). Some k.descriptor) (same_Some (member_of owner n d) m e)
 
 by_pair : (pool : List (Option Item)) (m : Member) (owner : List ℕ) (o : Option (ℕ × ℕ))
     → option_and_then (λ (y : ℕ × ℕ). option_and_then (λ n. option_map (λ d. member_of owner n d) (utf8_at pool y.1)) (utf8_at pool y.0)) o ≡ Some m
     → option_and_then (λ (y : ℕ × ℕ). utf8_at pool y.1) o ≡ Some m.descriptor
-by_pair pool m owner None e = absurd (no_member m e)
+by_pair pool m owner None e = absurd (none-some m e)
 by_pair pool m owner (Some y) e = by_text m owner (utf8_at pool y.0) (utf8_at pool y.1) e
 
 by_owner : (pool : List (Option Item)) (m : Member) (owner : Option (List ℕ)) (o : Option (ℕ × ℕ))
     → option_and_then (λ (c : List ℕ). option_and_then (λ (y : ℕ × ℕ). option_and_then (λ n. option_map (λ d. member_of c n d) (utf8_at pool y.1)) (utf8_at pool y.0)) o) owner ≡ Some m
     → option_and_then (λ (y : ℕ × ℕ). utf8_at pool y.1) o ≡ Some m.descriptor
-by_owner pool m None o e = absurd (no_member m e)
+by_owner pool m None o e = absurd (none-some m e)
 by_owner pool m (Some c) o e = by_pair pool m c o e
 
 by_entry : (pool : List (Option Item)) (m : Member) (o : Option (ℕ × ℕ)) → option_and_then (described pool) o ≡ Some m
     → option_and_then (λ (x : ℕ × ℕ). option_and_then (λ (y : ℕ × ℕ). utf8_at pool y.1) (name_and_type_at pool x.1)) o ≡ Some m.descriptor
-by_entry pool m None e = absurd (no_member m e)
+by_entry pool m None e = absurd (none-some m e)
 by_entry pool m (Some x) e = by_owner pool m (class_name_at pool x.0) (name_and_type_at pool x.1) e
 
 -- WHERE IT IS THAT OF A FIELD

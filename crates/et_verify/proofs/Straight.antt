@@ -3,6 +3,7 @@ use Rattle.std.proofs.Common.{◌≡◌, ℕ, zero, suc, ◌<◌, ◌≤◌, ◌
 use Rattle.std.specs.Prelude.{if◌then◌else◌, filter, not, Result, Ok, Err}
 use Rattle.std.proofs.lemmas.Bool.{and_parts, cases_lt, cases_eq, false≢true}
 use Rattle.std.proofs.lemmas.List.Elements.{Contains-append_cases, Contains-push_cases}
+use Rattle.std.proofs.lemmas.Option.{none-some, same_Some}
 use Rattle.et_code.specs.declared.body.TableRow.{TableRow}
 use Rattle.et_code.specs.declared.instr.Instr.{Instr}
 use Rattle.et_code.specs.declared.instr.CodeFault.{CodeFault}
@@ -73,36 +74,30 @@ pub record IsLedBy (p : Linked) (m : ℕ) (body : Body) (pc : ℕ) (l : LeadOf) 
   pub nexts_start : are_starts body.code l.nexts ≡ true
   pub handlers_start : are_starts body.code l.handlers ≡ true
 
-no_lead : (l : LeadOf) → None ≡ Some l → ⊥
-no_lead l e = cc
-
-some_lead : (k l : LeadOf) → Some k ≡ Some l → k ≡ l
-some_lead k l e = cc
-
 module _ (p : Linked) (m : ℕ) (body : Body) (pc : ℕ) (ts : TypesOf) (l : LeadOf) (start : is_start body.code pc ≡ true) where
   by_tests : (decoded : Instr × ℕ) (r : Row) (after : TypesOf) → instruction_at body.code pc ≡ Ok decoded → (b : Bool)
       → (are_starts body.code (next_places pc (site_in p m body decoded) r) && are_starts body.code (handlers_at p m body pc) && has_room body.max_stack (handlers_at p m body pc)) ≡ b
       → (if b then Some (record { after = after; nexts = next_places pc (site_in p m body decoded) r; caught = caught ts; handlers = handlers_at p m body pc }) else None) ≡ Some l
       → IsLedBy p m body pc l
-  by_tests decoded r after at false t e = absurd (no_lead l e)
+  by_tests decoded r after at false t e = absurd (none-some l e)
   by_tests decoded r after at true t e =
       let k : LeadOf = record { after = after; nexts = next_places pc (site_in p m body decoded) r; caught = caught ts; handlers = handlers_at p m body pc } in
-      let same : k ≡ l = some_lead k l e in
+      let same : k ≡ l = same_Some k l e in
       let h = and_parts (are_starts body.code k.nexts && are_starts body.code k.handlers) (has_room body.max_stack k.handlers) t in
       let each = and_parts (are_starts body.code k.nexts) (are_starts body.code k.handlers) h.0 in
       subst (λ (x : LeadOf). IsLedBy p m body pc x) same (record { start = start; decoded = decoded; at = at; row = r; nexts = refl; handlers = refl; nexts_start = each.0; handlers_start = each.1 })
 
   by_types : (decoded : Instr × ℕ) (r : Row) (x : Option TypesOf) → instruction_at body.code pc ≡ Ok decoded → led body (next_places pc (site_in p m body decoded) r) (handlers_at p m body pc) ts x ≡ Some l → IsLedBy p m body pc l
-  by_types decoded r None at e = absurd (no_lead l e)
+  by_types decoded r None at e = absurd (none-some l e)
   by_types decoded r (Some after) at e =
       by_tests decoded r after at (are_starts body.code (next_places pc (site_in p m body decoded) r) && are_starts body.code (handlers_at p m body pc) && has_room body.max_stack (handlers_at p m body pc)) refl e
 
   by_row : (decoded : Instr × ℕ) (r : Option Row) → instruction_at body.code pc ≡ Ok decoded → leads_by_row p m body pc ts decoded r ≡ Some l → IsLedBy p m body pc l
-  by_row decoded None at e = absurd (no_lead l e)
+  by_row decoded None at e = absurd (none-some l e)
   by_row decoded (Some r) at e = by_types decoded r (types_after body.max_stack (returned_of (method_at p m)) (site_in p m body decoded) r ts) at e
 
   by_decoded : (d : Result (Instr × ℕ) CodeFault) → instruction_at body.code pc ≡ d → leads_by p m body pc ts d ≡ Some l → IsLedBy p m body pc l
-  by_decoded (Err fault) at e = absurd (no_lead l e)
+  by_decoded (Err fault) at e = absurd (none-some l e)
   by_decoded (Ok decoded) at e = by_row decoded (row_of decoded.0.opcode) at e
 
   by_start : leads_by p m body pc ts (instruction_at body.code pc) ≡ Some l → IsLedBy p m body pc l
@@ -112,7 +107,7 @@ pub led_by : (p : Linked) (m : ℕ) (body : Body) (pc : ℕ) (ts : TypesOf) (l :
 led_by p m body pc ts l e = by (is_start body.code pc) refl e
   where
     by : (b : Bool) → is_start body.code pc ≡ b → (if b then leads_by p m body pc ts (instruction_at body.code pc) else None) ≡ Some l → IsLedBy p m body pc l
-    by false s f = absurd (no_lead l f)
+    by false s f = absurd (none-some l f)
     by true s f = by_start p m body pc ts l s f
 
 -- PLACES

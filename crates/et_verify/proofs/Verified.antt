@@ -58,7 +58,7 @@ one_more : {X : Type 0} (b : Bool) (n : ℕ) (x : X) (more : List ℕ) (xs : Lis
 one_more true n x more xs le = omega (arith, le)
 one_more false n x more xs le = omega (arith, le)
 
-places_few : {X : Type 0} (test : X → Bool) (n : ℕ) (xs : List X) → length (places_from test n xs) ≤ length xs
+pub places_few : {X : Type 0} (test : X → Bool) (n : ℕ) (xs : List X) → length (places_from test n xs) ≤ length xs
 places_few test n [] = omega arith
 places_few test n (x ∷ xs) = one_more (test x) n x (places_from test (n + 1) xs) xs (places_few test (n + 1) xs)
 

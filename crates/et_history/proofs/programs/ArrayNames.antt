@@ -5,9 +5,9 @@ use Rattle.std.specs.List.{prefix_len, slice_index_or, list_any, flat_map, posit
 use Rattle.std.specs.Str.{bytes_eq}
 use Rattle.std.proofs.lemmas.Bool.{both_ways, eqb-true, false≢true}
 use Rattle.std.proofs.lemmas.List.Elements.{All-nil, All-cons, All-head, All-tail, All-append, All-push, Contains-append_left, Contains-append_right}
-use Rattle.et_base.proofs.Lists.{Contains-none, Contains-here, Contains-there, Contains-cons, any_contains, filter_kept, filter_keeps}
+use Rattle.et_base.proofs.Lists.{Contains-none, Contains-here, Contains-there, Contains-cons, any_contains, filter_kept, filter_keeps, same_bytes}
 use Rattle.et_pool.specs.Descriptors.{is_array, dimensions}
-use Rattle.et_hierarchy.proofs.Names.{same_name, name_itself}
+use Rattle.et_hierarchy.proofs.Names.{same_name}
 use Rattle.et_program.specs.ArrayTypes.{leaf_at, is_type_known, with_element_types, name_added, names_added, array_names, array_at}
 use Rattle.et_program.specs.MembersOf.{numbered}
 
@@ -140,7 +140,7 @@ number_of first (x ∷ xs) name c = by (bytes_eq name x) refl (λ d. number_of (
     later : bytes_eq name x ≡ false → Contains xs name
     later e =
         elim (Contains-cons x xs name c) [
-          | inl same ↦ absurd (both_ways (bytes_eq name x) e (subst (λ (z : List ℕ). bytes_eq name z ≡ true) (sym same) (name_itself name)))
+          | inl same ↦ absurd (both_ways (bytes_eq name x) e (subst (λ (z : List ℕ). bytes_eq name z ≡ true) (sym same) (same_bytes name)))
           | inr d ↦ d
         ]
 

@@ -7,7 +7,7 @@ use Rattle.std.specs.Str.{bytes_eq}
 use Rattle.std.proofs.lemmas.Bool.{and_parts, both_ways, cases_lt, not-true, leb-true, eqb-true, eq-eqb, false≢true, or_parts}
 use Rattle.std.proofs.lemmas.List.{length-append}
 use Rattle.std.proofs.lemmas.List.Elements.{All-nil, All-cons, All-append, All-map, All-contains, Contains-append_right}
-use Rattle.et_base.proofs.Lists.{Contains-none, Contains-here, Contains-there}
+use Rattle.et_base.proofs.Lists.{Contains-none, Contains-here, Contains-there, same_bytes}
 use Rattle.et_boot.specs.Classes.{BootClassOf, thread_pool}
 use Rattle.et_pool.specs.Entries.{Item, Constants, slots_of}
 use Rattle.et_pool.specs.Looks.{class_name_at, tag_of_slot}
@@ -18,14 +18,14 @@ use Rattle.et_code.specs.Bodies.{Body}
 use Rattle.et_code.specs.Decoding.{instruction_at}
 use Rattle.et_code.specs.Kept.{HasInstruction, IsKeptCode}
 use Rattle.et_code.specs.Rules.{is_array_kind}
-use Rattle.et_code.specs.Starts.{IsStart, Begins, Follows, is_start}
+use Rattle.et_code.specs.Starts.{IsStart, is_start}
 use Rattle.et_code.proofs.Keeping.{kept_code}
-use Rattle.et_code.proofs.Starting.{starts_are_all}
+use Rattle.et_code.proofs.Starting.{starts_are_all, in_code}
 use Rattle.et_class.specs.Codes.{index_of, is_class_well}
 use Rattle.et_class.specs.Names.{is_plain_name}
 use Rattle.et_hierarchy.specs.Outline.{Outline, outline_at, no_outline, class_place}
 use Rattle.et_hierarchy.specs.Ancestry.{Ancestry}
-use Rattle.et_hierarchy.proofs.Names.{same_name, name_itself, missing}
+use Rattle.et_hierarchy.proofs.Names.{same_name, missing}
 use Rattle.et_program.specs.declared.info.MethodInfo.{MethodInfo}
 use Rattle.et_program.specs.declared.info.Element.{Element}
 use Rattle.et_program.specs.declared.info.Element.TheVariants.{Base, Class}
@@ -84,10 +84,6 @@ set_plain files named =
 
 -- WHAT IS MET in a method
 
-start_within : (code : List ℕ) (pc : ℕ) → IsStart code pc → pc < length code
-start_within code pc (Begins some) = some
-start_within code pc (Follows before i next start e lt) = lt
-
 -- an instruction of a class with this pool, and the arrays that it makes are met
 record IsMaker (met : List (List ℕ)) (slots : List (Option Item)) (i : Instr) : Type 0 where
   few : length slots < 2 ^ 16
@@ -126,7 +122,7 @@ made_here : (slots : List (Option Item)) (code : List ℕ) (pc : ℕ) (x : Instr
 made_here slots code pc x y start e c =
     let test : is_start code pc ≡ true = (starts_are_all code pc).1 start in
     let same : (0 + pc) ≡ pc = omega arith in
-    numbered_has (λ pc b. if is_start code pc then made_if slots (instruction_at code pc) else []) 0 code pc 0 y (start_within code pc start)
+    numbered_has (λ pc b. if is_start code pc then made_if slots (instruction_at code pc) else []) 0 code pc 0 y (in_code code pc start)
     (subst (λ (n : ℕ). Contains (if is_start code n then made_if slots (instruction_at code n) else []) y) (sym same)
     (subst (λ (b : Bool). Contains (cond b (made_if slots (instruction_at code pc)) []) y) (sym test)
     (subst (λ (r : Result (Instr × ℕ) CodeFault). Contains (made_if slots r) y) (sym e) c)))
@@ -316,7 +312,7 @@ module _ (files : List LoadedClass) (rows : List Ancestry) (pools : List Constan
       by None q =
           let other : bytes_eq name (outline_at (set_of files) k).name ≡ false = missing (set_of files) 0 name q k lt in
           let same : name ≡ (outline_at (set_of files) k).name = e ∙ ap (λ (x : ClassEntry). x.info.name) (class_in files rows pools k lt) in
-          absurd (both_ways (bytes_eq name (outline_at (set_of files) k).name) other (subst (λ (x : List ℕ). bytes_eq name x ≡ true) same (name_itself name)))
+          absurd (both_ways (bytes_eq name (outline_at (set_of files) k).name) other (subst (λ (x : List ℕ). bytes_eq name x ≡ true) same (same_bytes name)))
 
   take_front : (xs ys : List ℕ) → take (length xs) (xs ++ ys) ≡ xs
   take_front [] ys = refl

@@ -9,6 +9,7 @@ use Rattle.std.proofs.lemmas.Bool.{and_parts, both_ways, eqb-true}
 use Rattle.std.proofs.lemmas.List.Elements.{All-map}
 use Rattle.et_boot.specs.Classes.{thread_pool, thread_run}
 use Rattle.et_base.specs.Marks.{Mark, MarksAre}
+use Rattle.et_base.proofs.Lists.{none_long}
 use Rattle.et_pool.specs.Entries.{Constants, slots_of}
 use Rattle.et_pool.specs.Looks.{tag_of_slot}
 use Rattle.et_code.specs.declared.body.TableRow.{TableRow}
@@ -66,10 +67,6 @@ all_run : list_all (λ (x : MethodInfo). runs x.code) (numbered boot_methods 0 b
 unfolding boots
 all_run = refl
 
-empty : (rows : List TableRow) → length rows ≡ 0 → rows ≡ []
-empty [] e = refl
-empty (r ∷ rows) e = absurd (omega arith)
-
 pub body_is : (b : Body) → is_run_body b ≡ true → b ≡ boot_body thread_run
 body_is b h =
     let one = and_parts (b.max_stack == 1) ((b.max_locals == 1) && (bytes_eq b.code thread_run.code && (length b.table == 0))) h in
@@ -78,7 +75,7 @@ body_is b h =
     ap (λ (n : ℕ). record { max_stack = n; max_locals = b.max_locals; code = b.code; table = b.table }) (eqb-true b.max_stack 1 one.0)
     ∙ (ap (λ (n : ℕ). record { max_stack = 1; max_locals = n; code = b.code; table = b.table }) (eqb-true b.max_locals 1 two.0)
     ∙ (ap (λ (c : List ℕ). record { max_stack = 1; max_locals = 1; code = c; table = b.table }) (same_name b.code thread_run.code three.0)
-    ∙ ap (λ (t : List TableRow). record { max_stack = 1; max_locals = 1; code = thread_run.code; table = t }) (empty b.table (eqb-true (length b.table) 0 three.1))))
+    ∙ ap (λ (t : List TableRow). record { max_stack = 1; max_locals = 1; code = thread_run.code; table = t }) (none_long b.table (eqb-true (length b.table) 0 three.1))))
 
 abbrev HasRules : MethodInfo → Type 0
 HasRules x = (body : Body) → x.code ≡ Some body → KeepsRules body

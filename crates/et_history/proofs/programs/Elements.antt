@@ -1,5 +1,6 @@
 -- The elements of arrays are of a base type, or of a class of the program.
 use Rattle.std.proofs.Common.{◌≡◌, ℕ, ◌+◌, ◌-◌, ◌<◌, ◌≤◌, ◌^◌, Bool, true, false, cond, ◌==◌, List, [], ◌∷◌, length, take, drop, Option, None, Some, IfSome, option_map, sym, subst, arith}
+use Rattle.et_link.proofs.TabledLemmas.{some_below}
 use Rattle.et_pool.specs.Entries.{Constants}
 use Rattle.et_pool.specs.Descriptors.{is_array, dimensions}
 use Rattle.et_hierarchy.specs.Outline.{Outline, class_place}
@@ -13,10 +14,6 @@ use Rattle.et_program.specs.Loaded.{LoadedClass}
 use Rattle.et_program.specs.ProgramOf.{class_names_of, program_with, IsProgramOf}
 use Rattle.et_event.specs.Programs.{IsElementWithin, AreElementsWithin}
 use Rattle.et_history.proofs.programs.Classes.{length_all, class_cases}
-
-some_below : (o : Option ℕ) (a b : ℕ) → a ≤ b → IfSome o (λ j. j < a) → IfSome o (λ j. j < b)
-some_below None a b le h = tt
-some_below (Some j) a b le h = omega arith
 
 class_within : (m : ℕ) (o : Option ℕ) → IfSome o (λ k. k < m) → IsElementWithin m (class_element o)
 class_within m None h = tt

@@ -1,12 +1,11 @@
 -- What holds of each element of lists that are put together.
-use Rattle.std.proofs.Common.{◌≡◌, ℕ, zero, suc, ◌+◌, ◌<◌, ◌==◌, Bool, true, false, cond, List, [], ◌∷◌, ◌++◌, length, reverse, refl, sym, subst, inl, inr, arith, Contains}
+use Rattle.std.proofs.Common.{◌≡◌, ℕ, zero, suc, ◌+◌, ◌<◌, ◌==◌, Bool, true, false, cond, List, [], ◌∷◌, ◌++◌, length, reverse, refl, subst, arith, Contains}
 use Rattle.std.specs.Prelude.{All, if◌then◌else◌}
 use Rattle.std.specs.List.{slice_index_or, list_any, list_all, flat_map}
-use Rattle.std.proofs.lemmas.List.Elements.{All-nil, All-cons, All-head, All-tail, All-append, All-push, All-contains, All-contains_itself, Contains-append_left, Contains-append_right}
+use Rattle.std.proofs.lemmas.List.Elements.{All-nil, All-cons, All-head, All-tail, All-append, All-push, All-contains, All-contains_itself}
 use Rattle.std.proofs.lemmas.List.Sorted.{All-permutation, IsPermutation-reverse}
 use Rattle.std.proofs.lemmas.List.{reverse-reverse}
 use Rattle.std.proofs.lemmas.Bool.{and_parts}
-use Rattle.et_base.proofs.Lists.{Contains-none, Contains-cons}
 use Rattle.et_program.specs.Slots.{places_from}
 use Rattle.et_hierarchy.specs.Ancestry.{class_added, added_all}
 use Rattle.et_program.specs.MembersOf.{numbered}
@@ -65,18 +64,6 @@ places_ascend {X} t n (x ∷ xs) = by (t x) (all_places (λ m. n < m) t (n + 1) 
     by false low h = h
 
 -- WHAT LISTS HAVE that are put together
-
-pub all_before : {X : Type 0} (P : X → Type 0) (xs ys : List X) → All P (xs ++ ys) → All P xs
-all_before P [] ys h = All-nil P
-all_before P (x ∷ xs) ys h = All-cons P x xs (All-head P x (xs ++ ys) h) (all_before P xs ys (All-tail P x (xs ++ ys) h))
-
-pub flat_has : (f : ℕ → List ℕ) (xs : List ℕ) (t x : ℕ) → Contains xs t → Contains (f t) x → Contains (flat_map f xs) x
-flat_has f [] t x h c = absurd (Contains-none t h)
-flat_has f (y ∷ ys) t x h c =
-    elim (Contains-cons y ys t h) [
-      | inl e ↦ Contains-append_left (f y) (flat_map f ys) x (subst (λ (z : ℕ). Contains (f z) x) (sym e) c)
-      | inr d ↦ Contains-append_right (f y) (flat_map f ys) x (flat_has f ys t x d c)
-    ]
 
 pub reverse_all : (P : ℕ → Type 0) (xs : List ℕ) → All P xs → All P (reverse xs)
 reverse_all P xs h = All-permutation P xs (reverse xs) (IsPermutation-reverse xs) h

@@ -12,7 +12,7 @@ use Rattle.et_hierarchy.specs.Links.{links, links_of, no_links}
 use Rattle.et_hierarchy.specs.Ancestry.{Ancestry, ancestry_at, supers_over, IsAncestry}
 use Rattle.et_hierarchy.specs.Initialization.{interfaces_to_run, with_interfaces, init_order}
 use Rattle.et_hierarchy.proofs.LinkLemmas.{are_within}
-use Rattle.et_hierarchy.proofs.Repeats.{added_all_has}
+use Rattle.et_hierarchy.proofs.Repeats.{added_all_has, flat_has}
 use Rattle.et_program.specs.Entries.{ClassEntry, Linked, class_at}
 use Rattle.et_program.specs.Files.{set_of}
 use Rattle.et_program.specs.Heads.{has_to_run}
@@ -20,11 +20,11 @@ use Rattle.et_program.specs.Loaded.{LoadedClass}
 use Rattle.et_program.specs.LinkFaults.{IsLinkable}
 use Rattle.et_program.specs.MembersOf.{methods_of}
 use Rattle.et_program.specs.ProgramOf.{class_names_of, program_with}
-use Rattle.et_link.proofs.TabledLemmas.{order_within}
+use Rattle.et_link.proofs.TabledLemmas.{order_within, all_left}
 use Rattle.et_history.proofs.programs.Making.{class_in}
 use Rattle.et_history.proofs.programs.Classes.{length_all, class_cases, array_in}
 use Rattle.et_history.proofs.programs.Supers.{IsClass, IsInterface, kinds, interfaces, below}
-use Rattle.et_history.proofs.programs.Lists.{all_added, all_flat, all_before, flat_has, reverse_all, reverse_has}
+use Rattle.et_history.proofs.programs.Lists.{all_added, all_flat, reverse_all, reverse_has}
 use Rattle.et_history.proofs.programs.Chains.{rest_by}
 
 module _ (files : List LoadedClass) (rows : List Ancestry) (pools : List Constants) (is : IsAncestry (links (set_of files)) rows) (linkable : IsLinkable files) where
@@ -124,7 +124,7 @@ module _ (files : List LoadedClass) (rows : List Ancestry) (pools : List Constan
       faces : (t : ℕ) → Contains (c ∷ supers c) t → All (IsIn (order false c)) (run t)
       faces t h =
           let known : All (IsInterface set) (run t) = run_kinds t (within t h).within in
-          let there : All (Contains (order false c)) (run t) = all_before (Contains (order false c)) (run t) (t ∷ []) (reached c t h) in
+          let there : All (Contains (order false c)) (run t) = all_left (Contains (order false c)) (run t) (t ∷ []) (reached c t h) in
           λ i d l. face (slice_index_or (run t) i d) (known i d l) (there i d l)
 
       itself : (t : ℕ) → Contains (c ∷ supers c) t → IsIn (order false c) t

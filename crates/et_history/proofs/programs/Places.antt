@@ -1,10 +1,11 @@
 -- Where the elements of lists stand that are put together.
-use Rattle.std.proofs.Common.{◌≡◌, ℕ, zero, suc, ◌+◌, ◌<◌, Bool, true, false, ◌==◌, List, [], ◌∷◌, ◌++◌, length, map, Option, None, Some, refl, ◌∙◌, ap, subst, arith}
+use Rattle.std.proofs.Common.{◌≡◌, ℕ, zero, suc, ◌+◌, ◌<◌, Bool, true, false, ◌==◌, List, [], ◌∷◌, ◌++◌, length, map, Option, None, refl, ◌∙◌, ap, subst, arith}
 use mathlib.Core.Logic.{⊎_elim}
 use Rattle.std.specs.Prelude.{All}
 use Rattle.std.specs.List.{slice_index_or, position_from, list_any}
 use Rattle.std.proofs.lemmas.Bool.{eqb-true, or_cases}
 use Rattle.std.proofs.lemmas.List.Elements.{All-head, All-tail}
+use Rattle.et_base.proofs.Options.{some-none}
 use Rattle.et_program.specs.MembersOf.{numbered}
 use Rattle.et_program.proofs.Standing.{first_or}
 
@@ -32,11 +33,8 @@ at_behind (x ∷ xs) ys e = at_behind xs ys e
 
 -- THE FIRST PLACE at which a test holds
 
-not_here : (k : ℕ) → Some k ≡ None → ⊥
-not_here k h = cc
-
 behind_step : (b c : Bool) (k : ℕ) (o r s : Option ℕ) → c ≡ b → first_or b k o ≡ None → (o ≡ None → r ≡ s) → first_or c k r ≡ s
-behind_step true c k o r s e h rest = absurd (not_here k h)
+behind_step true c k o r s e h rest = absurd (some-none k h)
 behind_step false c k o r s e h rest = ap (λ d. first_or d k r) e ∙ rest h
 
 -- .. behind a list where it holds of none

@@ -7,6 +7,7 @@ use Rattle.std.specs.Str.{bytes_eq}
 use Rattle.std.proofs.lemmas.Bool.{and_parts, not-true, eqb-true, false_from_ne_true, false≢true}
 use Rattle.std.proofs.lemmas.List.{length-map, get_or_default}
 use Rattle.std.proofs.lemmas.List.Elements.{All-nil, All-append, All-map, All-weaker}
+use Rattle.et_link.proofs.TabledLemmas.{all_left}
 use Rattle.et_code.specs.Bodies.{Body}
 use Rattle.et_class.specs.Names.{has}
 use Rattle.et_class.specs.declared.flags.TheConstants.{STATIC}
@@ -43,7 +44,7 @@ use Rattle.et_history.proofs.programs.TextClasses.{system_place, system_within}
 use Rattle.et_history.specs.programs.Fields.{HasStaticConstants, HasTypedConstants}
 use Rattle.et_history.proofs.programs.Classes.{length_all, class_cases}
 use Rattle.et_history.proofs.programs.Supers.{IsInterface}
-use Rattle.et_history.proofs.programs.Lists.{all_numbered, all_places, all_before, Ascends, places_ascend, if_true}
+use Rattle.et_history.proofs.programs.Lists.{all_numbered, all_places, Ascends, places_ascend, if_true}
 use Rattle.et_history.proofs.programs.Order.{orders, own, within_all, run_kinds}
 use Rattle.et_history.proofs.programs.Threads.{pool_is}
 
@@ -179,7 +180,7 @@ module _ (files : List LoadedClass) (rows : List Ancestry) (pools : List Constan
           let P = λ (k : ℕ). k < length (set_of files) in
           let n : length (links (set_of files)) ≡ length (set_of files) = length-map (set_of files) (links_of (set_of files)) in
           let l : LinkEntry = slice_index_or (links (set_of files)) c no_links in
-          All-append P (option_to_list l.above) _ (all_before P (option_to_list l.above) l.interfaces (are_within (set_of files) c no_links (omega arith)))
+          All-append P (option_to_list l.above) _ (all_left P (option_to_list l.above) l.interfaces (are_within (set_of files) c no_links (omega arith)))
           (All-weaker (IsInterface (set_of files)) P (λ k h. h.within) _ (run_kinds files rows pools is linkable c lt))
 
       void_by : (m : MethodInfo) → m.descriptor ≡ codes "()V" → is_void (returned_of m) ≡ true

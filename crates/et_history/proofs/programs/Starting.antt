@@ -1,11 +1,13 @@
 -- The first state of a program is sound.
-use Rattle.std.proofs.Common.{◌≡◌, ℕ, zero, suc, ◌+◌, ◌<◌, ◌≤◌, ◌^◌, Bool, true, false, cond, List, [], ◌∷◌, ◌++◌, length, replicate, Option, Some, None, IfSome, refl, sym, ◌∙◌, ap, subst, rules, arith}
-use Rattle.std.specs.Prelude.{All, IsSome, unwrap_or, codes}
+use Rattle.std.proofs.Common.{◌≡◌, ℕ, zero, suc, ◌+◌, ◌<◌, ◌≤◌, ◌^◌, Bool, true, false, cond, List, [], ◌∷◌, ◌++◌, length, replicate, Option, Some, None, IfSome, refl, sym, ◌∙◌, ap, subst, arith}
+use Rattle.std.specs.Prelude.{All, unwrap_or, codes}
 use Rattle.std.specs.List.{slice_index_or}
 use Rattle.std.specs.Str.{bytes_eq}
 use Rattle.std.proofs.lemmas.List.{length-replicate, get_or-replicate}
 use Rattle.std.proofs.lemmas.List.Elements.{All-nil, All-cons, All-same, All-append, All-replicate, All-contains}
 use Rattle.std.proofs.lemmas.Option.{none-some, same_Some}
+use Rattle.et_heap.proofs.References.{none_unset}
+use Rattle.et_history.proofs.soundness.Growing.{free_is_sound}
 use Rattle.et_base.specs.declared.value.Value.{Value}
 use Rattle.et_base.specs.declared.value.Value.TheVariants.{Unset}
 use Rattle.et_program.specs.Entries.{ClassEntry, Linked, field_at}
@@ -29,7 +31,6 @@ use Rattle.et_event.specs.PoolOperands.Operand.TheVariants as operand
 use Rattle.et_event.specs.Operands.{operand_kind}
 use Rattle.et_event.specs.Sound.{is_of_kind, IsSoundObject, IsSoundMonitor, IsSoundThread, IsSoundClassState, IsSoundStatic, IsSoundFor}
 use Rattle.et_state.specs.Start.{argument_class, is_class_of_file, first_class_state, class_states_from, start}
-use Rattle.et_state.proofs.Places.{refs_of-unset}
 use Rattle.et_event.specs.Start.{start_records}
 use Rattle.et_history.specs.programs.ClassNames.{HasClassName}
 use Rattle.et_history.proofs.programs.Arguments.{arguments_sound}
@@ -44,7 +45,7 @@ roots_held : (p : Linked) → All (IsHeld (start p).heap) (roots_of (start p).gu
 roots_held p =
     let P = IsHeld (first_heap (argument_class p)) in
     let refs : List ℕ = refs_of (replicate (length p.statics) Unset) in
-    All-cons P 1 (refs ++ []) tt (All-append P refs [] (All-same P refs [] (refs_of-unset (length p.statics)) (All-nil P)) (All-nil P))
+    All-cons P 1 (refs ++ []) tt (All-append P refs [] (All-same P refs [] (none_unset (length p.statics)) (All-nil P)) (All-nil P))
 
 no_referent : (c u o : ℕ) → (object_at (first_heap c) u).referent ≡ Some o → ⊥
 no_referent c zero o e = none-some o e
@@ -64,17 +65,11 @@ start_held p =
 
 -- OBJECTS AND MONITORS
 
-no_owner : IsSome free_monitor.owner → ⊥
-no_owner h = search (rules, h)
-
-free_sound : (g : GuestState) → IsSoundMonitor g free_monitor
-free_sound g = record { count = omega arith; owned = (λ h. absurd (no_owner h), λ lt. absurd (omega arith)); owner = tt }
-
 array_alone : (p : Linked) (g : GuestState) (c o : ℕ) (x : ObjectState) → IsSoundObject p (new_object c 0 0) → at (first_heap c) o ≡ Some x → IsSoundObject p x × IsSoundMonitor g x.monitor
 array_alone p g c zero x sound e = absurd (none-some x e)
 array_alone p g c (suc zero) x sound e =
     let same : new_object c 0 0 ≡ x = same_Some (new_object c 0 0) x e in
-    (subst (λ (y : ObjectState). IsSoundObject p y) same sound, subst (λ (y : ObjectState). IsSoundMonitor g y.monitor) same (free_sound g))
+    (subst (λ (y : ObjectState). IsSoundObject p y) same sound, subst (λ (y : ObjectState). IsSoundMonitor g y.monitor) same (free_is_sound g))
 array_alone p g c (suc (suc o)) x sound e = absurd (none-some x e)
 
 -- THE THREAD
@@ -127,7 +122,7 @@ started p sound =
       few_threads = (let few : 1 ≤ 64 = omega arith in few);
       entry = λ a b. refl;
       classes = (states, states_sound p g 0 n);
-      class_monitors = (length-replicate (length (class_states_from p 0 n)) free_monitor ∙ states, All-replicate (IsSoundMonitor g) (length (class_states_from p 0 n)) free_monitor (free_sound g));
+      class_monitors = (length-replicate (length (class_states_from p 0 n)) free_monitor ∙ states, All-replicate (IsSoundMonitor g) (length (class_states_from p 0 n)) free_monitor (free_is_sound g));
       statics = (length-replicate (length p.statics) Unset, λ i lt. static_sound p i lt);
     }
 
@@ -137,7 +132,7 @@ start_sound files p named is =
 
 -- THE RECORDS
 
-or_first : (o : Option ℕ) (n : ℕ) → 0 < n → IfSome o (λ c. c < n) → unwrap_or o 0 < n
+pub or_first : (o : Option ℕ) (n : ℕ) → 0 < n → IfSome o (λ c. c < n) → unwrap_or o 0 < n
 or_first None n some h = some
 or_first (Some c) n some h = h
 

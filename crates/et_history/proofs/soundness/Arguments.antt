@@ -1,15 +1,15 @@
 -- The arguments of a call: how many they are, and the receiver among them.
-use Rattle.std.proofs.Common.{◌≡◌, ℕ, zero, suc, ◌-◌, ◌≤◌, Bool, true, false, List, [], ◌∷◌, length, take, drop, reverse, Option, Some, None, refl, ap, subst, arith, Contains, inl, inr}
+use Rattle.std.proofs.Common.{◌≡◌, ℕ, zero, suc, ◌-◌, ◌≤◌, Bool, true, false, List, [], ◌∷◌, length, take, drop, reverse, Option, Some, None, refl, ap, subst, arith, Contains}
 use Rattle.std.specs.Prelude.{if◌then◌else◌, option_map}
 use Rattle.std.proofs.lemmas.List.{length-reverse, length-drop}
-use Rattle.std.proofs.lemmas.List.Elements.{Contains-append_left, Contains-append_right, Contains-append_cases}
 use Rattle.std.proofs.lemmas.Option.{same_Some, none-some}
+use Rattle.et_heap.proofs.References.{refs_taken}
 use Rattle.et_base.specs.declared.value.Value.{Value}
 use Rattle.et_base.specs.declared.value.Value.TheVariants.{Unset, Int, Long, LongHigh, Null, Ref}
 use Rattle.et_class.specs.Names.{has}
 use Rattle.et_class.specs.declared.flags.TheConstants.{STATIC, SYNCHRONIZED}
-use Rattle.et_base.proofs.Lists.{Contains-none, Contains-here}
-use Rattle.et_heap.specs.Refs.{refs_of_value, refs_of}
+use Rattle.et_base.proofs.Lists.{Contains-here}
+use Rattle.et_heap.specs.Refs.{refs_of}
 use Rattle.et_program.specs.Entries.{Linked, method_at, is_static}
 use Rattle.et_program.specs.declared.info.MethodInfo.{MethodInfo}
 use Rattle.et_event.specs.Frames.{first_reference, receiver_of}
@@ -41,14 +41,6 @@ arguments_are ops count =
     record { few = omega (arith, t.few); left = omega (arith, t.left) }
 
 -- THE RECEIVER
-
-refs_taken : (xs : List Value) (n o : ℕ) → Contains (refs_of (take n xs)) o → Contains (refs_of xs) o
-refs_taken xs zero o c = absurd (Contains-none o c)
-refs_taken [] (suc n) o c = absurd (Contains-none o c)
-refs_taken (x ∷ xs) (suc n) o c = elim (Contains-append_cases (refs_of_value x) (refs_of (take n xs)) o c) [
-  | inl d ↦ Contains-append_left (refs_of_value x) (refs_of xs) o d
-  | inr d ↦ Contains-append_right (refs_of_value x) (refs_of xs) o (refs_taken xs n o d)
-]
 
 first_contained : (vs : List Value) (o : ℕ) → first_reference vs ≡ Some o → Contains (refs_of vs) o
 first_contained [] o e = absurd (none-some o e)

@@ -4,6 +4,7 @@ use Rattle.std.specs.Prelude.{ℤ, pos, int_le, IsSome}
 use Rattle.std.specs.List.{list_all}
 use Rattle.std.proofs.lemmas.Bool.{cases_eq}
 use Rattle.std.proofs.lemmas.List.{get_or-set_other, get_or_append_left}
+use Rattle.et_event.proofs.Deferrals.{none_deferred}
 use Rattle.et_base.specs.declared.value.Value.{Value}
 use Rattle.et_base.specs.declared.value.Value.TheVariants.{Ref}
 use Rattle.et_class.specs.Looks.{class_name_at}
@@ -200,9 +201,6 @@ multi_array_sound e at here may =
 
 -- ARRAYS of one dimension
 
-nothing : (o : Option ℕ) → o ≡ None → IsSome o → ⊥
-nothing o none some = cc
-
 array_at : (e : Moment) (x : Instr × ℕ) → StandsAt e (site_of e.program (current_frame e) x) → IsRunnable e.program → decoded_at e.program (current_frame e) ≡ Ok x → row_of x.0.opcode ≡ Some (Heap NewArray)
     → KeepsSound e.program (new_array e (site_of e.program (current_frame e) x))
 array_at e x here may decoded row = by (base_array e.program (natural_of x.0.first)) refl (may.arrays.base s.method x s.is row)
@@ -211,7 +209,7 @@ array_at e x here may decoded row = by (base_array e.program (natural_of x.0.fir
     s = stands_in e x (runs_here e (site_of e.program (current_frame e) x) here) decoded
 
     by : (o : Option ℕ) → base_array e.program (natural_of x.0.first) ≡ o → IsSome o → KeepsSound e.program (new_array e (site_of e.program (current_frame e) x))
-    by None q some = absurd (nothing None refl some)
+    by None q some = absurd (none_deferred None refl some)
     by (Some c) q some = new_array_keeps e (site_of e.program (current_frame e) x) c here may.makes may.slots q
 
 pub new_array_sound : (e : Moment) (at : Site) → IsAtRow e at (Heap NewArray) → IsRunnable e.program → KeepsSound e.program (new_array e at)

@@ -27,7 +27,7 @@ use Rattle.et_event.specs.declared.errors.GuestError.TheVariants.{AbstractMethod
 use Rattle.et_program.specs.BuiltIns.{built_in_of}
 use Rattle.et_program.specs.BootTable.{built_ins, is_called}
 use Rattle.et_event.specs.BuiltIns.{entries_answered, argument, answering, reference_in, with_referent_of, starts_thread, with_thread_for, has_thread_ended, is_object_of_class, built_in_row, done_by, built_in_event, with_reference_made, with_first_taken}
-use Rattle.et_event.proofs.BuiltInRoom.{answers_fit, none_some, some_same}
+use Rattle.et_event.proofs.BuiltInRoom.{answers_fit, none_some}
 use Rattle.et_event.specs.Calls.{begin_with, is_empty, are_arguments}
 use Rattle.et_event.specs.Checks.{ill_typed_unless}
 use Rattle.et_event.specs.Errors.{class_called}
@@ -81,7 +81,7 @@ targeted_by m (row ∷ rows) all e = by (is_called m.name m.descriptor row) refl
 
     by : (x : Bool) → is_called m.name m.descriptor row ≡ x → option_map (λ (r : List ℕ × List ℕ × BuiltIn). r.2) (if x then Some row else find (is_called m.name m.descriptor) rows) ≡ Some built_in.SetTarget
         → (option_map (λ (r : List ℕ × List ℕ × BuiltIn). r.2) (find (is_called m.name m.descriptor) rows) ≡ Some built_in.SetTarget → m.descriptor ≡ target_type) → m.descriptor ≡ target_type
-    by true is q more = sym ((bytes_eq-Decides row.1 m.descriptor).0 (and_parts (bytes_eq row.0 m.name) (bytes_eq row.1 m.descriptor) is).1) ∙ type_if row.2 row.1 parts.0 (some_same row.2 built_in.SetTarget q)
+    by true is q more = sym ((bytes_eq-Decides row.1 m.descriptor).0 (and_parts (bytes_eq row.0 m.name) (bytes_eq row.1 m.descriptor) is).1) ∙ type_if row.2 row.1 parts.0 (same_Some row.2 built_in.SetTarget q)
     by false is q more = more q
 
 targets : (m : MethodInfo) → built_in_of m ≡ Some built_in.SetTarget → m.descriptor ≡ target_type

@@ -2,6 +2,7 @@
 use Rattle.std.proofs.Common.{◌≡◌, ℕ, ◌<◌, ◌≤◌, ◌^◌, true, List, [], ◌∷◌, length, Option, Some, None, refl, sym, ap, subst, arith, Contains}
 use Rattle.std.specs.Prelude.{option_to_list}
 use Rattle.std.specs.List.{slice_index_or}
+use Rattle.et_state.proofs.Steps.{with_first}
 use Rattle.et_base.specs.declared.value.Value.{Value}
 use Rattle.et_code.specs.Bodies.{Body}
 use Rattle.et_base.proofs.Lists.{Contains-here}
@@ -23,7 +24,7 @@ use Rattle.et_event.specs.Sites.{running_method}
 use Rattle.et_event.specs.Sound.{returned_of, IsStaged, AreSoundFrames, IsSoundFor}
 use Rattle.et_history.specs.soundness.Outcomes.{KeepsSound}
 use Rattle.et_history.specs.soundness.WellFormed.{IsWellFormed, IsUnderWayAt, MayBeThread, MayEnter}
-use Rattle.et_history.proofs.soundness.Frames.{with_first, returned_frames, length-resumed}
+use Rattle.et_history.proofs.soundness.Frames.{returned_frames, length-resumed}
 use Rattle.et_history.proofs.soundness.Initializing.{not_done}
 use Rattle.et_history.proofs.soundness.Monitors.{entered_well, left_well, left_fits, class_well}
 use Rattle.et_history.proofs.soundness.Outcomes.{begins_well, goes_sound}

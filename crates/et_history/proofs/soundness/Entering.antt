@@ -2,6 +2,7 @@
 use Rattle.std.proofs.Common.{◌≡◌, ℕ, ◌+◌, ◌<◌, ◌≤◌, ◌^◌, List, [], ◌∷◌, length, set, Option, Some, None, Ok, refl, sym, ◌∙◌, ap, subst, arith, get_or-set_same}
 use Rattle.std.specs.Prelude.{slice_index_or}
 use Rattle.std.proofs.lemmas.List.{length-set}
+use Rattle.et_state.proofs.Steps.{with_first}
 use Rattle.et_base.specs.declared.value.Value.{Value}
 use Rattle.et_code.specs.declared.instr.Instr.{Instr}
 use Rattle.et_code.specs.Bodies.{Body}
@@ -24,7 +25,7 @@ use Rattle.et_event.specs.Programs.{MakesSound, IsInstruction}
 use Rattle.et_history.specs.soundness.WellFormed.{IsWellFormed, IsUnderWayAt, KeepsFrame, MayEnter, StandsAt}
 use Rattle.et_history.proofs.soundness.Calls.{frame_entered_well}
 use Rattle.et_event.proofs.Running.{starts_there}
-use Rattle.et_history.proofs.soundness.Frames.{RunsSome, runs_some, frames_still, popped_keeps, with_first, top_well}
+use Rattle.et_history.proofs.soundness.Frames.{RunsSome, runs_some, frames_still, popped_keeps, top_well}
 use Rattle.et_history.proofs.soundness.Monitors.{monitor_count}
 use Rattle.et_history.proofs.soundness.Outcomes.{ends_sound, unless_waiting, where_frame_fits}
 use Rattle.et_history.proofs.soundness.Wholes.{well_formed}

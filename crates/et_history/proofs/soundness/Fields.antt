@@ -1,7 +1,7 @@
 -- The instructions on fields, arrays and classes that initialize no class leave a sound state.
 use Rattle.std.proofs.Common.{◌≡◌, ℕ, ◌+◌, ◌<◌, ◌≤◌, ◌&&◌, ◌==◌, Bool, true, false, not, List, [], ◌∷◌, ◌++◌, length, get_or, Option, Some, None, IfSome, Ok, refl, sym, subst, arith}
 use Rattle.std.specs.Prelude.{ℤ, if◌then◌else◌, slice_index_or}
-use Rattle.std.specs.Option.{option_or, ok_or}
+use Rattle.std.specs.Option.{ok_or}
 use Rattle.std.specs.Str.{bytes_eq}
 use Rattle.std.proofs.lemmas.Bool.{and_parts, leb-true, not-true}
 use Rattle.std.proofs.lemmas.List.{length-append}
@@ -10,6 +10,7 @@ use Rattle.std.proofs.lemmas.Slice.Eq.{bytes_eq-Decides}
 use Rattle.et_base.proofs.Positions.{Passes, position_passes}
 use Rattle.et_base.specs.declared.value.Value.{Value}
 use Rattle.et_base.specs.declared.value.Value.TheVariants.{Unset}
+use Rattle.et_base.proofs.Options.{either_holds}
 use Rattle.et_class.specs.Descriptors.{width_of, is_field_descriptor}
 use Rattle.et_class.specs.Names.{has}
 use Rattle.et_class.specs.declared.flags.TheConstants.{STATIC}
@@ -94,13 +95,9 @@ found_in p name descriptor c (Some f) h =
       descriptor = described (field_at p f) name descriptor c (subst (λ (k : ℕ). is_field name descriptor c (get_or p.fields k no_field) ≡ true) same h.passes);
     }
 
-pub either : (P : ℕ → Type 0) (a b : Option ℕ) → IfSome a P → IfSome b P → IfSome (option_or a b) P
-either P None b h i = i
-either P (Some x) b h i = h
-
 pub first_found : (P : ℕ → Type 0) (member : ℕ → Option ℕ) → ((c : ℕ) → IfSome (member c) P) → (cs : List ℕ) → IfSome (first_in member cs) P
 first_found P member h [] = tt
-first_found P member h (c ∷ cs) = either P (member c) (first_in member cs) (h c) (first_found P member h cs)
+first_found P member h (c ∷ cs) = either_holds P (member c) (first_in member cs) (h c) (first_found P member h cs)
 
 pub ok_is : (P : ℕ → Type 0) (o : Option ℕ) (error : LinkError) (f : ℕ) → IfSome o P → ok_or o error ≡ Ok f → P f
 ok_is P None error f h e = absurd (not_ok e)

@@ -3,6 +3,7 @@ use Rattle.std.proofs.Common.{◌≡◌, ℕ, ◌-◌, ◌<◌, ◌≤◌, ◌�
 use Rattle.std.specs.Prelude.{IsSome, if◌then◌else◌, unwrap_or}
 use Rattle.std.proofs.lemmas.Bool.{cases_lt, false≢true, true≢false}
 use Rattle.std.proofs.lemmas.List.{length-append, length-drop, length-replicate}
+use Rattle.et_state.proofs.Steps.{with_first}
 use Rattle.et_base.specs.declared.value.Value.{Value}
 use Rattle.et_base.specs.declared.value.Value.TheVariants.{Unset}
 use Rattle.et_class.specs.Names.{has}
@@ -88,10 +89,6 @@ frames_still p f f' below k h =
     let sound : AreSoundFrames p (x ∷ below) =
     (staged_still p f f.stage f.method f'.pc f'.locals f'.operands refl k.pc k.locals k.operands h.0 k.runs, above_still p f f.stage below f'.pc f'.locals f'.operands h.1, h.2) in
     subst (λ (y : FrameState). AreSoundFrames p (y ∷ below)) (sym k.same) sound
-
-pub with_first : (fs : List FrameState) → 0 < length fs → first_frame fs ∷ rest_of fs ≡ fs
-with_first [] h = absurd (omega arith)
-with_first (f ∷ fs) h = refl
 
 pub top_well : (p : Linked) (s : Kept) (t : ℕ) (f' : FrameState) → IsWellFormed p s → HasFrame s.guest t → KeepsFrame p (top s.guest t) f' → IsWellFormed p (guest_now s (with_top s.guest t f'))
 top_well p s t f' h has k =

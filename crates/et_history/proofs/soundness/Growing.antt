@@ -38,7 +38,7 @@ classes_grow g g' cs w h = All-weaker (IsSoundClassState g) (IsSoundClassState g
 pub objects_grow : (p : Linked) (s : Kept) (g' : GuestState) → Grows s.guest g' → IsWellFormed p s → (o : ℕ) (x : ObjectState) → at s.heap o ≡ Some x → IsSoundObject p x × IsSoundMonitor g' x.monitor
 objects_grow p s g' w h o x e = let was = h.objects o x e in (was.0, monitor_grows s.guest g' x.monitor w was.1)
 
-no_owner : IsSome free_monitor.owner → ⊥
+pub no_owner : IsSome free_monitor.owner → ⊥
 no_owner h = search (rules, h)
 
 -- a monitor that nobody entered

@@ -2,6 +2,7 @@
 use Rattle.std.proofs.Common.{◌≡◌, ℕ, ◌<◌, ◌≤◌, ◌^◌, not, List, [], ◌∷◌, length, Option, Some, None, refl, sym, ap, subst}
 use Rattle.std.specs.Prelude.{fold, find, take_while}
 use Rattle.std.specs.List.{slice_index_or}
+use Rattle.et_state.proofs.Steps.{with_first}
 use Rattle.et_code.specs.Bodies.{Body}
 use Rattle.et_program.specs.Entries.{Linked, class_at, method_at}
 use Rattle.et_state.specs.declared.stage.Stage.TheVariants.{Before}
@@ -17,7 +18,7 @@ use Rattle.et_event.specs.Sound.{AreSoundFrames, IsSoundFor}
 use Rattle.et_history.specs.soundness.Outcomes.{KeepsSound}
 use Rattle.et_event.specs.Programs.{MakesSound, HasInitializers, IsInitializer}
 use Rattle.et_history.specs.soundness.WellFormed.{IsWellFormed, IsFurther}
-use Rattle.et_history.proofs.soundness.Frames.{with_first, clinit_frames}
+use Rattle.et_history.proofs.soundness.Frames.{clinit_frames}
 use Rattle.et_history.proofs.soundness.Finding.{find_holds}
 use Rattle.et_history.proofs.soundness.Initializing.{further_itself, further_then, all_done, initialized_sound, not_done}
 use Rattle.et_history.proofs.soundness.Monitors.{class_well}

@@ -14,7 +14,8 @@ use Rattle.et_program.specs.declared.errors.LinkError.{LinkError}
 use Rattle.et_program.specs.declared.errors.LinkError.TheVariants.{NoSuchMethod, IncompatibleClassChange, AbstractMethod}
 use Rattle.et_program.specs.declared.info.MethodInfo.{MethodInfo}
 use Rattle.et_base.proofs.Positions.{Passes, position_passes}
-use Rattle.et_history.proofs.soundness.Fields.{ok_is, first_found, either}
+use Rattle.et_base.proofs.Options.{either_holds}
+use Rattle.et_history.proofs.soundness.Fields.{ok_is, first_found}
 use Rattle.et_history.specs.soundness.Methods.{IsMethod, IsInstanceMethod}
 
 -- THE METHOD of a class
@@ -95,7 +96,7 @@ only_one P (m ∷ n ∷ ms) h = tt
 above_found : (p : Linked) (name descriptor : List ℕ) (c : ℕ) → IfSome (resolved_above p name descriptor c) (IsMethod p name descriptor)
 above_found p name descriptor c =
     weaker (IsInstanceMethod p name descriptor) (IsMethod p name descriptor) (resolved_above p name descriptor c) (λ m h. h.method)
-    (either (IsInstanceMethod p name descriptor) (only (amount (specific_methods p name descriptor c))) (first_in (open_in p name descriptor) (class_at p c).superinterfaces)
+    (either_holds (IsInstanceMethod p name descriptor) (only (amount (specific_methods p name descriptor c))) (first_in (open_in p name descriptor) (class_at p c).superinterfaces)
     (only_one (IsInstanceMethod p name descriptor) (specific_methods p name descriptor c) (specific_ones p name descriptor c))
     (first_found (IsInstanceMethod p name descriptor) (open_in p name descriptor) (open_found p name descriptor) (class_at p c).superinterfaces))
 
@@ -112,14 +113,14 @@ resolved_method p owner true name descriptor m e = by (is_interface p owner) e
   where
     by : (i : Bool) → (if i then ok_or (option_or (method_in p name descriptor owner) (resolved_above p name descriptor owner)) NoSuchMethod else Err IncompatibleClassChange) ≡ Ok m → IsMethod p name descriptor m
     by true q = ok_is (IsMethod p name descriptor) (option_or (method_in p name descriptor owner) (resolved_above p name descriptor owner)) NoSuchMethod m
-        (either (IsMethod p name descriptor) (method_in p name descriptor owner) (resolved_above p name descriptor owner) (method_found p name descriptor owner) (above_found p name descriptor owner)) q
+        (either_holds (IsMethod p name descriptor) (method_in p name descriptor owner) (resolved_above p name descriptor owner) (method_found p name descriptor owner) (above_found p name descriptor owner)) q
     by false q = absurd (refused IncompatibleClassChange m (Err IncompatibleClassChange) refl q)
 resolved_method p owner false name descriptor m e = by (is_interface p owner) e
   where
     by : (i : Bool) → (if i then Err IncompatibleClassChange else ok_or (option_or (first_in (method_in p name descriptor) (lineage p owner)) (resolved_above p name descriptor owner)) NoSuchMethod) ≡ Ok m → IsMethod p name descriptor m
     by true q = absurd (refused IncompatibleClassChange m (Err IncompatibleClassChange) refl q)
     by false q = ok_is (IsMethod p name descriptor) (option_or (first_in (method_in p name descriptor) (lineage p owner)) (resolved_above p name descriptor owner)) NoSuchMethod m
-        (either (IsMethod p name descriptor) (first_in (method_in p name descriptor) (lineage p owner)) (resolved_above p name descriptor owner)
+        (either_holds (IsMethod p name descriptor) (first_in (method_in p name descriptor) (lineage p owner)) (resolved_above p name descriptor owner)
         (first_found (IsMethod p name descriptor) (method_in p name descriptor) (method_found p name descriptor) (lineage p owner)) (above_found p name descriptor owner)) q
 
 -- SELECTION

@@ -3,6 +3,7 @@ use Rattle.std.proofs.Common.{◌≡◌, ℕ, ◌+◌, ◌-◌, ◌<◌, ◌≤�
 use Rattle.std.specs.Prelude.{ℤ, pos, nat_lt, int_le, if◌then◌else◌, find, unwrap_or, option_to_list, option_map}
 use Rattle.std.proofs.lemmas.Bool.{false≢true, ltb-true}
 use Rattle.std.proofs.lemmas.List.{length-set, get_or-append_right}
+use Rattle.et_state.proofs.Steps.{with_first}
 use Rattle.et_base.specs.declared.value.Value.{Value}
 use Rattle.et_base.specs.declared.value.Value.TheVariants.{Ref}
 use Rattle.et_class.specs.Names.{has}
@@ -47,7 +48,7 @@ use Rattle.et_event.specs.Programs.{MakesSound, MayHold}
 use Rattle.et_history.specs.soundness.WellFormed.{IsWellFormed, IsUnderWayAt, KeepsFrame, StandsAt, IsThere, MayBeThread}
 use Rattle.et_history.proofs.soundness.Finding.{find_holds}
 use Rattle.et_history.proofs.soundness.Fields.{going, operands_there, leaving_well, leaving_sound}
-use Rattle.et_history.proofs.soundness.Frames.{with_first, frames_still, left_frames, fewer_frames}
+use Rattle.et_history.proofs.soundness.Frames.{frames_still, left_frames, fewer_frames}
 use Rattle.et_history.proofs.soundness.Monitors.{entered_well, entered_fits, left_well, left_fits, monitor_count, class_well}
 use Rattle.et_history.proofs.soundness.Outcomes.{if_case, array_well, instance_well, begins_well, goes_sound, ends_sound, pending_well, unless_ill_typed, unless_thrown, unless_waiting, where_resolved, where_not_null}
 use Rattle.et_history.proofs.soundness.Objects.{heap_now}

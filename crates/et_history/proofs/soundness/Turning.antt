@@ -3,6 +3,7 @@ use Rattle.std.proofs.Common.{◌≡◌, ℕ, ◌<◌, ◌^◌, Bool, true, fals
 use Rattle.std.specs.Prelude.{pos, if◌then◌else◌}
 use Rattle.std.specs.Option.{is_some}
 use Rattle.std.proofs.lemmas.Bool.{false≢true, true≢false}
+use Rattle.et_state.proofs.Steps.{with_first}
 use Rattle.et_base.specs.declared.value.Value.TheVariants.{Ref}
 use Rattle.et_code.specs.declared.body.TableRow.{TableRow}
 use Rattle.et_code.specs.declared.instr.Instr.{Instr}
@@ -23,7 +24,7 @@ use Rattle.et_event.specs.Sound.{IsPc, IsStaged, AreSoundFrames, IsSoundFor}
 use Rattle.et_event.specs.Throw.{catches, handler_of, unwound, unwound_clinit, by_handler, unwinds, unwinding_step}
 use Rattle.et_history.specs.soundness.Outcomes.{KeepsSound}
 use Rattle.et_history.specs.soundness.WellFormed.{IsUnderWayAt, StandsAt}
-use Rattle.et_history.proofs.soundness.Frames.{RunsSome, runs_some, pc_there, next_pc, with_first}
+use Rattle.et_history.proofs.soundness.Frames.{RunsSome, runs_some, pc_there, next_pc}
 use Rattle.et_history.proofs.soundness.Initializers.{step_sound}
 use Rattle.et_history.proofs.soundness.Outcomes.{begins_well}
 use Rattle.et_history.proofs.soundness.Steps.{end_sound, handler_pc, caught_sound, unwound_before, unwound_clinit_sound, unwound_sound}

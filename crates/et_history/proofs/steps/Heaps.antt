@@ -8,7 +8,7 @@ use Rattle.et_base.specs.declared.value.Value.{Value}
 use Rattle.et_heap.specs.Objects.{ObjectState, Objects, IsHeld, is_there, at, found, object_at, with_object_at, free_monitor, new_object, with_queue}
 use Rattle.std.specs.Option.{option_to_list}
 use Rattle.std.proofs.lemmas.Option.{none-some}
-use Rattle.et_heap.specs.Refs.{refs_of, targets_of, leads_to}
+use Rattle.et_heap.specs.Refs.{refs_of, targets_of}
 use Rattle.et_heap.proofs.HeapLists.{pair_at, at_pair, held_within, held_set, set_held, held_push, pairs_push}
 use Rattle.et_state.specs.ThreadRoots.{thread_roots}
 use Rattle.et_state.specs.Threads.{ThreadState}
@@ -168,10 +168,6 @@ first_waiting_fine s u sound = by (object_at s.heap u).waiting (λ z c. rest_hel
     by : (ws : List ℕ) → ((z : ℕ) → Contains ws z → IsHeld s.heap z) → Fine s.heap (first_value ws)
     by [] all = tt
     by (w ∷ ws) all = all w (Contains-here w ws)
-
-pub targets_found : (x : Option ObjectState) → targets_of x ≡ leads_to (found x)
-targets_found None = refl
-targets_found (Some x) = refl
 
 pub object_sound : (s : Kept) (o : ℕ) (y : ObjectState) → IsSound s → IsHeld s.heap o → Fines s.heap y.slots → FineSome s.heap y.referent → AreRestHeld s.heap y → IsSound (record { heap = with_object_at s.heap o y; guest = s.guest })
 object_sound s o y sound held slots referent rest =

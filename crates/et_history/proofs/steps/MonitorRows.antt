@@ -2,9 +2,10 @@
 use Rattle.std.proofs.Common.{◌≡◌, ℕ, Bool, true, false, List, [], ◌∷◌, length, Option, Some, None, Result, Ok, Err, refl, sym, ◌∙◌, ap, subst, arith}
 use Rattle.std.specs.Prelude.{if◌then◌else◌, is_some}
 use Rattle.std.specs.Option.{option_or}
-use Rattle.std.proofs.lemmas.Bool.{true≢false}
+use Rattle.std.proofs.lemmas.Option.{none-some}
 use Rattle.et_base.specs.declared.value.Value.{Value}
 use Rattle.et_base.specs.declared.value.Value.TheVariants.{Unset, Int, Long, LongHigh, Null, Ref}
+use Rattle.et_base.proofs.Options.{is_none}
 use Rattle.et_code.specs.declared.instr.Instr.{Instr}
 use Rattle.et_code.specs.declared.instr.CodeFault.{CodeFault}
 use Rattle.et_heap.specs.Objects.{IsHeld, ObjectState, new_object}
@@ -184,27 +185,20 @@ monitor_does e at monitor.Exit here quiet = exit_does e at (current_frame e).ope
 
 -- THE TURN of a monitor instruction
 
-none_some : (x : MonitorRow) → None ≡ Some x → ⊥
-none_some x e = cc
-
 quiet_now : (pending has before entered : Bool) → (if pending then (if has then Unwind else EndThread) else (if has then (if before then Initialize else Instruction) else (if entered then EndThread else Entry))) ≡ Instruction → pending ≡ false
 quiet_now true true before entered e = cc
 quiet_now true false before entered e = cc
 quiet_now false has before entered e = refl
 
-pub none_pending : (p : Option ℕ) → is_some p ≡ false → p ≡ None
-none_pending None e = refl
-none_pending (Some o) e = absurd (true≢false e)
-
 module _ (e : Moment) (ready : Ready e) where
   row_keeps : (at : Site) (r : Option Row) (x : MonitorRow) → Stands e → (thread_of e).pending ≡ None → monitor_row r ≡ Some x → KeepsBy e (Some x) (object_on (current_frame e).operands) (by_row e at r)
   row_keeps at None x here quiet is = tt
-  row_keeps at (Some (row.Frame r)) x here quiet is = absurd (none_some x is)
-  row_keeps at (Some row.PoolConstant) x here quiet is = absurd (none_some x is)
-  row_keeps at (Some (row.Divide n o)) x here quiet is = absurd (none_some x is)
-  row_keeps at (Some (row.Heap r)) x here quiet is = absurd (none_some x is)
-  row_keeps at (Some (row.Call r)) x here quiet is = absurd (none_some x is)
-  row_keeps at (Some row.Throw) x here quiet is = absurd (none_some x is)
+  row_keeps at (Some (row.Frame r)) x here quiet is = absurd (none-some x is)
+  row_keeps at (Some row.PoolConstant) x here quiet is = absurd (none-some x is)
+  row_keeps at (Some (row.Divide n o)) x here quiet is = absurd (none-some x is)
+  row_keeps at (Some (row.Heap r)) x here quiet is = absurd (none-some x is)
+  row_keeps at (Some (row.Call r)) x here quiet is = absurd (none-some x is)
+  row_keeps at (Some row.Throw) x here quiet is = absurd (none-some x is)
   row_keeps at (Some (row.Monitor r)) x here quiet is = subst (λ (y : Option MonitorRow). KeepsBy e y (object_on (current_frame e).operands) (monitor_event e at r)) is (monitor_does e at r here quiet)
 
   instruction_keeps : (q : Result (Instr × ℕ) CodeFault) (x : MonitorRow) → Stands e → (thread_of e).pending ≡ None → monitor_row (row_decoded q) ≡ Some x → KeepsBy e (Some x) (object_on (current_frame e).operands) (by_instruction e q)
@@ -212,14 +206,14 @@ module _ (e : Moment) (ready : Ready e) where
   instruction_keeps (Ok y) x here quiet is = row_keeps (site_of e.program (current_frame e) y) (row_of y.0.opcode) x here quiet is
 
   turn_keeps : (turn : Turn) (x : MonitorRow) → turn_of (thread_of e) ≡ turn → monitor_row_at e turn ≡ Some x → KeepsBy e (Some x) (object_on (current_frame e).operands) (does_turn e turn)
-  turn_keeps Unwind x same is = absurd (none_some x is)
-  turn_keeps EndThread x same is = absurd (none_some x is)
-  turn_keeps Entry x same is = absurd (none_some x is)
-  turn_keeps Initialize x same is = absurd (none_some x is)
+  turn_keeps Unwind x same is = absurd (none-some x is)
+  turn_keeps EndThread x same is = absurd (none-some x is)
+  turn_keeps Entry x same is = absurd (none-some x is)
+  turn_keeps Initialize x same is = absurd (none-some x is)
   turn_keeps Instruction x same is =
       let t : ThreadState = thread_of e in
       let says = (parts t).instruction same in
-      let quiet : t.pending ≡ None = none_pending t.pending (quiet_now (is_some t.pending) (has_frame t.frames) (is_before_class (top_of t).stage) t.entered same) in
+      let quiet : t.pending ≡ None = is_none t.pending (quiet_now (is_some t.pending) (has_frame t.frames) (is_before_class (top_of t).stage) t.entered same) in
       instruction_keeps (decoded_at e.program (current_frame e)) x (record { ready = ready; framed = some_frame t.frames says.0 }) quiet is
 
   -- at a monitor instruction or at none

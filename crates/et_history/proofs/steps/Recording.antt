@@ -3,6 +3,7 @@ use Rattle.std.proofs.Common.{◌≡◌, ℕ, ◌+◌, ◌*◌, ◌<◌, true, f
 use Rattle.std.specs.Prelude.{if◌then◌else◌, codes, is_some, unwrap_or}
 use Rattle.std.proofs.lemmas.Bool.{false≢true}
 use Rattle.std.proofs.lemmas.List.{length-set, length-append, length-replicate, length_push}
+use Rattle.et_state.proofs.Interned.{object_pushed, object_in}
 use Rattle.et_base.proofs.Lists.{Contains-here}
 use Rattle.et_base.specs.declared.value.Value.{Value}
 use Rattle.et_base.specs.declared.value.Value.TheVariants.{Unset, Int, Long, LongHigh, Null, Ref}
@@ -34,7 +35,6 @@ use Rattle.et_history.specs.steps.Steps.{HasSlot}
 use Rattle.et_history.specs.steps.Values.{Fine, Fines, FineSome, FineFrame, FineThread, Grows}
 use Rattle.et_state.proofs.Steps.{newest_held}
 use Rattle.et_history.proofs.steps.Heaps.{sound_guest, fine_thread, thread_sound, new_thread_sound, string_sound, static_sound, statics_fine, slots_fine, referent_fine, object_sound, made_sound, AreRestHeld, rest_held, rest_with_queue, rest_without_first}
-use Rattle.et_history.proofs.steps.Words.{object_in, object_pushed}
 use Rattle.et_history.proofs.steps.Records.{steady_itself, steady_then, steady_set, steady_push, newest_at, records_grow, records_more}
 use Rattle.et_heap.specs.Queues.{with_waits, without_first_waiting, take_first}
 use Rattle.et_state.proofs.UnderWay.{waiting_pair}

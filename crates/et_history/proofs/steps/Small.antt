@@ -9,11 +9,11 @@ use Rattle.et_state.specs.Interned.{object_of}
 use Rattle.et_state.specs.Sound.{IsSound}
 use Rattle.et_state.specs.State.{Kept}
 use Rattle.et_state.specs.Words.{with_string}
-use Rattle.et_history.proofs.steps.Words.{object_in, object_pushed}
 use Rattle.std.proofs.Common.{List, None, Option, Some, [], refl, subst, sym, ℕ, ◌∷◌, ◌≡◌}
 use Rattle.std.proofs.lemmas.List.Elements.{All-head, All-tail}
 use Rattle.std.specs.Option.{is_some}
 use Rattle.std.specs.Prelude.{All, codes, fold, if◌then◌else◌, unwrap_or}
+use Rattle.et_state.proofs.Interned.{object_pushed, object_in}
 
 -- FOLDS
 

@@ -23,7 +23,7 @@ use Rattle.et_program.specs.Members.{base_array, is_base_array}
 use Rattle.et_program.specs.declared.info.MethodInfo.{MethodInfo}
 use Rattle.et_history.proofs.soundness.Arrays.{names_class}
 use Rattle.et_history.proofs.soundness.Entering.{StandsIn, stands_in}
-use Rattle.et_history.proofs.soundness.Frames.{RunsSome, runs_some, with_first}
+use Rattle.et_history.proofs.soundness.Frames.{RunsSome, runs_some}
 use Rattle.et_history.proofs.soundness.Turning.{class_by, parts, runs_by, some_frame}
 use Rattle.et_history.proofs.soundness.Wholes.{sound}
 use Rattle.et_history.proofs.soundness.Classes.{base_is_array}
@@ -42,6 +42,8 @@ use Rattle.et_history.specs.steps.Holding.{monitor_row, monitor_row_at, row_deco
 use Rattle.et_history.specs.steps.Steps.{IsAtMonitor, IsFramed, IsMethodOf, Leads}
 use Rattle.std.proofs.Common.{Err, List, None, Ok, Option, Result, Some, ap, arith, length, refl, subst, sym, true, ℕ, ◌<◌, ◌∙◌, ◌∷◌, ◌≡◌}
 use Rattle.std.specs.Prelude.{IfSome, IsSome, unwrap_or}
+use Rattle.et_state.proofs.Steps.{with_first}
+use Rattle.et_base.proofs.Options.{some-none}
 use Rattle.et_event.specs.declared.rows.Row.TheVariants as row
 use Rattle.et_event.specs.declared.rows.HeapRow.TheVariants as heap
 
@@ -52,9 +54,6 @@ MakesAll e = (x : Instr × ℕ) → decoded_at e.program (current_frame e) ≡ O
 -- .. and its calls name no <clinit>
 abbrev CallsAll : Moment → Type 0
 CallsAll e = (x : Instr × ℕ) → decoded_at e.program (current_frame e) ≡ Ok x → (kind : CallKind) → row_of x.0.opcode ≡ Some (row.Call (Invoke kind)) → NamesNoInitializer (site_of e.program (current_frame e) x)
-
-some_none : (r : MonitorRow) → Some r ≡ None → ⊥
-some_none r e = cc
 
 module _ (e : Moment) (ready : Ready e) (framed : IsFramed e) where
   row_leads : (at : Site) (r : Option Row) → IsMethodOf e.program (unwrap_or (current_frame e).method 0) → ((x : MonitorRow) → r ≡ Some (row.Monitor x) → IsAtMonitor e) → ((x : HeapRow) → r ≡ Some (row.Heap x) → MakesArrays e.program at x)
@@ -74,7 +73,7 @@ module _ (e : Moment) (ready : Ready e) (framed : IsFramed e) where
       let one : monitor_row_at e (turn_of (thread_of e)) ≡ monitor_row (row_decoded (decoded_at e.program (current_frame e))) = ap (λ (t : Turn). monitor_row_at e t) turn in
       let two : monitor_row (row_decoded (decoded_at e.program (current_frame e))) ≡ monitor_row (row_of x.0.opcode) = ap (λ (q : Result (Instr × ℕ) CodeFault). monitor_row (row_decoded q)) decoded in
       let three : monitor_row (row_of x.0.opcode) ≡ Some r = ap (λ (q : Option Row). monitor_row q) is in
-      some_none r (sym (one ∙ (two ∙ three)) ∙ none)
+      some-none r (sym (one ∙ (two ∙ three)) ∙ none)
 
   instruction_leads : (x : Result (Instr × ℕ) CodeFault) → turn_of (thread_of e) ≡ Instruction → decoded_at e.program (current_frame e) ≡ x → IsMethodOf e.program (unwrap_or (current_frame e).method 0) → MakesAll e → CallsAll e → Leads e (by_instruction e x)
   instruction_leads (Err fault) turn is runs makes names = tt

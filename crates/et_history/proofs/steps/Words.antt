@@ -1,21 +1,19 @@
 -- What the words of an event do: each takes the state on so that what is referred to is held, and keeps each monitor.
-use Rattle.std.proofs.Common.{◌≡◌, ℕ, ◌+◌, ◌<◌, Bool, true, false, cond, List, [], ◌∷◌, ◌++◌, length, set, get_or, Option, Some, None, Contains, refl, sym, ◌∙◌, ap, subst, inl, inr, arith, get_or-set_same}
+use Rattle.std.proofs.Common.{◌≡◌, ℕ, ◌+◌, ◌<◌, false, List, [], ◌∷◌, ◌++◌, length, set, get_or, Option, Some, None, Contains, refl, sym, ◌∙◌, ap, subst, inl, inr, arith, get_or-set_same}
 use Rattle.std.specs.Prelude.{if◌then◌else◌, codes, is_some, fold, unwrap_or}
-use Rattle.std.specs.Str.{bytes_eq}
 use Rattle.std.proofs.lemmas.Bool.{cases_lt}
 use Rattle.std.proofs.lemmas.List.{length-set, length-append, get_or_append_left}
-use Rattle.std.proofs.lemmas.Slice.Eq.{bytes_eq-Decides}
-use Rattle.std.proofs.lemmas.Option.{same_Some, none-some}
+use Rattle.et_state.proofs.Interned.{object_pushed, object_in}
 use Rattle.et_base.specs.declared.value.Value.{Value}
 use Rattle.et_base.specs.declared.value.Value.TheVariants.{Unset, Int, Long, LongHigh, Null, Ref}
-use Rattle.et_base.proofs.Lists.{Contains-here, Contains-there}
+use Rattle.et_base.proofs.Lists.{Contains-here}
 use Rattle.et_program.specs.Entries.{class_at}
 use Rattle.et_program.specs.declared.info.FieldInfo.{FieldInfo}
 use Rattle.et_heap.specs.declared.monitor.Monitor.{Monitor}
 use Rattle.et_heap.specs.Objects.{ObjectState, Objects, IsHeld, free_monitor, new_object, object_at, slot_of, with_slot, with_referent, with_object_at, with_queue}
 use Rattle.et_state.specs.Threads.{FrameState, ThreadState, no_thread, new_thread, has_frame, rest_of, with_top_of, as_entered, with_pending}
 use Rattle.et_state.specs.declared.class_state.ClassState.{ClassState}
-use Rattle.et_state.specs.Interned.{object_of, interned_objects}
+use Rattle.et_state.specs.Interned.{object_of}
 use Rattle.et_state.specs.Sound.{IsSound}
 use Rattle.et_state.specs.State.{GuestState, Kept}
 use Rattle.et_state.specs.Words.{thread_at, with_thread, with_top, with_new_thread, static_at, with_static, with_string, with_class_state}
@@ -263,22 +261,6 @@ pub made_held : (h : Objects) (y : ObjectState) (k : ℕ) → y.monitor ≡ free
 made_held h y k free held = ((grown_push h y free).stays k held).0
 
 -- STRINGS OF CONSTANTS
-
-object_step : (b : Bool) (v : ℕ) (vs : List ℕ) (r : Option ℕ) (o : ℕ) → (r ≡ Some o → Contains vs o) → cond b (Some v) r ≡ Some o → Contains (v ∷ vs) o
-object_step true v vs r o ih h = subst (λ (k : ℕ). Contains (v ∷ vs) k) (same_Some v o h) (Contains-here v vs)
-object_step false v vs r o ih h = Contains-there v vs o (ih h)
-
-pub object_in : (es : List (List ℕ × ℕ)) (bytes : List ℕ) (o : ℕ) → object_of es bytes ≡ Some o → Contains (interned_objects es) o
-object_in [] bytes o h = absurd (none-some o h)
-object_in (e ∷ es) bytes o h = object_step (bytes_eq bytes e.0) e.1 (interned_objects es) (object_of es bytes) o (object_in es bytes o) h
-
-push_step : (b : Bool) (v n : ℕ) (r r' : Option ℕ) → (r ≡ None → r' ≡ Some n) → cond b (Some v) r ≡ None → cond b (Some v) r' ≡ Some n
-push_step true v n r r' ih h = absurd (none-some v (sym h))
-push_step false v n r r' ih h = ih h
-
-pub object_pushed : (es : List (List ℕ × ℕ)) (bytes : List ℕ) (n : ℕ) → object_of es bytes ≡ None → object_of (es ++ (bytes, n) ∷ []) bytes ≡ Some n
-object_pushed [] bytes n h = ap (λ (b : Bool). cond b (Some n) None) ((bytes_eq-Decides bytes bytes).1 refl)
-object_pushed (e ∷ es) bytes n h = push_step (bytes_eq bytes e.0) e.1 n (object_of es bytes) (object_of (es ++ (bytes, n) ∷ []) bytes) (λ q. object_pushed es bytes n q) h
 
 pub record Interned (e : Moment) (w : Way) (bytes : List ℕ) (d x : Doing) : Type 0 where
   pub still : Still e w x.state

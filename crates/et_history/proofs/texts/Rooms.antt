@@ -5,6 +5,7 @@ use Rattle.std.specs.List.{list_all}
 use Rattle.std.specs.Str.{bytes_eq}
 use Rattle.std.proofs.lemmas.Bool.{and_parts, leb-true}
 use Rattle.std.proofs.lemmas.Slice.Eq.{bytes_eq-Decides}
+use Rattle.std.proofs.lemmas.Option.{none-some, same_Some}
 use Rattle.et_boot.specs.TextMethods.{is_text_method, text_methods}
 use Rattle.et_class.specs.Descriptors.{types_of, after_dimensions, after_name}
 use Rattle.et_program.specs.BootTexts.TextMethod.{TextMethod}
@@ -44,15 +45,9 @@ all_have_room : list_all has_room text_methods ≡ true
 unfolding types_of after_dimensions after_name
 all_have_room = refl
 
-none_some : (m : TextMethod) → None ≡ Some m → ⊥
-none_some m e = cc
-
-some_same : (a b : TextMethod) → Some a ≡ Some b → a ≡ b
-some_same a b e = cc
-
 module _ (class name descriptor : List ℕ) (m : TextMethod) where
   room_by : (rows : List TextRow) → list_all has_room rows ≡ true → option_map (λ (row : TextRow). row.3) (find (is_text_method class name descriptor) rows) ≡ Some m → text_entries m ≤ width_of descriptor
-  room_by [] all e = absurd (none_some m e)
+  room_by [] all e = absurd (none-some m e)
   room_by (row ∷ rows) all e = by (is_text_method class name descriptor row) refl e (room_by rows parts.1)
     where
       parts : (has_room row ≡ true) × (list_all has_room rows ≡ true)
@@ -63,7 +58,7 @@ module _ (class name descriptor : List ℕ) (m : TextMethod) where
       by true is q more =
           let type : row.2 ≡ descriptor = (bytes_eq-Decides row.2 descriptor).0 (and_parts (bytes_eq row.0 class && bytes_eq row.1 name) (bytes_eq row.2 descriptor) is).1 in
           let few : text_entries row.3 ≤ width_of row.2 = leb-true (text_entries row.3) (width_of row.2) parts.0 in
-          subst (λ (k : TextMethod). text_entries k ≤ width_of descriptor) (some_same row.3 m q) (subst (λ (d : List ℕ). text_entries row.3 ≤ width_of d) type few)
+          subst (λ (k : TextMethod). text_entries k ≤ width_of descriptor) (same_Some row.3 m q) (subst (λ (d : List ℕ). text_entries row.3 ≤ width_of d) type few)
       by false is q more = more q
 
 pub text_fits : (p : Linked) (k : ℕ) (m : TextMethod) → text_method_of p k ≡ Some m → text_entries m ≤ returned_width (returned_of (method_at p k))

@@ -5,14 +5,14 @@ use Rattle.std.specs.List.{list_all, list_any, slice_index_or}
 use Rattle.std.proofs.lemmas.Bool.{and_parts, and_from, not-true, both_ways, true≢false, false_from_ne_true, cases_eq, cases_lt}
 use Rattle.std.proofs.lemmas.List.Elements.{All-nil, All-cons, All-head, All-tail, All-append, All-map, All-weaker, Contains-append_left, Contains-push}
 use Rattle.et_base.specs.Marks.{Mark}
-use Rattle.et_base.proofs.Lists.{contains_any}
+use Rattle.et_base.proofs.Lists.{contains_any, same_bytes}
 use Rattle.et_pool.specs.Entries.{Item}
 use Rattle.et_pool.specs.Looks.{utf8_at}
 use Rattle.et_class.specs.Along.{along}
 use Rattle.et_class.specs.Layout.{MemberOf, member_bytes}
 use Rattle.et_class.specs.Methods.{method_marks}
 use Rattle.et_class.specs.Names.{key_of, share, is_member_new, has_member_name}
-use Rattle.et_hierarchy.proofs.Names.{same_name, name_itself}
+use Rattle.et_hierarchy.proofs.Names.{same_name}
 use Rattle.et_program.specs.BootClasses.{BootClassOf, BootMethodOf}
 use Rattle.et_program.specs.declared.info.MethodInfo.{MethodInfo}
 use Rattle.et_program.specs.Entries.{no_method}
@@ -159,8 +159,8 @@ module _ (slots : List (Option Item)) where
       let two : a.descriptor ≡ b.descriptor = sym (text_is x.descriptor a.descriptor a.descriptor_is) ∙ (same_name (pool_text slots x.descriptor) (pool_text slots y.descriptor) descriptor ∙ text_is y.descriptor b.descriptor b.descriptor_is) in
       let shown : share (Some (b.name, b.descriptor)) (Some (a.name, a.descriptor)) ≡ false =
       sym (ap (λ (o : Option (List ℕ × List ℕ)). share (key_of slots y) o) (key_is x a) ∙ ap (λ (o : Option (List ℕ × List ℕ)). share o (Some (a.name, a.descriptor))) (key_is y b)) ∙ none in
-      let names : bytes_eq b.name a.name ≡ true = subst (λ (n : List ℕ). bytes_eq b.name n ≡ true) (sym one) (name_itself b.name) in
-      let descriptors : bytes_eq b.descriptor a.descriptor ≡ true = subst (λ (n : List ℕ). bytes_eq b.descriptor n ≡ true) (sym two) (name_itself b.descriptor) in
+      let names : bytes_eq b.name a.name ≡ true = subst (λ (n : List ℕ). bytes_eq b.name n ≡ true) (sym one) (same_bytes b.name) in
+      let descriptors : bytes_eq b.descriptor a.descriptor ≡ true = subst (λ (n : List ℕ). bytes_eq b.descriptor n ≡ true) (sym two) (same_bytes b.descriptor) in
       true≢false (sym (and_from (bytes_eq b.name a.name) (bytes_eq b.descriptor a.descriptor) names descriptors) ∙ shown)
 
   -- the methods that stand from a place on are apart
@@ -206,4 +206,4 @@ methods_apart files each m n first second class name descriptor =
     ]
   where
     turned : (a b : List ℕ) → bytes_eq a b ≡ true → bytes_eq b a ≡ true
-    turned a b h = subst (λ (x : List ℕ). bytes_eq b x ≡ true) (sym (same_name a b h)) (name_itself b)
+    turned a b h = subst (λ (x : List ℕ). bytes_eq b x ≡ true) (sym (same_name a b h)) (same_bytes b)

@@ -6,11 +6,12 @@ use Rattle.std.proofs.Math.Seq.{get_or-append_seam}
 use Rattle.std.proofs.lemmas.Bool.{cases_eq, cases_lt, true≢false}
 use Rattle.std.proofs.lemmas.List.{get_or_append_left}
 use Rattle.std.proofs.lemmas.List.Folds.{list_any_at}
+use Rattle.et_base.proofs.Lists.{same_bytes}
 use Rattle.et_pool.specs.Descriptors.{is_array}
 use Rattle.et_pool.specs.Entries.{Constants}
 use Rattle.et_hierarchy.specs.Ancestry.{Ancestry}
 use Rattle.et_hierarchy.specs.Outline.{no_outline, outline_at, class_place}
-use Rattle.et_hierarchy.proofs.Names.{same_name, name_itself}
+use Rattle.et_hierarchy.proofs.Names.{same_name}
 use Rattle.et_program.specs.ArrayTypes.{arrays_met, is_type_known, name_added, names_added, with_element_types}
 use Rattle.et_program.specs.Entries.{ClassEntry, Linked, class_at}
 use Rattle.et_program.specs.Files.{set_of}
@@ -43,7 +44,7 @@ added_apart seen x apart = by (list_any (λ y. bytes_eq x y) seen) refl
               let first : i < length seen = omega (arith, lt, last) in
               let is_x : slice_index_or (seen ++ x ∷ []) j [] ≡ x = ap (λ (k : ℕ). slice_index_or (seen ++ x ∷ []) k []) last ∙ get_or-append_seam seen x [] [] in
               let is : slice_index_or seen i [] ≡ x = sym (get_or_append_left seen (x ∷ []) [] i first) ∙ (same ∙ is_x) in
-              let found : bytes_eq x (slice_index_or seen i []) ≡ true = subst (λ (y : List ℕ). bytes_eq x y ≡ true) (sym is) (name_itself x) in
+              let found : bytes_eq x (slice_index_or seen i []) ≡ true = subst (λ (y : List ℕ). bytes_eq x y ≡ true) (sym is) (same_bytes x) in
               absurd (true≢false (sym (list_any_at (λ y. bytes_eq x y) seen i [] first found) ∙ e))
         ]
 

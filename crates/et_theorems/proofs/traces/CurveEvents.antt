@@ -1,16 +1,17 @@
 -- In a good list each event is at most that of its last line, and so is each event of its curve.
-use Rattle.std.proofs.Common.{◌≡◌, ℕ, ◌≤◌, ◌==◌, ◌&&◌, Bool, true, false, not, List, [], ◌∷◌, ◌++◌, Option, Some, None, refl, sym, ◌∙◌, subst, arith, Contains, nat_le, nat_eq}
+use Rattle.std.proofs.Common.{◌≡◌, ℕ, ◌≤◌, ◌==◌, ◌&&◌, Bool, true, false, not, List, [], ◌∷◌, ◌++◌, Option, Some, None, refl, sym, ◌∙◌, subst, arith, Contains, nat_eq}
 use Rattle.std.specs.Prelude.{All, if◌then◌else◌, filter_map, reverse}
 use Rattle.std.specs.List.{cons_option}
-use Rattle.std.proofs.lemmas.Bool.{and_parts, leb-true, eqb-true, false≢true}
+use Rattle.std.proofs.lemmas.Bool.{and_parts, eqb-true, false≢true}
 use Rattle.std.proofs.lemmas.List.{reverse-append, reverse-reverse}
 use Rattle.std.proofs.lemmas.List.Elements.{All-nil, All-cons, All-head, All-tail, All-contains, All-weaker}
 use Rattle.std.proofs.lemmas.List.Kept.{Contains-from_dedup}
 use Rattle.std.proofs.lemmas.List.Sorted.{All-permutation, IsPermutation-reverse}
 use Rattle.std.proofs.lemmas.Option.{none-some, same_Some}
+use Rattle.et_replay.proofs.Rising.{timely}
 use Rattle.et_base.specs.declared.line.TraceLine.{TraceLine}
 use Rattle.et_base.specs.declared.line.TraceLine.TheVariants.{Header, Class, Method, Alloc, Update, Enter, Exit, Unwind, Flush, Death, Finish}
-use Rattle.et_text.specs.Rules.{AreFine, IsGood, after, awaited, has_ended, interval, is_before, is_open, is_timely, keeps_order, latest, misses_no_flush, newest_flush, next_fault, order, standing_flush, stands_at}
+use Rattle.et_text.specs.Rules.{AreFine, IsGood, after, awaited, has_ended, is_timely, keeps_order, latest, next_fault, order, standing_flush, stands_at}
 use Rattle.et_replay.specs.Curve.{curve_events, happens_at}
 
 -- the event of the line, if it has one, is at most this one
@@ -30,22 +31,16 @@ order_kept past l h = by (has_ended past) (keeps_order past l) _ h
     by false true rest e = refl
     by false false rest e = absurd (some_none order e)
 
-timely_rises : (past : List TraceLine) (event : ℕ) → is_timely past event ≡ true → latest past ≤ event
-timely_rises past event h =
-    let first = (and_parts (is_open past && nat_le (latest past) event && is_before (newest_flush past) event) (misses_no_flush (interval past) (newest_flush past) event) h).0 in
-    let second = (and_parts (is_open past && nat_le (latest past) event) (is_before (newest_flush past) event) first).0 in
-    leb-true (latest past) event (and_parts (is_open past) (nat_le (latest past) event) second).1
-
 rises : (past : List TraceLine) (l : TraceLine) → keeps_order past l ≡ true → latest past ≤ latest (l ∷ past)
 rises past (Header version n) h = omega arith
 rises past (Class number name) h = omega arith
 rises past (Method number class name descriptor) h = omega arith
-rises past (Alloc event thread object class size length) h = timely_rises past event (and_parts (is_timely past event) _ h).0
-rises past (Update event thread object slot old new) h = timely_rises past event h
-rises past (Enter event thread method receiver) h = timely_rises past event h
-rises past (Exit event thread method) h = timely_rises past event h
-rises past (Unwind event thread method exception) h = timely_rises past event h
-rises past (Flush event deaths) h = timely_rises past event h
+rises past (Alloc event thread object class size length) h = timely past event (and_parts (is_timely past event) _ h).0
+rises past (Update event thread object slot old new) h = timely past event h
+rises past (Enter event thread method receiver) h = timely past event h
+rises past (Exit event thread method) h = timely past event h
+rises past (Unwind event thread method exception) h = timely past event h
+rises past (Flush event deaths) h = timely past event h
 rises past (Death object time) h = omega arith
 rises past (Finish event how) h = omega arith
 

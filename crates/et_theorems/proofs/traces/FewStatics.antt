@@ -4,6 +4,7 @@ use Rattle.std.proofs.Common.{◌≡◌, ℕ, ◌+◌, ◌*◌, ◌<◌, ◌≤�
 use Rattle.std.specs.Prelude.{All, if◌then◌else◌}
 use Rattle.std.proofs.lemmas.List.{length-map}
 use Rattle.std.proofs.lemmas.List.Elements.{All-head, All-tail}
+use Rattle.et_verify.proofs.Verified.{places_few}
 use Rattle.et_program.specs.Files.{boots}
 use Rattle.et_program.specs.LinkFaults.{IsLinkable}
 use Rattle.et_program.specs.Loaded.{LoadedClass}
@@ -11,18 +12,9 @@ use Rattle.et_program.specs.MembersOf.{numbered, boot_fields, file_field, file_f
 use Rattle.et_program.specs.Slots.{is_static_field, places_from}
 use Rattle.et_theorems.proofs.Tabled.{few_files}
 
--- at most as many places as elements
-few_places : {X : Type 0} (t : X → Bool) (n : ℕ) (xs : List X) → length (places_from t n xs) ≤ length xs
-few_places t n [] = omega arith
-few_places t n (x ∷ xs) = by (t x) (few_places t (n + 1) xs)
-  where
-    by : (b : Bool) → length (places_from t (n + 1) xs) ≤ length xs → length (if b then n ∷ places_from t (n + 1) xs else places_from t (n + 1) xs) ≤ length (x ∷ xs)
-    by true le = omega (arith, le)
-    by false le = omega (arith, le)
-
 -- .. and behind a list that has some
 places_behind : {X : Type 0} (t : X → Bool) (n : ℕ) (xs ys : List X) → length (places_from t n (xs ++ ys)) ≤ length (places_from t n xs) + length ys
-places_behind t n [] ys = let le = few_places t n ys in omega (arith, le)
+places_behind t n [] ys = let le = places_few t n ys in omega (arith, le)
 places_behind t n (x ∷ xs) ys = by (t x) (places_behind t (n + 1) xs ys)
   where
     by : (b : Bool) → length (places_from t (n + 1) (xs ++ ys)) ≤ length (places_from t (n + 1) xs) + length ys

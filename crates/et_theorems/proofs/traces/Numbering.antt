@@ -8,6 +8,7 @@ use Rattle.std.proofs.lemmas.List.Folds.{list_any-append}
 use Rattle.std.proofs.lemmas.List.Sums.{passes_at_first}
 use Rattle.std.proofs.lemmas.Map.Keys.{IsDistinct-push}
 use Rattle.std.proofs.lemmas.Map.Steps.{length-le_from_distinct_below}
+use Rattle.et_loop.proofs.Tables.{place_kept}
 use Rattle.et_state.specs.Naming.{Names, Mentions, number_in}
 use Rattle.et_theorems.specs.traces.Good.{AreNamesApart, AreNamesShort}
 
@@ -39,14 +40,6 @@ in_cases seen y x h =
     ]
 
 -- PLACES
-
-place_kept : (p : ℕ → Bool) (y : ℕ) (seen : List ℕ) → list_any p seen ≡ true → position_or_len p (seen ++ y ∷ []) ≡ position_or_len p seen
-place_kept p y [] e = absurd (true≢false (sym e))
-place_kept p y (x ∷ xs) e = by (p x) e (λ h. place_kept p y xs h)
-  where
-    by : (b : Bool) → (b || list_any p xs) ≡ true → (list_any p xs ≡ true → position_or_len p (xs ++ y ∷ []) ≡ position_or_len p xs) → cond (not b) (1 + prefix_len (λ z. not (p z)) (xs ++ y ∷ [])) 0 ≡ cond (not b) (1 + prefix_len (λ z. not (p z)) xs) 0
-    by true h rest = refl
-    by false h rest = ap (λ (n : ℕ). 1 + n) (rest h)
 
 place_within : (p : ℕ → Bool) (seen : List ℕ) → list_any p seen ≡ true → position_or_len p seen < length seen
 place_within p [] e = absurd (true≢false (sym e))

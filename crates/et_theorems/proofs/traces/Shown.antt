@@ -4,12 +4,13 @@ use Rattle.std.specs.Prelude.{All, if◌then◌else◌, slice_index_or}
 use Rattle.std.proofs.lemmas.Bool.{cases_eq, eqb-true, false_from_ne_true, le-leb, true≢false}
 use Rattle.std.specs.List.{flat_map}
 use Rattle.std.proofs.lemmas.List.Elements.{Contains-append_left, Contains-append_right}
+use Rattle.et_state.proofs.Numbered.{in_range}
 use Rattle.et_base.specs.declared.line.TraceLine.{TraceLine}
 use Rattle.et_base.specs.declared.line.TraceLine.TheVariants as line
 use Rattle.et_base.specs.declared.value.End.{End}
 use Rattle.et_base.specs.declared.value.Value.{Value}
 use Rattle.et_base.specs.declared.value.Value.TheVariants.{Unset, Int, Long, LongHigh, Null, Ref}
-use Rattle.et_base.proofs.Lists.{Contains-here, Contains-none, Contains-there, Contains-cons, filter_kept, filter_keeps}
+use Rattle.et_base.proofs.Lists.{Contains-here, Contains-there, filter_kept, filter_keeps}
 use Rattle.et_graph.specs.Graph.{Graph, Decides, IsReached}
 use Rattle.et_heap.specs.Objects.{ObjectState, IsHeld, object_at, slot_of}
 use Rattle.et_heap.specs.Refs.{refs_of, refs_of_value}
@@ -49,14 +50,6 @@ in_numbers k (suc n) o le lt =
     elim (cases_eq k o) [
       | inl same ↦ subst (λ (j : ℕ). Contains (k ∷ numbers_from (k + 1) n) j) same (Contains-here k (numbers_from (k + 1) n))
       | inr ne ↦ Contains-there k (numbers_from (k + 1) n) o (in_numbers (k + 1) n o (omega (arith, le, ne)) (omega (arith, lt)))
-    ]
-
-numbers_within : (k n o : ℕ) → Contains (numbers_from k n) o → (k ≤ o) × (o < k + n)
-numbers_within k zero o c = absurd (Contains-none o c)
-numbers_within k (suc n) o c =
-    elim (Contains-cons k (numbers_from (k + 1) n) o c) [
-      | inl same ↦ (omega (arith, same), omega (arith, same))
-      | inr more ↦ let r = numbers_within (k + 1) n o more in let a = r.0 in let b = r.1 in (omega (arith, a), omega (arith, b))
     ]
 
 -- VALUES: one whose number is not 0 refers to the object of that number
@@ -185,7 +178,7 @@ module _ (reached : Graph → ℕ → Bool) (p : Linked) (options : Options) (pi
     is_live : (o : ℕ) → Contains (live_objects trace e) o → IsLive o
     is_live o c =
         let f = filter_kept lives (numbers_from 1 (made e)) o (subst (λ (os : List ℕ). Contains os o) objects_are c) in
-        let r = numbers_within 1 (made e) o f.0 in
+        let r = in_range 1 (made e) o f.0 in
         let a = r.0 in
         let b = r.1 in
         record { some = omega (arith, a); within = omega (arith, b); later = f.1 }

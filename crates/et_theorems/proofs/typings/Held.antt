@@ -18,11 +18,6 @@ use Rattle.et_state.specs.State.{Kept}
 use Rattle.et_theorems.proofs.typings.Own.{slot_threads}
 use Rattle.et_history.proofs.steps.Rows.{no_elements}
 
--- nothing was written to it
-unset_kind : (k : Option Operand) → is_of_kind k Unset ≡ true
-unset_kind None = refl
-unset_kind (Some kind) = refl
-
 element_in : (p : Linked) (kind : Elements) (i : ℕ) (x : Option ObjectState) → ((y : ObjectState) → x ≡ Some y → IsSoundObject p y) → are_elements kind (class_at p (found x).class).info.element ≡ true → is_of_kind (Some (kind_of_elements kind)) (slot_of (found x) i) ≡ true
 element_in p kind i None sound are = refl
 element_in p kind i (Some y) sound are = elim (cases_lt i (length y.slots)) [

@@ -4,6 +4,7 @@ use Rattle.std.specs.Prelude.{codes, is_some, slice_index_or}
 use Rattle.std.proofs.lemmas.Bool.{cases_eq, cases_lt}
 use Rattle.std.proofs.lemmas.List.{get_or_append_left, get_or-append_right, get_or_past, length-append, length-set}
 use Rattle.std.proofs.lemmas.Option.{none-some, same_Some}
+use Rattle.et_heap.proofs.References.{unset_at}
 use Rattle.et_base.specs.declared.value.Value.{Value}
 use Rattle.et_base.specs.declared.value.Value.TheVariants.{Int, Long, LongHigh, Null, Ref, Unset}
 use Rattle.et_class.specs.PoolOperands.Operand.TheVariants.{Reference}
@@ -32,7 +33,6 @@ use Rattle.et_state.specs.declared.stage.Stage.{Stage}
 use Rattle.et_state.specs.declared.stage.Stage.TheVariants.{Before, Clinit, Plain}
 use Rattle.et_history.specs.steps.Steps.{AllObjects, Begins, BeginsClass, Catches, ClassBecomes, Comes, CountsEntered, Drops, Ends, EntersClinit, EntersCode, EntersMonitor, GoesOn, Interns, IsReference, LeavesMonitor, MakesArray, MakesInstance, MayTell, Pends, Phase, Polls, Returns, SetsQueue, SetsReferent, Starts, Unwinds, UnwindsClinit, WritesSlot, WritesStatic}
 use Rattle.et_theorems.specs.typings.Typed.{HasTypedSlots, IsTypedThread, Typings}
-use Rattle.et_history.proofs.NewArrays.{unset_at}
 
 -- OBJECTS
 

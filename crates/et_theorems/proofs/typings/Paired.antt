@@ -2,7 +2,7 @@
 -- neighbours. Where longs are whole, both free the same entries.
 use Rattle.std.proofs.Common.{ℤ, ◌⊎◌, ◌≡◌, ℕ, zero, suc, ◌+◌, ◌-◌, ◌<◌, ◌==◌, ◌&&◌, Bool, true, false, List, length, get_or, set, refl, sym, ◌∙◌, ap, subst, inl, inr, arith, get_or-set_same, get_or-set_other}
 use Rattle.std.specs.Prelude.{if◌then◌else◌}
-use Rattle.std.proofs.lemmas.Bool.{cases_eq, cases_lt, eq-eqb, eqb-true, and_parts, false≢true, and_from}
+use Rattle.std.proofs.lemmas.Bool.{cases_eq, cases_lt, eq-eqb, eqb-true, and_parts, false≢true, and_from, ne_eqb}
 use Rattle.std.proofs.lemmas.List.{length-set, get_or_past}
 use Rattle.et_base.specs.declared.value.Value.{Value}
 use Rattle.et_base.specs.declared.value.Value.TheVariants as value
@@ -12,7 +12,7 @@ use Rattle.et_flow.specs.declared.types.EntryType.TheVariants as entry
 use Rattle.et_flow.specs.Types.{IsBelow, type_of}
 use Rattle.et_flow.specs.Stores.{is_long, is_high, without_lower, without_upper, one_set, long_set}
 use Rattle.et_theorems.specs.typings.Values.{ArePaired, type_at, AreLocalsOf}
-use Rattle.et_flow.proofs.Stores.{gone_if, kept_at, kept_below, not_eqb, kept_there, length-kept}
+use Rattle.et_flow.proofs.Stores.{gone_if, kept_at, kept_below, kept_there, length-kept}
 use Rattle.et_verify.proofs.Monotone.{long_is, high_is}
 
 -- ONE ENTRY
@@ -169,7 +169,7 @@ module _ (vs : List Value) (ts : List EntryType) (i : ℕ) (v : Value) (t : Entr
   stored_type j = elim (cases_eq j i) [
     | inl same ↦ subst (λ (b : Bool). type_at (one_stored i v vs) j ≡ (if b then t else kept_at i i j (type_at vs j))) (sym (eq-eqb j i same))
         (ap type_of (subst (λ (k : ℕ). get_or (set (freed i vs) i v) k value.Unset ≡ v) (sym same) (get_or-set_same (freed i vs) i v value.Unset (omega (arith, length-other vs i (get_or vs i value.Unset))))) ∙ is)
-    | inr ne ↦ subst (λ (b : Bool). type_at (one_stored i v vs) j ≡ (if b then t else kept_at i i j (type_at vs j))) (sym (not_eqb j i ne)) (other j ne)
+    | inr ne ↦ subst (λ (b : Bool). type_at (one_stored i v vs) j ≡ (if b then t else kept_at i i j (type_at vs j))) (sym (ne_eqb j i ne)) (other j ne)
   ]
     where
       other : (k : ℕ) → (k ≡ i → ⊥) → type_at (one_stored i v vs) k ≡ kept_at i i k (type_at vs k)
@@ -182,7 +182,7 @@ module _ (vs : List Value) (ts : List EntryType) (i : ℕ) (v : Value) (t : Entr
   now_here = ap (λ (b : Bool). if b then t else kept_at i i i (type_at vs i)) (eq-eqb i i refl)
 
   now_other : (j : ℕ) → (j ≡ i → ⊥) → type_now j ≡ kept_at i i j (type_at vs j)
-  now_other j ne = ap (λ (b : Bool). if b then t else kept_at i i j (type_at vs j)) (not_eqb j i ne)
+  now_other j ne = ap (λ (b : Bool). if b then t else kept_at i i j (type_at vs j)) (ne_eqb j i ne)
 
   upper_now : (j : ℕ) → type_now j ≡ entry.Long → type_now (j + 1) ≡ entry.LongHigh
   upper_now j e = elim (cases_eq j i) [
@@ -359,13 +359,13 @@ module _ (vs : List Value) (ts : List EntryType) (i : ℕ) (n : ℤ) (held : Are
 
   then_up : (j : ℕ) → j ≡ i + 1 → type_then j ≡ entry.LongHigh
   then_up j e =
-      ap (λ (b : Bool). if b then entry.Long else (if j == i + 1 then entry.LongHigh else kept_at i (i + 1) j (type_at vs j))) (not_eqb j i (λ q. absurd (omega arith)))
+      ap (λ (b : Bool). if b then entry.Long else (if j == i + 1 then entry.LongHigh else kept_at i (i + 1) j (type_at vs j))) (ne_eqb j i (λ q. absurd (omega arith)))
       ∙ ap (λ (b : Bool). if b then entry.LongHigh else kept_at i (i + 1) j (type_at vs j)) (eq-eqb j (i + 1) e)
 
   then_other : (j : ℕ) → (j ≡ i → ⊥) → (j ≡ i + 1 → ⊥) → type_then j ≡ kept_at i (i + 1) j (type_at vs j)
   then_other j ne other =
-      ap (λ (b : Bool). if b then entry.Long else (if j == i + 1 then entry.LongHigh else kept_at i (i + 1) j (type_at vs j))) (not_eqb j i ne)
-      ∙ ap (λ (b : Bool). if b then entry.LongHigh else kept_at i (i + 1) j (type_at vs j)) (not_eqb j (i + 1) other)
+      ap (λ (b : Bool). if b then entry.Long else (if j == i + 1 then entry.LongHigh else kept_at i (i + 1) j (type_at vs j))) (ne_eqb j i ne)
+      ∙ ap (λ (b : Bool). if b then entry.LongHigh else kept_at i (i + 1) j (type_at vs j)) (ne_eqb j (i + 1) other)
 
   low_stored : type_at (long_stored i n vs) i ≡ entry.Long
   low_stored =

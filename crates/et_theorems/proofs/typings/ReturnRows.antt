@@ -5,6 +5,7 @@ use Rattle.std.specs.Option.{option_map_or}
 use Rattle.std.proofs.lemmas.Bool.{and_parts, eqb-true, false≢true}
 use Rattle.std.proofs.lemmas.List.{map-append}
 use Rattle.std.proofs.lemmas.Option.{none-some, same_Some}
+use Rattle.et_state.proofs.Steps.{with_first}
 use Rattle.et_base.specs.declared.value.Value.{Value}
 use Rattle.et_class.specs.Descriptors.{MethodType, is_void, method_type, width_of}
 use Rattle.et_class.specs.Operands.{is_kind, may_return, operand_kind}
@@ -27,7 +28,7 @@ use Rattle.et_event.specs.declared.rows.CallRow.TheVariants as call
 use Rattle.et_event.specs.declared.rows.Row.{Row}
 use Rattle.et_event.specs.declared.rows.Row.TheVariants as rows
 use Rattle.et_program.specs.Entries.{Linked, method_at}
-use Rattle.et_history.proofs.soundness.Frames.{RunsSome, runs_some, with_first}
+use Rattle.et_history.proofs.soundness.Frames.{RunsSome, runs_some}
 use Rattle.et_state.specs.Outcome.{Outcome}
 use Rattle.et_state.specs.State.{Kept}
 use Rattle.et_state.specs.Threads.{FrameState, ThreadState, rest_of}

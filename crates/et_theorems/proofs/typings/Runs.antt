@@ -27,7 +27,9 @@ use Rattle.et_event.specs.Sound.{IsSoundFor, is_of_kind}
 use Rattle.et_class.specs.PoolOperands.Operand.TheVariants.{Reference}
 use Rattle.et_base.specs.declared.value.Value.{Value}
 use Rattle.et_base.specs.declared.value.Value.TheVariants.{Unset}
-use Rattle.et_history.proofs.Wholes.{ends_back, next, picked_unended, settled_match, below_limit}
+use Rattle.et_base.proofs.Tests.{below_other}
+use Rattle.et_base.proofs.Options.{some-none}
+use Rattle.et_history.proofs.Wholes.{ends_back, next, picked_unended, settled_match}
 use Rattle.et_history.specs.Histories.{moment_at, picked, settled_at, state_at, whole_picked, IsHistory, HistoryComesTo}
 use Rattle.et_history.specs.Settings.{flushed_of, unended_threads}
 use Rattle.et_history.specs.Whole.{whole_start}
@@ -86,12 +88,9 @@ record GoesBy (none last : Bool) (by_it end : Option End) : Type 0 where
   within : last ≡ false
   by_event : by_it ≡ end
 
-no_end : (x : End) → Some x ≡ None → ⊥
-no_end x q = cc
-
 goes_by : (none last : Bool) (by : Option End) → (if none then Some ends.Finished else (if last then Some ends.EventLimit else by)) ≡ None → GoesBy none last by None
-goes_by true last by q = absurd (no_end ends.Finished q)
-goes_by false true by q = absurd (no_end ends.EventLimit q)
+goes_by true last by q = absurd (some-none ends.Finished q)
+goes_by false true by q = absurd (some-none ends.EventLimit q)
 goes_by false false by q = record { some = refl; within = refl; by_event = q }
 
 finished_ill : (t m pc : ℕ) → Some ends.Finished ≡ Some (ends.IllTyped t m pc) → ⊥
@@ -102,9 +101,6 @@ limit_ill t m pc q = cc
 
 objects_ill : (t m pc : ℕ) → Some ends.ObjectLimit ≡ Some (ends.IllTyped t m pc) → ⊥
 objects_ill t m pc q = cc
-
-none_ill : (x : End) → None ≡ Some x → ⊥
-none_ill x q = cc
 
 ends_by : (none last : Bool) (by : Option End) (t m pc : ℕ) → (if none then Some ends.Finished else (if last then Some ends.EventLimit else by)) ≡ Some (ends.IllTyped t m pc) → GoesBy none last by (Some (ends.IllTyped t m pc))
 ends_by true last by t m pc q = absurd (finished_ill t m pc q)
@@ -118,8 +114,8 @@ kept_after e typings (outcome.IllTyped method pc) was h = was
 kept_after e typings outcome.ObjectLimit was h = was
 
 refused_so : (e : Moment) (typings : Typings) (o : Outcome Kept) (thread t m pc : ℕ) → KeepsTyped e typings o → end_by thread o ≡ Some (ends.IllTyped t m pc) → IsRefused e
-refused_so e typings (outcome.Goes next records) thread t m pc h q = absurd (none_ill (ends.IllTyped t m pc) q)
-refused_so e typings (outcome.Waits next) thread t m pc h q = absurd (none_ill (ends.IllTyped t m pc) q)
+refused_so e typings (outcome.Goes next records) thread t m pc h q = absurd (none-some (ends.IllTyped t m pc) q)
+refused_so e typings (outcome.Waits next) thread t m pc h q = absurd (none-some (ends.IllTyped t m pc) q)
 refused_so e typings (outcome.IllTyped method place) thread t m pc h q = h
 refused_so e typings outcome.ObjectLimit thread t m pc h q = absurd (objects_ill t m pc q)
 
@@ -138,7 +134,7 @@ module _ (reached : Graph → ℕ → Bool) (p : Linked) (options : Options) (pi
       let m = settled_match reached p options pick runs e goes in
       let sound : IsSoundFor p s = subst (λ (x : Kept). IsSoundFor p x) m.0 m.1.state in
       let clock : s.guest.clock ≡ e = sym (ap (λ (x : Kept). x.guest.clock) m.0) ∙ m.1.clock in
-      let below : e < options.limit = below_limit e options.limit m.1.within (eqb-false e options.limit within) in
+      let below : e < options.limit = below_other e options.limit m.1.within (eqb-false e options.limit within) in
       let few : s.guest.clock < 2 ^ 40 = omega (arith, clock, below, runs.options_are.limit) in
       told_typed p typings s thread sound few (picked_unended s (pick (suc e)) some) runs.run.runnable all (settled_typed e typed)
 

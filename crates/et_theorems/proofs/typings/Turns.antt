@@ -2,12 +2,13 @@
 use Rattle.std.proofs.Common.{◌≡◌, ℕ, ◌<◌, Bool, true, false, List, [], ◌∷◌, length, Option, Some, None, refl, sym, subst}
 use Rattle.std.specs.Prelude.{if◌then◌else◌, is_some, ◌^◌}
 use Rattle.std.proofs.lemmas.Bool.{false≢true}
+use Rattle.et_state.proofs.Steps.{with_first}
+use Rattle.et_base.proofs.Options.{is_none}
 use Rattle.et_event.specs.Event.{does_turn, initializes}
 use Rattle.et_event.specs.Throw.{unwinding_step}
 use Rattle.et_event.specs.Moments.{Moment, begins, current_frame, thread_of}
 use Rattle.et_event.specs.Runnable.{IsRunnable}
 use Rattle.et_event.specs.Sound.{AreSoundFrames, IsSoundFor, IsStaged}
-use Rattle.et_history.proofs.soundness.Frames.{with_first}
 use Rattle.et_history.proofs.soundness.Turning.{no_frame, some_frame}
 use Rattle.et_state.specs.Outcome.{Outcome}
 use Rattle.et_state.specs.State.{Kept}
@@ -23,7 +24,6 @@ use Rattle.et_theorems.proofs.typings.Own.{LeavesTyped, thread_own}
 use Rattle.et_theorems.proofs.typings.Standing.{instruction_typed}
 use Rattle.et_theorems.proofs.typings.Unwinding.{unwinding_typed}
 use Rattle.et_theorems.proofs.typings.Ways.{Calm}
-use Rattle.et_history.proofs.steps.MonitorRows.{none_pending}
 
 -- WHAT IS KNOWN of the moment
 pub record Known (e : Moment) (typings : Typings) : Type 0 where
@@ -91,10 +91,10 @@ module _ (e : Moment) (typings : Typings) (k : Known e typings) where
   by_turn : (pends framed before entered : Bool) → is_some (thread_of e).pending ≡ pends → has_frame (thread_of e).frames ≡ framed → is_before_class (current_frame e).stage ≡ before → (thread_of e).entered ≡ entered → turn_of (thread_of e) ≡ turn_with pends framed before entered → P (does_turn e (turn_with pends framed before entered))
   by_turn true true before entered p f b n turn = unwinds_typed (thread_of e).pending refl p (some_frame (thread_of e).frames f)
   by_turn true false before entered p f b n turn = ended (no_frame (thread_of e).frames f)
-  by_turn false true true entered p f b n turn = initializes_typed (none_pending (thread_of e).pending p) (some_frame (thread_of e).frames f) b
-  by_turn false true false entered p f b n turn = instruction_typed e typings (calm (none_pending (thread_of e).pending p)) turn
+  by_turn false true true entered p f b n turn = initializes_typed (is_none (thread_of e).pending p) (some_frame (thread_of e).frames f) b
+  by_turn false true false entered p f b n turn = instruction_typed e typings (calm (is_none (thread_of e).pending p)) turn
   by_turn false false before true p f b n turn = ended (no_frame (thread_of e).frames f)
-  by_turn false false before false p f b n turn = entry_typed e typings (calm (none_pending (thread_of e).pending p)) (no_frame (thread_of e).frames f) turn n k.unended.unended
+  by_turn false false before false p f b n turn = entry_typed e typings (calm (is_none (thread_of e).pending p)) (no_frame (thread_of e).frames f) turn n k.unended.unended
 
   pub turn_typed : P (does_turn e (turn_of (thread_of e)))
   turn_typed = by_turn (is_some (thread_of e).pending) (has_frame (thread_of e).frames) (is_before_class (current_frame e).stage) (thread_of e).entered refl refl refl refl refl

@@ -4,6 +4,7 @@ use Rattle.std.specs.Prelude.{if◌then◌else◌, filter, find, is_some, map, n
 use Rattle.std.proofs.lemmas.Bool.{false≢true, lt-ltb}
 use Rattle.std.proofs.lemmas.List.{length-set}
 use Rattle.std.proofs.lemmas.Option.{none-some, same_Some}
+use Rattle.et_state.proofs.Steps.{with_first}
 use Rattle.et_base.proofs.Lists.{Contains-here, Contains-there}
 use Rattle.et_base.specs.declared.value.Value.TheVariants.{Ref}
 use Rattle.et_code.specs.Bodies.{Body}
@@ -21,7 +22,6 @@ use Rattle.et_class.specs.Looks.{class_name_at}
 use Rattle.et_class.specs.Entries.{Item}
 use Rattle.et_program.specs.Entries.{Linked, method_at}
 use Rattle.et_program.specs.Members.{class_named}
-use Rattle.et_history.proofs.soundness.Frames.{with_first}
 use Rattle.et_history.proofs.soundness.Outcomes.{if_case}
 use Rattle.et_state.specs.Outcome.{Outcome}
 use Rattle.et_state.specs.State.{Kept}

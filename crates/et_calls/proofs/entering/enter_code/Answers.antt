@@ -1,6 +1,7 @@
 use Rattle.std.proofs.Common.{true, false, sym, ◌∙◌}
+use Rattle.et_initialize.proofs.Turning.{answers_alike}
 use Rattle.et_event.specs.Locks.{locks_of}
-use Rattle.et_calls.proofs.FirstMethods.{alike, answers_alike}
+use Rattle.et_calls.proofs.FirstMethods.{alike}
 use Rattle.et_calls.proofs.EnteredFrames.{entered_lock, entering_is}
 use Rattle.et_calls.proofs.entering.enter_code.Goals as goal
 

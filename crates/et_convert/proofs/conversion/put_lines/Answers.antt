@@ -1,6 +1,7 @@
-use Rattle.std.proofs.Common.{◌≡◌, ◌∙◌, ◌++◌, [], ℕ, List, Result, Ok, Err, refl, ap, sym, subst}
+use Rattle.std.proofs.Common.{◌≡◌, ◌∙◌, ◌++◌, [], ℕ, List, refl, ap, sym, subst}
 use Rattle.std.specs.Prelude.{OnOk, OnErr}
 use Rattle.et_base.specs.declared.line.TraceLine.{TraceLine}
+use Rattle.et_base.proofs.Options.{on_any_err}
 use Rattle.et_convert.specs.Conversions.{converted_line}
 use Rattle.et_io.specs.Sink.{with_more, TakesUpTo, TakesPrefix}
 use Rattle.et_io.proofs.Taking.{takes_nothing}
@@ -27,14 +28,10 @@ loop-line-init g c =
     let t = g.O.Sink.taken c.args.sink.now in
     record { taken = subst (λ (r : List ℕ). TakesUpTo t t [] r) (sym c.new-bytes.ensures.items) (takes_nothing t []); faults = refl }
 
-on_err : {T E : Type 0} {P : Type 0} (r : Result T E) → P → OnErr r P
-on_err (Ok x) p = tt
-on_err (Err e) p = p
-
 pub returns-in_err-put_piece-clause-err : goal.returns-in_err-put_piece-clause-err
 returns-in_err-put_piece-clause-err g c =
     let l = c.loop-line in
-    on_err c.from_residual.result
+    on_any_err c.from_residual.result
     (piece_fails (converted_line c.args.format) c.args.lines.now l.line-index c.line-item.result (g.O.Sink.taken c.args.sink.now) (g.O.Sink.taken l.sink) (g.O.Sink.taken c.put_piece.new.sink) l.bytes.items c.put_line.new.bytes.items
     c.loop-line-test.true l.invariant.taken (c.in-Ok.ensures ∙ ap (λ (x : TraceLine). l.bytes.items ++ converted_line c.args.format x) c.line-item.is) c.in_err-put_piece.ensures.err)
 

@@ -1,19 +1,16 @@
-use Rattle.std.proofs.Common.{◌≡◌, ◌∙◌, ◌++◌, [], ℕ, List, Result, Ok, Err, drop, refl, ap, sym, subst}
+use Rattle.std.proofs.Common.{◌≡◌, ◌∙◌, ◌++◌, [], ℕ, List, drop, refl, ap, sym, subst}
 use Rattle.std.specs.Prelude.{All, OnOk, OnErr}
 use Rattle.std.proofs.lemmas.List.Elements.{All-head, All-tail}
 use Rattle.et_base.specs.declared.format.Format.{Format}
 use Rattle.et_base.specs.declared.line.TraceLine.{TraceLine}
+use Rattle.et_base.proofs.Options.{on_any_err}
 use Rattle.et_io.specs.Sink.{with_more, TakesUpTo, TakesPrefix}
 use Rattle.et_io.proofs.Taking.{takes_nothing}
 use Rattle.et_text.specs.Ranges.{HasShortNames}
-use Rattle.et_convert.specs.Conversions.{other_format, converted_line}
+use Rattle.et_convert.specs.Conversions.{converted_line}
 use Rattle.et_convert.specs.Rewriting.{bytes_of, StandsFirst}
 use Rattle.et_convert.proofs.LinesLeft.{puts, fails, stops, ends, ends_early, shorter}
 use Rattle.et_convert.proofs.rewriting.put_rewritten.Goals as goal
-
-on_err : {T E : Type 0} {P : Type 0} (r : Result T E) → P → OnErr r P
-on_err (Ok x) p = tt
-on_err (Err e) p = p
 
 pub lines-init : goal.lines-init
 lines-init g c =
@@ -62,7 +59,7 @@ returns-in_err-gather-clause-err g c = λ lines a.
     let h = l.invariant.put lines a in
     let some = c.in-Ok.ensures.some (drop h.number lines) h.left in
     let s : StandsFirst c.args.format (drop h.number lines) c.in-Some.line c.in-Some.behind.now = rw c.in-Some.is at some in
-    on_err c.from_residual.result
+    on_any_err c.from_residual.result
     (fails c.args.format lines l.rest.now (g.O.Sink.taken c.args.sink.now) (g.O.Sink.taken l.sink) l.gathered.items h c.in-Some.line c.in-Some.behind.now (g.O.Sink.taken c.gather.new.sink) (l.gathered.items ++ converted_line c.other_format-other.result c.in-Some.line)
     s (ap (λ (f : Format). l.gathered.items ++ converted_line f c.in-Some.line) c.other_format-other.ensures) c.in_err-gather.ensures.err)
 

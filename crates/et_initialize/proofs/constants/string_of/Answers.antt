@@ -1,5 +1,6 @@
 use Rattle.std.proofs.Common.{◌≡◌, ℕ, None, length, sym, ap, ◌∙◌}
 use Rattle.std.specs.Prelude.{codes}
+use Rattle.et_state.proofs.Interned.{no_text}
 use Rattle.et_heap.specs.Objects.{has_room}
 use Rattle.et_state.specs.Interned.{interned_text}
 use Rattle.et_state.specs.State.{MachineState}
@@ -8,7 +9,7 @@ use Rattle.et_event.specs.Errors.{class_called}
 use Rattle.et_event.specs.Moments.{Doing, Moment, moment, fits_heap}
 use Rattle.et_event.proofs.Making.{fits_made}
 use Rattle.et_event.specs.Telling.{so_far}
-use Rattle.et_initialize.proofs.Strings.{makes, no_text, made_string}
+use Rattle.et_initialize.proofs.Strings.{makes, made_string}
 use Rattle.et_initialize.proofs.constants.string_of.Goals as goal
 
 pub add_instance-requires : goal.add_instance-requires

@@ -1,7 +1,8 @@
 use Rattle.std.proofs.Common.{◌≡◌, ℕ, refl, ◌∙◌, sym, subst, inl, inr, arith, rules}
+use Rattle.et_base.proofs.Options.{on_any_err}
 use Rattle.et_io.specs.Faults.{count_after, is_write_fault}
 use Rattle.et_graph.proofs.Walks.{is_reached, is_reached_decides}
-use Rattle.et_loop.proofs.RunLemmas.{at_none, front_start, on_any}
+use Rattle.et_loop.proofs.RunLemmas.{at_none, front_start}
 use Rattle.et_loop.proofs.Quiets.{told_there}
 use Rattle.et_loop.proofs.Standing.{stands_first}
 use Rattle.et_loop.proofs.Going.{broken_off, cut_at_start, cut_in_lines, cut_in_print, nothing_done, run_over, run_goes}
@@ -17,7 +18,7 @@ returns-in-Err-begin-clause-cut_off g c reached decides = nothing_done
 
 pub returns-in_err-put_all-clause-cut_off : goal.returns-in_err-put_all-clause-cut_off
 returns-in_err-put_all-clause-cut_off g c reached decides =
-    on_any c.from_residual.result (cut_at_start (front_start reached _ _ _ _ _ _ (c.deref.ensures.value ∙ c.in-Ok-begin.ensures.lines) c.in_err-put_all.ensures.err))
+    on_any_err c.from_residual.result (cut_at_start (front_start reached _ _ _ _ _ _ (c.deref.ensures.value ∙ c.in-Ok-begin.ensures.lines) c.in_err-put_all.ensures.err))
 
 -- THE LOOP
 
@@ -63,7 +64,7 @@ events-preserved g c =
 
 pub returns-in_err-progress-clause-cut_off : goal.returns-in_err-progress-clause-cut_off
 returns-in_err-progress-clause-cut_off g c reached decides =
-    on_any c.from_residual-in_err-progress.result (broken_off (c.events.invariant.stands reached decides) c.clear.ensures.items c.in_err-progress.ensures.broken)
+    on_any_err c.from_residual-in_err-progress.result (broken_off (c.events.invariant.stands reached decides) c.clear.ensures.items c.in_err-progress.ensures.broken)
 
 pub returns-in_err-progress-clause-write : goal.returns-in_err-progress-clause-write
 returns-in_err-progress-clause-write g c =
@@ -77,7 +78,7 @@ returns-in_err-progress-clause-printed_never_falls g c = omega (arith, c.events.
 
 pub returns-in_err-put_all-2-clause-cut_off : goal.returns-in_err-put_all-2-clause-cut_off
 returns-in_err-put_all-2-clause-cut_off g c reached decides =
-    on_any c.from_residual-in_err-put_all-2.result (cut_in_lines (c.events.invariant.stands reached decides) c.clear.ensures.items c.in_ok-progress.ensures.turn c.deref-in-events.ensures.value c.in_err-put_all-2.ensures.err)
+    on_any_err c.from_residual-in_err-put_all-2.result (cut_in_lines (c.events.invariant.stands reached decides) c.clear.ensures.items c.in_ok-progress.ensures.turn c.deref-in-events.ensures.value c.in_err-put_all-2.ensures.err)
 
 pub returns-in_err-put_all-2-clause-write : goal.returns-in_err-put_all-2-clause-write
 returns-in_err-put_all-2-clause-write g c =
@@ -93,7 +94,7 @@ returns-in_err-put_all-2-clause-printed_never_falls g c = omega (arith, c.events
 
 pub returns-in_err-put_all-3-clause-cut_off : goal.returns-in_err-put_all-3-clause-cut_off
 returns-in_err-put_all-3-clause-cut_off g c reached decides =
-    on_any c.from_residual-in_err-put_all-3.result
+    on_any_err c.from_residual-in_err-put_all-3.result
     (cut_in_print (c.events.invariant.stands reached decides) c.clear.ensures.items c.in_ok-progress.ensures.turn c.deref-in-events.ensures.value c.in_ok-put_all-2.ensures.ok c.deref-in-events-2.ensures.value c.in_err-put_all-3.ensures.err)
 
 pub returns-in_err-put_all-3-clause-write : goal.returns-in_err-put_all-3-clause-write

@@ -1,5 +1,6 @@
 use Rattle.std.proofs.Common.{ℕ, ◌+◌, None, refl, sym, ◌∙◌, ap, subst, arith}
 use Rattle.std.specs.Prelude.{slice_index}
+use Rattle.et_base.proofs.Options.{on_any_err}
 use Rattle.et_loop.specs.Going.{MayFlush}
 use Rattle.et_loop.specs.Options.{guest_setting}
 use Rattle.et_loop.specs.Pace.{IsNextFlush, IsRota}
@@ -10,7 +11,6 @@ use Rattle.et_loop.specs.declared.schedule.Rota.{Rota}
 use Rattle.et_state.specs.declared.records.output.Output.{Output}
 use Rattle.et_loop.proofs.Pacing.{next_flush_on, rota_on}
 use Rattle.et_loop.proofs.Quiets.{ending_finished, ending_limit, step_over, tick_done}
-use Rattle.et_loop.proofs.RunLemmas.{on_any}
 use Rattle.et_loop.proofs.Stretches.{IsSliced, stretch_kept, as_long, broken_step, stretch_stops, stretch_goes, stretch_lost, stretch_grows, not_native}
 use Rattle.et_loop.proofs.tracer.step.Given.{Over}
 use Rattle.et_loop.proofs.tracer.step.Goals.{After-events, In_ok-stretch, In_ok-tell-in-None}
@@ -50,7 +50,7 @@ done g c =
 pub returns-in_err-stretch-clause-broken : goal.returns-in_err-stretch-clause-broken
 returns-in_err-stretch-clause-broken g c =
     let G = g.G.Guest in
-    on_any c.from_residual.result
+    on_any_err c.from_residual.result
     (broken_step (sliced g (goal.at.returns-in_err-stretch-clause-broken g c).After-events)
     (subst (λ (n : ℕ). IsBrokenOff (G.event_of c.args.program.now) (G.said_of c.args.program.now) G.unended_of G.graph_of c.next_slice-slice.result.place c.next_slice-slice.result.events n (G.state c.args.guest.now) c.args.tracer.now.stamps c.events.new.stamps c.args.visits.now c.events.new.visits) c.requires.ready.clock c.in_err-stretch.ensures.broken))
 
@@ -85,7 +85,7 @@ pub returns-in_err-tell-in-None-clause-broken : goal.returns-in_err-tell-in-None
 returns-in_err-tell-in-None-clause-broken g c =
     let at = goal.at.returns-in_err-tell-in-None-clause-broken g c in
     let h = done g at.In_ok-stretch in
-    on_any c.from_residual-in_err-tell-in-None.result (broken_step (sliced g at.After-events) (record { quiet = c.in_ok-stretch.stretch.quiet; mid = h.mid; comes = h.comes }))
+    on_any_err c.from_residual-in_err-tell-in-None.result (broken_step (sliced g at.After-events) (record { quiet = c.in_ok-stretch.stretch.quiet; mid = h.mid; comes = h.comes }))
 
 pub returns-in_ok-tell-in-None-clause-step : goal.returns-in_ok-tell-in-None-clause-step
 returns-in_ok-tell-in-None-clause-step g c =

@@ -1,5 +1,6 @@
 use Rattle.std.proofs.Common.{ℕ, ◌+◌, ◌++◌, ◌∙◌, List, sym, subst}
 use Rattle.et_base.specs.declared.format.Format.{Format}
+use Rattle.et_base.proofs.Options.{on_any_err}
 use Rattle.et_binary.specs.Formats.{lines_written_in}
 use Rattle.et_state.specs.History.{flush_lines}
 use Rattle.et_state.specs.Naming.{Mentions}
@@ -14,7 +15,6 @@ use Rattle.et_loop.specs.Quiet.{IsStep, IsBrokenStep, IsTurn}
 use Rattle.et_state.specs.declared.records.output.Output.{Output}
 use Rattle.et_loop.proofs.Flushed.{IsSettled, broken_at_flush, broken_turn, turn_goes, turn_ends, turn_broken}
 use Rattle.et_loop.proofs.Quiets.{settled_stamps, settled_there}
-use Rattle.et_loop.proofs.RunLemmas.{on_any}
 use Rattle.et_loop.proofs.tracer.turn.Given.{Over}
 use Rattle.et_loop.proofs.tracer.turn.Goals.{In_ok-settle, In-Ok}
 use Rattle.et_loop.proofs.tracer.turn.Goals as goal
@@ -70,7 +70,7 @@ returns-in_err-settle-clause-broken g c =
     let G = g.G.Guest in
     let taken = λ (sink : g.row.O.Denot). g.O.Sink.taken sink in
     let given = guest_setting G g.G.Code.Program c.args.program.now c.args.options.now in
-    on_any c.from_residual.result
+    on_any_err c.from_residual.result
     (broken_at_flush given (G.said_of c.args.program.now) G.flush_visits_of c.args.e (G.state c.args.guest.now) c.pass-due.result c.args.tracer.now.stamps c.args.visits.now c.settle.new.visits c.pass-due.ensures.due c.in_err-settle.ensures.visits
     (taken c.args.sink.now) (taken c.settle.new.sink) c.args.tracer.now.buffer.items
     (λ deaths listed. subst (λ (f : Format). TakesPrefix (taken c.args.sink.now) (taken c.settle.new.sink) (c.args.tracer.now.buffer.items ++ lines_written_in f (due_lines c.pass-due.result (flush_lines c.args.e deaths)))) c.requires.ready.format (c.in_err-settle.ensures.err deaths listed)))
@@ -104,6 +104,6 @@ pub returns-in_err-conclude-in-Some-clause-broken : goal.returns-in_err-conclude
 returns-in_err-conclude-in-Some-clause-broken g c =
     let at = goal.at.returns-in_err-conclude-in-Some-clause-broken g c in
     let taken = λ (sink : g.row.O.Denot). g.O.Sink.taken sink in
-    on_any c.from_residual-in_err-conclude-in-Some.result
+    on_any_err c.from_residual-in_err-conclude-in-Some.result
     (turn_broken (g.G.Guest.said_of c.args.program.now) (settled g at.In_ok-settle) (stepped g at.In-Ok) c.in-Some.is (taken c.conclude.new.sink) c.conclude.new.visits c.in_err-conclude-in-Some.ensures.visits
     (λ deaths listed. subst (λ (f : Format). TakesPrefix (taken c.settle.new.sink) (taken c.conclude.new.sink) (c.step.new.tracer.buffer.items ++ lines_written_in f (last_lines c.pass-due.result c.in-Some.end (c.args.e + c.in-Ok.progress.quiet) (flush_lines (c.args.e + c.in-Ok.progress.quiet) deaths)))) c.in-Ok.ensures.format (c.in_err-conclude-in-Some.ensures.err deaths listed)))

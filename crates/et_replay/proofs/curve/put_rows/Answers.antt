@@ -1,7 +1,8 @@
-use Rattle.std.proofs.Common.{◌≡◌, ◌+◌, ◌-◌, ◌∙◌, ◌++◌, ◌∷◌, [], ℕ, List, Result, Ok, Err, get_or, refl, ap, sym, subst, arith}
+use Rattle.std.proofs.Common.{◌≡◌, ◌+◌, ◌-◌, ◌∙◌, ◌++◌, ◌∷◌, [], ℕ, List, get_or, refl, ap, sym, subst, arith}
 use Rattle.std.specs.Prelude.{OnErr}
 use Rattle.std.specs.Fmt.{decimal}
 use Rattle.std.specs.List.{flat_map}
+use Rattle.et_base.proofs.Options.{on_any_err}
 use Rattle.et_replay.specs.Lives.{CountsTo, row_by, sum_below}
 use Rattle.et_replay.proofs.Adding.{adds_call, adds_next}
 use Rattle.et_io.specs.Sink.{TakesUpTo, TakesPrefix}
@@ -79,10 +80,6 @@ loop-event-init g c =
       faults = refl;
     }
 
-on_err : {T E : Type 0} {P : Type 0} (r : Result T E) → P → OnErr r P
-on_err (Ok x) p = tt
-on_err (Err e) p = p
-
 pub returns-in_err-put_piece-clause-err : goal.returns-in_err-put_piece-clause-err
 returns-in_err-put_piece-clause-err g c =
     let es = c.args.events.now in
@@ -92,7 +89,7 @@ returns-in_err-put_piece-clause-err g c =
     let died = c.args.lives.died.items in
     let left : c.below-made.result - c.below-gone.result ≡ sum_below (e + 1) born - sum_below e died =
     ap (λ (k : ℕ). k - c.below-gone.result) (c.below-made.ensures.sum ∙ l.invariant.born.same (e + 1)) ∙ ap (λ (k : ℕ). sum_below (e + 1) born - k) (c.below-gone.ensures.sum ∙ l.invariant.died.same e) in
-    on_err c.from_residual.result
+    on_any_err c.from_residual.result
     (piece_fails (row_by born died) es l.event-index 0 (g.O.Sink.taken c.args.sink.now) (g.O.Sink.taken l.sink) (g.O.Sink.taken c.put_piece.new.sink) l.rows.items c.put_row.new.rows.items
     c.loop-event-test.true l.invariant.taken (c.in-Ok-put_row.ensures ∙ ap (λ (k : ℕ). l.rows.items ++ (decimal e ++ 32 ∷ decimal k ++ 10 ∷ [])) left) c.in_err-put_piece.ensures.err)
 

@@ -1,6 +1,6 @@
-use Rattle.std.proofs.Common.{◌≡◌, ◌∙◌, List, ℕ, Result, Ok, Err, ap, subst, reverse, length}
-use Rattle.std.specs.Prelude.{OnErr}
+use Rattle.std.proofs.Common.{◌≡◌, ◌∙◌, List, ℕ, ap, subst, reverse, length}
 use Rattle.std.specs.List.{flat_map}
+use Rattle.et_base.proofs.Options.{on_any_err}
 use Rattle.et_io.specs.Sink.{with_more, TakesPrefix}
 use Rattle.et_io.proofs.Taking.{none_put}
 use Rattle.et_replay.specs.Items.{made_objects}
@@ -20,17 +20,13 @@ returns-in_default-clause-err g c = λ reached decides policies z. none_put (g.O
 pub returns-in_default-lines_of-clause-err : goal.returns-in_default-lines_of-clause-err
 returns-in_default-lines_of-clause-err g c = λ reached decides policies z. none_put (g.O.Sink.taken c.args.sink.now) (replay_text reached c.args.timeline.now policies)
 
-on_err : {T E : Type 0} {P : Type 0} (r : Result T E) → P → OnErr r P
-on_err (Ok x) p = tt
-on_err (Err e) p = p
-
 pub returns-in_err-put_all-clause-err : goal.returns-in_err-put_all-clause-err
 returns-in_err-put_all-clause-err g c = λ reached decides policies z.
     (let t = told_of _ c.args.models.items policies z in
     let items = c.args.timeline.now in
     let text : c.as_slice.result.now ≡ replay_text reached items policies =
     c.as_slice.ensures.value ∙ (c.in-Ok-lines_of.ensures reached decides t.told t.zip ∙ (ap (λ is. flat_map (told_line reached (reverse is)) t.told) c.items.ensures.value ∙ text_is _ reached items c.args.models.items policies t)) in
-    on_err c.from_residual.result (subst (λ (u : List ℕ). TakesPrefix (g.O.Sink.taken c.args.sink.now) (g.O.Sink.taken c.put_all.new.sink) u) text c.in_err-put_all.ensures.err))
+    on_any_err c.from_residual.result (subst (λ (u : List ℕ). TakesPrefix (g.O.Sink.taken c.args.sink.now) (g.O.Sink.taken c.put_all.new.sink) u) text c.in_err-put_all.ensures.err))
 
 pub returns-clause-ok : goal.returns-clause-ok
 returns-clause-ok g c = λ reached decides policies z.

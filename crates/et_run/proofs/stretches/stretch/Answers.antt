@@ -1,5 +1,6 @@
 use Rattle.std.proofs.Common.{◌≡◌, ℕ, ◌+◌, List, length, Contains, refl, sym, ap, ◌∙◌, subst, rules, arith}
 use Rattle.std.specs.Prelude.{All, IsTrue, slice_index}
+use Rattle.et_base.proofs.Options.{on_any_err}
 use Rattle.et_history.specs.Settings.{unended_threads}
 use Rattle.et_history.specs.steps.Telling.{names_of_program}
 use Rattle.et_state.specs.Answers.{TicksWhereDone}
@@ -8,7 +9,6 @@ use Rattle.et_run.specs.WithTexts.{state_of}
 use Rattle.et_run.specs.declared.with_texts.MachineWithTexts.{MachineWithTexts}
 use Rattle.et_state.specs.declared.ends.EventEnd.TheVariants.{Done}
 use Rattle.et_state.specs.declared.records.Record.{Record}
-use Rattle.et_loop.proofs.RunLemmas.{on_any}
 use Rattle.et_run.proofs.Stretching.{IsGoing, going_first, is_there, going_quietly, going_broken, going_ends, going_native, ticks_where, lost_there, going_on}
 use Rattle.et_run.proofs.stretches.stretch.Given.{Over}
 use Rattle.et_run.proofs.stretches.stretch.Goals.{After-frame_stretch-quiet, After-stamp_each, After-unended_count}
@@ -54,7 +54,7 @@ running_event-requires-clause-thread g c =
 
 pub returns-in_err-end-clause-broken : goal.returns-in_err-end-clause-broken
 returns-in_err-end-clause-broken g c =
-    on_any c.from_residual.result
+    on_any_err c.from_residual.result
     (going_broken (quietly g (goal.at.returns-in_err-end-clause-broken g c).After-frame_stretch-quiet) Done (state_of c.running_event.new.running) c.running_event.new.out.records c.running_event.new.out.said.items c.running_event.new.running.machine.lost c.running_event.new.visits c.in_err-end.ensures.visits)
 
 pub returns-then-quiet-slice-clause-stretch : goal.returns-then-quiet-slice-clause-stretch

@@ -3,9 +3,10 @@ use Rattle.std.specs.List.{zip}
 use Rattle.std.proofs.lemmas.List.{length-map, get_or-map}
 use Rattle.std.specs.declared.vec.Vec.{Vec}
 use Rattle.std.specs.declared.alloc.Global.{Global}
+use Rattle.et_base.proofs.Options.{on_any_err}
 use Rattle.et_snapshot.specs.declared.totals.Total.{Total}
 use Rattle.et_snapshot.specs.Heap.{lists_of, total_row, no_total}
-use Rattle.et_snapshot.proofs.Pieces.{puts_begin, puts_next, puts_break, puts_stop, puts_all, on_err, drop_zip, drop_zip_all}
+use Rattle.et_snapshot.proofs.Pieces.{puts_begin, puts_next, puts_break, puts_stop, puts_all, drop_zip, drop_zip_all}
 use Rattle.et_snapshot.proofs.snapshot.put_classes.Goals as goal
 
 pub loop-index-init : goal.loop-index-init
@@ -51,7 +52,7 @@ pub returns-in_err-put_piece-clause-err : goal.returns-in_err-put_piece-clause-e
 returns-in_err-put_piece-clause-err g c =
     let s = c.loop-index in
     let n = next_row c.args.names.now c.args.totals.now s.index c.index-names-index.result c.as_slice.result.now s.text.items c.put_class.new.text.items c.requires.each c.loop-index-test.true c.index-names-index.is c.as_slice.ensures.value c.in-Ok.ensures in
-    on_err c.from_residual.result
+    on_any_err c.from_residual.result
     (puts_break row (zip (lists_of c.args.names.now) c.args.totals.now) _ _ _ (g.O.Sink.taken c.args.sink.now) (g.O.Sink.taken s.sink) (g.O.Sink.taken c.put_piece.new.sink) c.args.text.now.items s.text.items c.put_class.new.text.items
     n.0 s.invariant.puts n.1 c.in_err-put_piece.ensures.err)
 

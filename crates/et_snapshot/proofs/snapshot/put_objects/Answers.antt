@@ -1,12 +1,13 @@
 use Rattle.std.proofs.Common.{◌≡◌, ◌∙◌, ℕ, List, ◌+◌, ◌<◌, ◌++◌, get_or, length, refl, ap, subst, drop}
 use Rattle.std.specs.List.{flat_map}
 use Rattle.std.proofs.lemmas.List.{drop_all}
+use Rattle.et_base.proofs.Options.{on_any_err}
 use Rattle.et_io.specs.Sink.{Log, TakesUpTo, TakesPrefix}
 use Rattle.et_io.proofs.Taking.{goes_on, part_put}
 use Rattle.et_snapshot.specs.declared.objects.Entry.{Entry}
 use Rattle.et_snapshot.specs.Heap.{lists_of, objects_of, rows_of, rows_in, HasClass}
 use Rattle.et_snapshot.proofs.Entries.{rest_is, rows_are, one_fits}
-use Rattle.et_snapshot.proofs.Pieces.{Puts, puts_begin, puts_next, puts_break, puts_all, on_err}
+use Rattle.et_snapshot.proofs.Pieces.{Puts, puts_begin, puts_next, puts_break, puts_all}
 use Rattle.et_snapshot.proofs.snapshot.put_objects.Goals as goal
 
 pub loop-entry-init : goal.loop-entry-init
@@ -46,7 +47,7 @@ stops_at names es i x old mid new start text lt is p stops =
 pub returns-in_err-put_entry-clause-err : goal.returns-in_err-put_entry-clause-err
 returns-in_err-put_entry-clause-err g c =
     let s = c.loop-entry in
-    on_err c.from_residual.result
+    on_any_err c.from_residual.result
     (stops_at (lists_of c.args.names.now) c.args.entries.now s.entry-index c.entry-item.result (g.O.Sink.taken c.args.sink.now) (g.O.Sink.taken s.sink) (g.O.Sink.taken c.put_entry.new.sink) c.args.text.now.items s.text.items c.loop-entry-test.true c.entry-item.is s.invariant.puts c.in_err-put_entry.ensures.err)
 
 pub returns-in_err-put_piece-clause-err : goal.returns-in_err-put_piece-clause-err
@@ -56,7 +57,7 @@ returns-in_err-put_piece-clause-err g c =
     let x = c.entry-item.result in
     let mid = g.O.Sink.taken s.sink in
     let new = g.O.Sink.taken c.put_piece.new.sink in
-    on_err c.from_residual-in_err-put_piece.result
+    on_any_err c.from_residual-in_err-put_piece.result
     (stops_at names c.args.entries.now s.entry-index x (g.O.Sink.taken c.args.sink.now) mid new c.args.text.now.items s.text.items c.loop-entry-test.true c.entry-item.is s.invariant.puts
     (part_put mid (g.O.Sink.taken c.put_entry.new.sink) new (s.text.items ++ rows_in names x) c.put_entry.new.text.items c.in_ok-put_entry.ensures.ok c.in_err-put_piece.ensures.err))
 

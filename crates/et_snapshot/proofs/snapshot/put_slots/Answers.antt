@@ -1,8 +1,9 @@
 use Rattle.std.proofs.Common.{◌∙◌, ℕ, refl}
 use Rattle.std.specs.Map.Iter.{deref_pair}
 use Rattle.std.proofs.lemmas.Map.Iter.{rest_more, rest_all}
+use Rattle.et_base.proofs.Options.{on_any_err}
 use Rattle.et_snapshot.specs.Heap.{row_of}
-use Rattle.et_snapshot.proofs.Pieces.{puts_begin, puts_next, puts_break, puts_stop, puts_all, on_err}
+use Rattle.et_snapshot.proofs.Pieces.{puts_begin, puts_next, puts_break, puts_stop, puts_all}
 use Rattle.et_snapshot.proofs.snapshot.put_slots.Goals as goal
 
 pub loop-slot-init : goal.loop-slot-init
@@ -33,7 +34,7 @@ returns-in_err-put_piece-clause-err g c =
     let s = c.loop-slot in
     let x : ℕ × ℕ = (c.in-Some.slot.now, c.in-Some.target.now) in
     let more = rest_more deref_pair s.slot-iterator c.next.new.self c.next.result (c.in-Some.slot, c.in-Some.target) c.in-Some.is c.next.ensures.steps in
-    on_err c.from_residual.result
+    on_any_err c.from_residual.result
     (puts_break (row_of c.args.owner) c.args.slots.now.entries s.slot-iterator c.next.new.self x (g.O.Sink.taken c.args.sink.now) (g.O.Sink.taken s.sink) (g.O.Sink.taken c.put_piece.new.sink) c.args.text.now.items s.text.items c.put_slot.new.text.items
     more s.invariant.puts c.in-Ok.ensures c.in_err-put_piece.ensures.err)
 

@@ -2,12 +2,12 @@ use Rattle.std.proofs.Common.{◌∙◌, ℕ, List, length, sym, ap, subst}
 use Rattle.std.specs.Prelude.{All}
 use Rattle.std.specs.declared.vec.Vec.{Vec}
 use Rattle.std.specs.declared.alloc.Global.{Global}
+use Rattle.et_base.proofs.Options.{on_any_err}
 use Rattle.et_io.proofs.Taking.{none_put}
 use Rattle.et_snapshot.specs.Snapshot.{snapshot_text}
 use Rattle.et_snapshot.specs.declared.objects.Entry.{Entry}
 use Rattle.et_snapshot.specs.declared.totals.Total.{Total}
-use Rattle.et_snapshot.specs.Heap.{objects_of, lists_of, rows_of, total_rows, HasClass}
-use Rattle.et_snapshot.proofs.Pieces.{on_err}
+use Rattle.et_snapshot.specs.Heap.{objects_of, HasClass}
 use Rattle.et_snapshot.proofs.Wholes.{object_text_is, class_text_is, stops_at_statics, stops_at_objects, stops_at_classes, whole_put, whole_stops}
 use Rattle.et_snapshot.proofs.snapshot.snapshot_lines.Goals as goal
 
@@ -49,20 +49,20 @@ returns-in_default-put_head-clause-err g c = none_put (g.O.Sink.taken c.args.sin
 pub returns-in_err-put_slots-clause-err : goal.returns-in_err-put_slots-clause-err
 returns-in_err-put_slots-clause-err g c =
     let r = c.in-Ok.field-0 in
-    on_err c.from_residual.result
+    on_any_err c.from_residual.result
     (stops_at_statics c.args.trace.now c.args.event r.heap r.totals.items r.all c.in-Ok.ensures c.new-text.result.items c.put_head.new.text.items c.new-text.ensures.items c.in-Ok-put_head.ensures (g.O.Sink.taken c.args.sink.now) (g.O.Sink.taken c.put_slots.new.sink) c.in_err-put_slots.ensures.err)
 
 pub returns-in_err-put_objects-clause-err : goal.returns-in_err-put_objects-clause-err
 returns-in_err-put_objects-clause-err g c =
     let r = c.in-Ok.field-0 in
-    on_err c.from_residual-in_err-put_objects.result
+    on_any_err c.from_residual-in_err-put_objects.result
     (stops_at_objects c.args.trace.now c.args.event r.heap r.totals.items r.all c.in-Ok.ensures c.new-text.result.items c.put_head.new.text.items c.new-text.ensures.items c.in-Ok-put_head.ensures (g.O.Sink.taken c.args.sink.now) (g.O.Sink.taken c.put_slots.new.sink)
     c.put_slots.new.text.items _ (object_text_is r.heap c.deref.result.now c.deref-2.result.now c.deref.ensures.value c.deref-2.ensures.value) c.in_ok-put_slots.ensures.ok (g.O.Sink.taken c.put_objects.new.sink) c.in_err-put_objects.ensures.err)
 
 pub returns-in_err-put_classes-clause-err : goal.returns-in_err-put_classes-clause-err
 returns-in_err-put_classes-clause-err g c =
     let r = c.in-Ok.field-0 in
-    on_err c.from_residual-in_err-put_classes.result
+    on_any_err c.from_residual-in_err-put_classes.result
     (stops_at_classes c.args.trace.now c.args.event r.heap r.totals.items r.all c.in-Ok.ensures c.new-text.result.items c.put_head.new.text.items c.new-text.ensures.items c.in-Ok-put_head.ensures (g.O.Sink.taken c.args.sink.now) (g.O.Sink.taken c.put_slots.new.sink)
     c.put_slots.new.text.items _ (object_text_is r.heap c.deref.result.now c.deref-2.result.now c.deref.ensures.value c.deref-2.ensures.value) c.in_ok-put_slots.ensures.ok (g.O.Sink.taken c.put_objects.new.sink)
     c.put_objects.new.text.items _ (class_text_is r.heap r.totals.items c.deref-3.result.now c.deref-4.result.now c.deref-3.ensures.value c.deref-4.ensures.value) c.in_ok-put_objects.ensures.ok (g.O.Sink.taken c.put_classes.new.sink) c.in_err-put_classes.ensures.err)

@@ -1,8 +1,8 @@
 use Rattle.std.proofs.Common.{◌<◌, length, arith}
 use Rattle.std.proofs.lemmas.Bool.Decides.{nat_tests}
 use Rattle.std.proofs.lemmas.Result.{err_from_is_err_and}
+use Rattle.et_base.proofs.Lists.{none_long}
 use Rattle.et_text.proofs.FollowedLines.{lacks_end, ends_late, text_followed}
-use Rattle.et_text.proofs.Pieces.{none_where_empty}
 use Rattle.et_text.proofs.whole.end_text.Goals as goal
 
 pub returns-in_err-follower-clause-err : goal.returns-in_err-follower-clause-err
@@ -18,4 +18,4 @@ returns-then-not-is_empty-clause-err g c = λ bytes h.
 pub returns-clause-ok : goal.returns-clause-ok
 returns-clause-ok g c = λ bytes h.
     let end = c.in_ok-follower.ensures.ok 1 h.past h.followed in
-    text_followed g.F.Follower.follows c.in_ok-follower.follower h.past c.args.rest.now bytes h.read (none_where_empty c.args.rest.now (grind (arith, nat_tests, c.if-not-is_empty.ensures))) end.1 end.0
+    text_followed g.F.Follower.follows c.in_ok-follower.follower h.past c.args.rest.now bytes h.read (none_long c.args.rest.now (grind (arith, nat_tests, c.if-not-is_empty.ensures))) end.1 end.0

@@ -1,5 +1,6 @@
 use Rattle.std.proofs.Common.{◌≡◌, ℕ, ◌∙◌, List, Some, Ok, inl, inr, refl, sym, ap, subst}
 use Rattle.std.specs.Prelude.{[]}
+use Rattle.et_files.proofs.ReadLemmas.{bytes_there}
 use Rattle.et_base.specs.declared.line.TraceLine.{TraceLine}
 use Rattle.et_binary.specs.Formats.{trace_bytes}
 use Rattle.et_convert.specs.Spellings.{SpellsTrace}
@@ -11,7 +12,7 @@ use Rattle.et_files.specs.Loaded.{file_bytes, most_of_trace, IsTraceOf}
 use Rattle.et_theorems.specs.Runs.{Run, IsTraced, IsWritten, lines_of, picks_of, setting_of}
 use Rattle.et_theorems.proofs.Histories.{history_of}
 use Rattle.et_theorems.proofs.Formats.{spells_trace, trace_begins}
-use Rattle.et_theorems.proofs.Held.{bytes_there, one_text}
+use Rattle.et_theorems.proofs.Held.{one_text}
 use Rattle.et_theorems.proofs.theorems.written_traces_are_read.Goals as goal
 
 -- what was written is the trace

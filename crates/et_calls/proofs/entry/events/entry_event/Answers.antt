@@ -1,4 +1,4 @@
-use Rattle.et_calls.proofs.FirstMethods.{answers_alike}
+use Rattle.et_initialize.proofs.Turning.{answers_alike}
 use Rattle.et_calls.proofs.Running.{first_is, other_is, others_behind, zero_first}
 use Rattle.et_calls.proofs.entry.events.entry_event.Goals as goal
 

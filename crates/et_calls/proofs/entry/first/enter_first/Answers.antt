@@ -1,9 +1,10 @@
 use Rattle.std.proofs.Common.{ℕ, List, sym, ◌∙◌, ap}
+use Rattle.et_initialize.proofs.Turning.{answers_alike}
 use Rattle.et_program.specs.declared.info.MethodInfo.{MethodInfo}
 use Rattle.et_event.specs.Calls.{entry_arguments}
 use Rattle.et_event.specs.Initialization.{prepared}
 use Rattle.et_event.specs.Moments.{moment, begins, throws}
-use Rattle.et_calls.proofs.FirstMethods.{answers_alike, code_is, codeless_is}
+use Rattle.et_calls.proofs.FirstMethods.{code_is, codeless_is}
 use Rattle.et_calls.proofs.entry.first.enter_first.Goals as goal
 
 pub enter_code-requires : goal.enter_code-requires

@@ -1,12 +1,13 @@
 use Rattle.std.proofs.Common.{◌≡◌, ℕ, Option, Some, None, sym, ◌∙◌, ap}
 use Rattle.std.specs.Prelude.{IsSome}
+use Rattle.et_initialize.proofs.Turning.{answers_alike}
 use Rattle.et_code.specs.Bodies.{Body}
 use Rattle.et_program.specs.Entries.{method_at}
 use Rattle.et_state.specs.Words.{thread_at}
 use Rattle.et_event.specs.Calls.{enters_first, entry_arguments}
 use Rattle.et_event.specs.Initialization.{prepared}
 use Rattle.et_event.specs.Moments.{moment, begins}
-use Rattle.et_calls.proofs.FirstMethods.{answers_alike, entry_argument}
+use Rattle.et_calls.proofs.FirstMethods.{entry_argument}
 use Rattle.et_calls.proofs.entry.mains.enter_main.Goals as goal
 
 -- main has code

@@ -1,10 +1,11 @@
 use Rattle.std.proofs.Common.{ℕ, length, Option, refl, sym, ◌∙◌, ap}
+use Rattle.et_initialize.proofs.Turning.{answers_alike}
 use Rattle.et_event.specs.Calls.{enters_first, entry_arguments}
 use Rattle.et_event.specs.Moments.{moment, begins}
 use Rattle.et_calls.specs.declared.entry.runs.RunPlan.{RunPlan}
 use Rattle.et_calls.specs.Runs.{run_planned}
 use Rattle.et_calls.proofs.CalledByCode.{none_within}
-use Rattle.et_calls.proofs.FirstMethods.{answers_alike, object_argument}
+use Rattle.et_calls.proofs.FirstMethods.{object_argument}
 use Rattle.et_calls.proofs.entry.runs.run_event.Goals as goal
 
 pub enter_first-requires-clause-first : goal.enter_first-requires-clause-first

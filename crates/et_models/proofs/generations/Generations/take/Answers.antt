@@ -1,7 +1,7 @@
 use Rattle.std.proofs.Common.{sym, subst}
+use Rattle.et_base.proofs.Options.{on_ok}
 use Rattle.et_replay.specs.declared.item.Item.{Item}
 use Rattle.et_models.specs.Generations.{both_of, StepsBoth}
-use Rattle.et_models.proofs.Stepping.{on_ok}
 use Rattle.et_models.proofs.generations.Generations.take.Goals as goal
 
 pub returns-in-Write : goal.returns-in-Write

@@ -1,9 +1,10 @@
 use Rattle.std.proofs.Common.{◌∷◌, sym, subst, arith}
+use Rattle.et_base.proofs.Options.{on_ok}
 use Rattle.et_replay.specs.declared.item.Item.TheVariants.{Alloc}
 use Rattle.et_replay.specs.Tally.{entered}
 use Rattle.et_refcount.specs.Counts.{View, view_of, IsReady, Settles}
 use Rattle.et_refcount.proofs.Noting.{placed_ready}
-use Rattle.et_refcount.proofs.Standing.{on_ok, heap_low, takes_none, takes_some}
+use Rattle.et_refcount.proofs.Standing.{heap_low, takes_none, takes_some}
 use Rattle.et_refcount.proofs.counts.Counts.come.Goals as goal
 
 pub overflow_add-self : goal.overflow_add-self

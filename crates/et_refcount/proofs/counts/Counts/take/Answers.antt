@@ -1,10 +1,11 @@
 use Rattle.std.proofs.Common.{◌∷◌, sym, subst}
+use Rattle.et_base.proofs.Options.{on_ok}
 use Rattle.et_replay.specs.declared.item.Item.{Item}
 use Rattle.et_replay.specs.declared.item.Item.TheVariants.{Write, Death}
 use Rattle.et_replay.specs.Tally.{written}
 use Rattle.et_refcount.specs.Counts.{View, view_of, IsReady, Settles, TakesItem}
 use Rattle.et_refcount.proofs.Noting.{written_ready, ended_ready}
-use Rattle.et_refcount.proofs.Standing.{on_ok, takes_write, takes_death}
+use Rattle.et_refcount.proofs.Standing.{takes_write, takes_death}
 use Rattle.et_refcount.proofs.counts.Counts.take.Goals as goal
 
 pub settle-requires : goal.settle-requires
