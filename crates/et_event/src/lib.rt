@@ -2,11 +2,11 @@
 //! definitions are in `specs/`, beginning with `Event.antt`.
 //!
 //! The code has the row of each opcode (`table`, `rows`), and what the rows share: the instruction at which a thread stands
-//! (`places`), what an instruction names in the pool (`members`), operands that are read, taken and put (`tops`, `operands`),
-//! how large objects are (`objects`), objects that are made and slots that are written, with their records (`telling`),
-//! monitors (`locks`, `monitors`), and exceptions that the machine throws (`throws`). Two modules are laws, functions with
-//! empty bodies: `place_laws` says what the event is of a turn in which an instruction is done, and `monitor_laws` what the
-//! calls on monitors come to in the middle of an event.
+//! (`places`, `sites`), what an instruction names in the pool (`members`), operands that are read, taken and put (`tops`,
+//! `operands`), how large objects are (`objects`), objects that are made and slots that are written, with their records
+//! (`telling`), monitors (`locks`, `monitors`), and exceptions that the machine throws (`throws`). Two modules are laws,
+//! functions with empty bodies: `place_laws` says what the event is of a turn in which an instruction is done, and
+//! `monitor_laws` what the calls on monitors come to in the middle of an event.
 #![tactic(auto)]
 
 mod answers;
@@ -22,6 +22,7 @@ mod operands;
 pub mod place_laws;
 mod places;
 mod rows;
+mod sites;
 mod table;
 mod telling;
 mod throws;
@@ -45,6 +46,7 @@ pub use rows::{
     Arithmetic, CallKind, CallRow, Comparison, Condition, Conversion, Division, Elements, FrameRow,
     HeapRow, Local, MonitorRow, Number, Rearrangement, Row, Shift,
 };
+pub use sites::Site;
 pub use table::{row_behind, row_of};
 pub use telling::{add_array, add_instance, make_array, make_instance, tell_instance, tell_update};
 pub use throws::throw_error;

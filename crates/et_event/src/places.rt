@@ -10,33 +10,24 @@ ghost use Rattle.et_event.specs.Sites.{decoded_at};
 ghost use Rattle.et_event.specs.Sound.{IsSoundFor};
 ghost use Rattle.et_event.specs.Families.{family_of, family_of_row, row_at};
 ghost use Rattle.et_event.specs.declared.families.Family.TheVariants as families;
-ghost use Rattle.et_event.specs.Places.{IsFound, IsPlace, site_at};
+ghost use Rattle.et_event.specs.Places.{IsFound, IsPlace};
 
 use crate::codes::{code_of, instruction, locals_are_few, method_of};
 use crate::place_laws;
 use crate::rows::Row;
+use crate::sites::Site;
 use crate::table::row_of;
-use et_base::{ClassId, ThreadId};
-use et_class::Pool;
-use et_code::Instr;
+use et_base::ThreadId;
 use et_program::Program;
 use et_state::Machine;
 
 /// The instruction at which a thread stands, with what it names read in place.
-#[derive(Clone, Copy)]
+#[derive(Drop)]
 pub struct Place<'a> {
     /// What it does.
     pub row: Row,
-    /// The instruction.
-    pub instr: Instr,
-    /// The pc behind it.
-    pub next: u32,
-    /// The code in which it stands.
-    pub code: &'a [u8],
-    /// The pool of its class, where that has one.
-    pub pool: Option<&'a Pool>,
-    /// The class that declares the method.
-    pub class: ClassId,
+    /// Where it stands.
+    pub site: Site<'a>,
 }
 
 /// The instruction at the pc of the frame; `None` where the code ends there, or has an opcode without a row.
@@ -52,14 +43,8 @@ fn find_place<'a>(program: &'a Program, machine: &Machine, thread: ThreadId) -> 
     let code = code_of(method);
     let (instr, next) = instruction(code, machine.pc(thread)).ok()?;
     let row = row_of(instr.opcode)?;
-    Some(Place {
-        row,
-        instr,
-        next,
-        code,
-        pool: program.pool(method.class),
-        class: method.class,
-    })
+    let site = Site::new(instr, next, code, program.pool(method.class), method.class);
+    Some(Place { row, site })
 }
 
 /// The instruction that a thread does in its turn, of which the table of events says what its row does there. `None` where
@@ -73,7 +58,7 @@ pub fn place_of<'a>(program: &'a Program, machine: &Machine, thread: ThreadId) -
     ensures none { IfNone result
         (row_at (decoded_at program.now (top machine.now.guest thread)) ≡ None) }
     ensures event { IfSome result (λ place. event program.now (kept_of machine.now) thread
-        ≡ does (moment program.now machine.now thread) (site_at place) place.row) }
+        ≡ does (moment program.now machine.now thread) place.site place.row) }
     ensures no_event { IfNone result (event program.now (kept_of machine.now) thread
         ≡ ill_typed (moment program.now machine.now thread)) }
     ensures family { IfSome result (λ place. family_of program.now (kept_of machine.now) thread

@@ -10,9 +10,10 @@ use Rattle.et_program.specs.declared.info.MethodInfo.{MethodInfo}
 use Rattle.et_state.specs.State.{kept_of}
 use Rattle.et_state.specs.Words.{top}
 use Rattle.et_event.specs.declared.rows.Row.{Row}
-use Rattle.et_event.specs.Sites.{natural_of, present_body, code_of_frame, running_method}
+use Rattle.et_event.specs.Sites.{Site, natural_of, present_body, code_of_frame, running_method}
 use Rattle.et_event.specs.Table.{row_of}
-use Rattle.et_event.specs.Places.{is_frame}
+use Rattle.et_event.specs.Places.{IsPlace, is_frame}
+use Rattle.et_event.specs.Pools.{pool_slots}
 use Rattle.et_event.proofs.Running.{runs_there}
 use Rattle.et_event.proofs.Placing.{pool_found, locals_found, rules_found, site_found}
 use Rattle.et_event.proofs.places.find_place.Goals as goal
@@ -31,7 +32,8 @@ returns c =
     let few : f.pc < 2 ^ 16 = omega arith in
     let at_pc : instruction_at (code_of_frame p f).code f.pc ≡ Ok (c.in_ok-instr.instr, c.in_ok-instr.next) =
     ap (λ (bytes : List ℕ). instruction_at bytes f.pc) (sym code) ∙ (ap (λ (n : ℕ). instruction_at c.code_of-code.result.now n) (sym c.pc.ensures) ∙ (sym c.instruction.ensures.decoded ∙ found)) in
-    record {
+    let site : Site = record { instr = c.in_ok-instr.instr; next = c.in_ok-instr.next; code = c.code_of-code.result.now; pool = pool_slots (option_copied c.pool.result); class = c.method_of-method.result.now.class } in
+    let found_there : IsPlace p f (record { row = c.in_ok-row.row; site = site }) = record {
       decoded = at_pc;
       row = row;
       site = site_found p f (c.in_ok-instr.instr, c.in_ok-instr.next) c.code_of-code.result.now _ c.method_of-method.result.now.class code (pool_found p c.method_of-method.result.now.class (running_method p f).class (option_copied c.pool.result) c.pool.ensures class) class;
@@ -42,4 +44,5 @@ returns c =
       pc = few;
       locals = locals_found p f runs (subst (λ (m : MethodInfo). (present_body m.code).max_locals < 2 ^ 16) method c.locals_are_few.ensures);
       index = λ e. subst (λ (r : Result (Instr × ℕ) CodeFault). IfOk r (λ x. (q : Row) → row_of x.0.opcode ≡ Some q → is_frame q ≡ false → natural_of x.0.first < 2 ^ 16)) found c.instruction.ensures.index c.in_ok-row.row row e;
-    }
+    } in
+    subst (λ (at : Site). IsPlace p f (record { row = c.in_ok-row.row; site = at })) (sym c.new-site.ensures) found_there

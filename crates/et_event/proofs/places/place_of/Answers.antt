@@ -18,7 +18,7 @@ returns-clause-none c = none_there c.args.program.now (top c.args.machine.now.gu
 pub returns-clause-event : goal.returns-clause-event
 returns-clause-event c =
     if_some c.find_place.result
-    (λ place is. at_place c.args.program.now (kept_of c.args.machine.now) c.args.thread place is (c.instruction.ensures.row c.args.program.now (kept_of c.args.machine.now) c.args.thread (place.instr, place.next) place.row c.requires.turn is.decoded is.row))
+    (λ place is. at_place c.args.program.now (kept_of c.args.machine.now) c.args.thread place is (c.instruction.ensures.row c.args.program.now (kept_of c.args.machine.now) c.args.thread (place.site.instr, place.site.next) place.row c.requires.turn is.decoded is.row))
     (found_there c.args.program.now (top c.args.machine.now.guest c.args.thread) c.find_place.result c.find_place.ensures)
 
 pub returns-clause-no_event : goal.returns-clause-no_event
