@@ -1,11 +1,12 @@
 -- What does more than change the topmost frame has an index of 8 or 16 bits, or none.
 use Rattle.std.proofs.Common.{◌≡◌, ℕ, ◌+◌, ◌*◌, ◌^◌, ◌<◌, ◌≤◌, Bool, true, false, cond, ltb, leb, List, length, drop, Some, None, Result, Ok, Err, refl, sym, ap, subst, ◌∙◌, arith}
-use Rattle.std.specs.Prelude.{◌&&◌, pos, int_lt, IfOk, IfSome, if◌then◌else◌}
+use Rattle.std.specs.Prelude.{◌&&◌, pos, int_lt, IfOk, if◌then◌else◌}
 use Rattle.std.specs.List.{list_all}
 use Rattle.std.specs.Option.{ok_or}
 use Rattle.std.specs.Int.{Width, w8, w16, w32, byte_len, from_be_bytes, cast_signed}
 use Rattle.std.proofs.lemmas.Bool.{and_parts, lt-ltb}
-use Rattle.et_base.specs.Numbers.{number_at}
+use Rattle.et_base.specs.Numbers.{AreBytes}
+use Rattle.et_base.proofs.Spelling.{IsWide, wide8, wide16, AreBytes-drop}
 use Rattle.et_code.specs.declared.instr.CodeFault.{CodeFault}
 use Rattle.et_code.specs.declared.instr.CodeFault.TheVariants as fault
 use Rattle.et_code.specs.declared.instr.Instr.{Instr}
@@ -79,9 +80,9 @@ small_if true x y h i = h
 small_if false x y h i = i
 
 -- .. where a number that is read is small
-small_number : (b : Bool) (n at bound : ℕ) (f : ℕ × ℕ → Result (Instr × ℕ) CodeFault) → IfSome {T = ℕ × ℕ} (cond b None (Some (n, at))) (λ x. x.0 < bound) → (n < bound → Small (f (n, at))) → Small (ok_or (cond b None (Some (n, at))) fault.Short >>= f)
-small_number true n at bound f h go = tt
-small_number false n at bound f h go = go h
+small_number : (code : List ℕ) (w : Width) (at : ℕ) (f : ℕ × ℕ → Result (Instr × ℕ) CodeFault) → IsWide w → AreBytes code
+    → (from_be_bytes w (drop at code) < 256 ^ byte_len w → Small (f (from_be_bytes w (drop at code), at + byte_len w))) → Small (read w code at >>= f)
+small_number code w at f wide fits go = small_read code w at f (go (wide.fits (drop at code) (AreBytes-drop at code fits)))
 
 small_wide : (code : List ℕ) (opcode at : ℕ) (f : Form) → wide_form_of opcode ≡ f → Small (wide_at code opcode at f)
 small_wide code opcode at form.U2 e = small_read code w16 at (λ n. Ok (instr opcode true (pos n.0) (pos 0) 0, n.1)) (λ l. absurd (wide_one opcode form.U2 e refl l))
@@ -126,31 +127,31 @@ small_lookup code pc opcode none =
     (small_read code w32 (table_place pc + 4) (λ n. cond (leb (2 ^ 31) n.0) (Err fault.Short) (rows_at code pc opcode n.1 (n.0 * 8)))
     (small_if (leb (2 ^ 31) count) (Err fault.Short) (rows_at code pc opcode (table_place pc + 4 + 4) (count * 8)) tt (small_rows code pc opcode (table_place pc + 4 + 4) (count * 8) none)))
 
-small_operands : (code : List ℕ) (pc opcode at : ℕ) (f : Form) → IfSome (number_at w8 code at) (λ x. x.0 < 2 ^ 8) → IfSome (number_at w16 code at) (λ x. x.0 < 2 ^ 16) → form_of opcode ≡ f → Small (operands_at code pc opcode at f)
-small_operands code pc opcode at form.Plain b s e = λ l. omega arith
-small_operands code pc opcode at form.U1 b s e = small_number (ltb (length code) (at + byte_len w8)) (from_be_bytes w8 (drop at code)) (at + byte_len w8) (2 ^ 8) (λ n. Ok (instr opcode false (pos n.0) (pos 0) 0, n.1)) b (λ lt l. omega arith)
-small_operands code pc opcode at form.U2 b s e = small_number (ltb (length code) (at + byte_len w16)) (from_be_bytes w16 (drop at code)) (at + byte_len w16) (2 ^ 16) (λ n. Ok (instr opcode false (pos n.0) (pos 0) 0, n.1)) s (λ lt l. lt)
-small_operands code pc opcode at form.S1 b s e = small_read code w8 at (λ n. Ok (instr opcode false (cast_signed w8 n.0) (pos 0) 0, n.1)) (λ l. absurd (other opcode form.S1 e refl l))
-small_operands code pc opcode at form.S2 b s e = small_read code w16 at (λ n. Ok (instr opcode false (cast_signed w16 n.0) (pos 0) 0, n.1)) (λ l. absurd (other opcode form.S2 e refl l))
-small_operands code pc opcode at form.S4 b s e = small_read code w32 at (λ n. Ok (instr opcode false (cast_signed w32 n.0) (pos 0) 0, n.1)) (λ l. absurd (other opcode form.S4 e refl l))
-small_operands code pc opcode at form.Increment b s e = small_read code w8 at (λ m. read w8 code m.1 >>= λ n. Ok (instr opcode false (pos m.0) (cast_signed w8 n.0) 0, n.1)) (small_read code w8 (at + 1) (λ n. Ok (instr opcode false (pos (from_be_bytes w8 (drop at code))) (cast_signed w8 n.0) 0, n.1)) (λ l. absurd (other opcode form.Increment e refl l)))
-small_operands code pc opcode at form.LongIncrement b s e = tt
-small_operands code pc opcode at form.Interface b s e = small_number (ltb (length code) (at + byte_len w16)) (from_be_bytes w16 (drop at code)) (at + byte_len w16) (2 ^ 16) (λ m. read w8 code m.1 >>= λ n. read w8 code n.1 >>= λ k. Ok (instr opcode false (pos m.0) (pos n.0) 0, k.1)) s (λ lt. small_read code w8 (at + 2) (λ n. read w8 code n.1 >>= λ k. Ok (instr opcode false (pos (from_be_bytes w16 (drop at code))) (pos n.0) 0, k.1)) (small_read code w8 (at + 2 + 1) (λ k. Ok (instr opcode false (pos (from_be_bytes w16 (drop at code))) (pos (from_be_bytes w8 (drop (at + 2) code))) 0, k.1)) (λ l. lt)))
-small_operands code pc opcode at form.Dimensions b s e = small_number (ltb (length code) (at + byte_len w16)) (from_be_bytes w16 (drop at code)) (at + byte_len w16) (2 ^ 16) (λ m. read w8 code m.1 >>= λ n. Ok (instr opcode false (pos m.0) (pos n.0) 0, n.1)) s (λ lt. small_read code w8 (at + 2) (λ n. Ok (instr opcode false (pos (from_be_bytes w16 (drop at code))) (pos n.0) 0, n.1)) (λ l. lt))
-small_operands code pc opcode at form.Wide b s e = small_behind code at
-small_operands code pc opcode at form.Table b s e = small_table code pc opcode (other opcode form.Table e refl)
-small_operands code pc opcode at form.Lookup b s e = small_lookup code pc opcode (other opcode form.Lookup e refl)
-small_operands code pc opcode at form.Refused b s e = tt
-small_operands code pc opcode at form.Unknown b s e = tt
+small_operands : (code : List ℕ) (pc opcode at : ℕ) (f : Form) → AreBytes code → form_of opcode ≡ f → Small (operands_at code pc opcode at f)
+small_operands code pc opcode at form.Plain fits e = λ l. omega arith
+small_operands code pc opcode at form.U1 fits e = small_number code w8 at (λ n. Ok (instr opcode false (pos n.0) (pos 0) 0, n.1)) wide8 fits (λ lt l. omega arith)
+small_operands code pc opcode at form.U2 fits e = small_number code w16 at (λ n. Ok (instr opcode false (pos n.0) (pos 0) 0, n.1)) wide16 fits (λ lt l. omega arith)
+small_operands code pc opcode at form.S1 fits e = small_read code w8 at (λ n. Ok (instr opcode false (cast_signed w8 n.0) (pos 0) 0, n.1)) (λ l. absurd (other opcode form.S1 e refl l))
+small_operands code pc opcode at form.S2 fits e = small_read code w16 at (λ n. Ok (instr opcode false (cast_signed w16 n.0) (pos 0) 0, n.1)) (λ l. absurd (other opcode form.S2 e refl l))
+small_operands code pc opcode at form.S4 fits e = small_read code w32 at (λ n. Ok (instr opcode false (cast_signed w32 n.0) (pos 0) 0, n.1)) (λ l. absurd (other opcode form.S4 e refl l))
+small_operands code pc opcode at form.Increment fits e = small_read code w8 at (λ m. read w8 code m.1 >>= λ n. Ok (instr opcode false (pos m.0) (cast_signed w8 n.0) 0, n.1)) (small_read code w8 (at + 1) (λ n. Ok (instr opcode false (pos (from_be_bytes w8 (drop at code))) (cast_signed w8 n.0) 0, n.1)) (λ l. absurd (other opcode form.Increment e refl l)))
+small_operands code pc opcode at form.LongIncrement fits e = tt
+small_operands code pc opcode at form.Interface fits e = small_number code w16 at (λ m. read w8 code m.1 >>= λ n. read w8 code n.1 >>= λ k. Ok (instr opcode false (pos m.0) (pos n.0) 0, k.1)) wide16 fits (λ lt. small_read code w8 (at + 2) (λ n. read w8 code n.1 >>= λ k. Ok (instr opcode false (pos (from_be_bytes w16 (drop at code))) (pos n.0) 0, k.1)) (small_read code w8 (at + 2 + 1) (λ k. Ok (instr opcode false (pos (from_be_bytes w16 (drop at code))) (pos (from_be_bytes w8 (drop (at + 2) code))) 0, k.1)) (λ l. omega arith)))
+small_operands code pc opcode at form.Dimensions fits e = small_number code w16 at (λ m. read w8 code m.1 >>= λ n. Ok (instr opcode false (pos m.0) (pos n.0) 0, n.1)) wide16 fits (λ lt. small_read code w8 (at + 2) (λ n. Ok (instr opcode false (pos (from_be_bytes w16 (drop at code))) (pos n.0) 0, n.1)) (λ l. omega arith))
+small_operands code pc opcode at form.Wide fits e = small_behind code at
+small_operands code pc opcode at form.Table fits e = small_table code pc opcode (other opcode form.Table e refl)
+small_operands code pc opcode at form.Lookup fits e = small_lookup code pc opcode (other opcode form.Lookup e refl)
+small_operands code pc opcode at form.Refused fits e = tt
+small_operands code pc opcode at form.Unknown fits e = tt
 
-small : (code : List ℕ) (pc : ℕ) → IfSome (number_at w8 code (pc + 1)) (λ x. x.0 < 2 ^ 8) → IfSome (number_at w16 code (pc + 1)) (λ x. x.0 < 2 ^ 16) → Small (instruction_at code pc)
+small : (code : List ℕ) (pc : ℕ) → AreBytes code → Small (instruction_at code pc)
 unfolding instruction_at
-small code pc b s = small_read code w8 pc (λ o. operands_at code pc o.0 o.1 (form_of o.0)) (small_operands code pc (from_be_bytes w8 (drop pc code)) (pc + 1) (form_of (from_be_bytes w8 (drop pc code))) b s refl)
+small code pc fits = small_read code w8 pc (λ o. operands_at code pc o.0 o.1 (form_of o.0)) (small_operands code pc (from_be_bytes w8 (drop pc code)) (pc + 1) (form_of (from_be_bytes w8 (drop pc code))) fits refl)
 
-pub index_small : (code : List ℕ) (pc : ℕ) (x : Instr × ℕ) → IfSome (number_at w8 code (pc + 1)) (λ x. x.0 < 2 ^ 8) → IfSome (number_at w16 code (pc + 1)) (λ x. x.0 < 2 ^ 16)
+pub index_small : (code : List ℕ) (pc : ℕ) (x : Instr × ℕ) → AreBytes code
     → instruction_at code pc ≡ Ok x → (r : Row) → row_of x.0.opcode ≡ Some r → is_frame r ≡ false → natural_of x.0.first < 2 ^ 16
-index_small code pc x b s e r there other =
-    let h : Small (Ok x) = subst (λ (q : Result (Instr × ℕ) CodeFault). Small q) e (small code pc b s) in
+index_small code pc x fits e r there other =
+    let h : Small (Ok x) = subst (λ (q : Result (Instr × ℕ) CodeFault). Small q) e (small code pc fits) in
     h (record { row = r; there = there; other = other })
 
 -- at the end of the code nothing is decoded

@@ -20,7 +20,6 @@ pub mod Throwing
 pub mod RowsAmong
 pub mod Constants
 pub mod Running
-mod Sizes
 pub mod Placing
 pub mod SiteAnswers
 mod Instructions

@@ -1,7 +1,5 @@
 //! The code that a thread runs, and what is decoded from it.
-ghost use Rattle.std.specs.Prelude.{◌≡◌, false, ◌+◌, ◌<◌, ◌^◌, IfOk, IfSome, length, Some};
-ghost use Rattle.std.specs.Int.{w8, w16};
-ghost use Rattle.et_base.specs.Numbers.{number_at};
+ghost use Rattle.std.specs.Prelude.{◌≡◌, false, ◌<◌, ◌^◌, IfOk, IfSome, length, Some};
 ghost use Rattle.et_code.specs.Decoding.{instruction_at};
 ghost use Rattle.et_code.specs.Rules.{KeepsRules};
 ghost use Rattle.et_state.specs.Words.{HasFrame, top};
@@ -10,9 +8,8 @@ ghost use Rattle.et_event.specs.Table.{row_of as row_in_table};
 ghost use Rattle.et_event.specs.declared.rows.Row.{Row};
 ghost use Rattle.et_event.specs.Places.{Runs, is_frame};
 
-use et_base::numbers::{u8_at, u16_at};
 use et_base::{MethodId, ThreadId};
-use et_code::{Code, CodeFault, Instr, decode};
+use et_code::{CodeFault, Instr, decode};
 use et_program::{MethodInfo, Program};
 use et_state::Machine;
 
@@ -27,58 +24,17 @@ pub fn method_of<'a>(program: &'a Program, machine: &Machine, thread: ThreadId) 
     program.method(method)
 }
 
-/// The bytes of code, of which there are fewer than 65,536 (JVMS 4.7.3).
-fn bytes_of(code: &Code) -> &[u8]
-    ensures bytes { result.now ≡ code.now.code }
-    ensures few { length result.now < 2 ^ 16 }
-    ensures rules { KeepsRules code.now }
-{
-    // Laws: they tell the prover, and do nothing.
-    et_code::laws::kept_code();
-    code.raw().code.as_slice()
-}
-
 /// The code of a method, borrowed; it is empty where the method is abstract, native or built in. Code keeps the rules of the
 /// standard (JVMS 4.9.1).
 pub fn code_of(method: &MethodInfo) -> &[u8]
     ensures bytes { result.now ≡ (present_body method.now.code).code }
     ensures few { length result.now < 2 ^ 16 }
     ensures rules { IfSome method.now.code (λ body. KeepsRules body) }
+    ensures locals { (present_body method.now.code).max_locals < 2 ^ 16 }
 {
     match &method.code {
-        Some(code) => bytes_of(code),
+        Some(code) => code.raw().code.as_slice(),
         None => b"",
-    }
-}
-
-/// A byte is a number of 8 bits.
-fn byte_is_small(code: &[u8], at: usize)
-    ensures { IfSome (number_at w8 code.now at) (λ x. x.0 < 2 ^ 8) }
-{
-    if let Some((_byte, _at)) = u8_at(code, at) {}
-}
-
-/// Two bytes are a number of 16 bits.
-fn short_is_small(code: &[u8], at: usize)
-    ensures { IfSome (number_at w16 code.now at) (λ x. x.0 < 2 ^ 16) }
-{
-    if let Some((_short, _at)) = u16_at(code, at) {}
-}
-
-/// Code has fewer than 65,536 locals (JVMS 4.7.3).
-fn few_locals(code: &Code)
-    ensures { code.now.max_locals < 2 ^ 16 }
-{
-    let _locals = code.raw().max_locals;
-}
-
-/// .. and so has a method.
-pub(crate) fn locals_are_few(method: &MethodInfo)
-    ensures { (present_body method.now.code).max_locals < 2 ^ 16 }
-{
-    match &method.code {
-        Some(code) => few_locals(code),
-        None => (),
     }
 }
 
@@ -95,8 +51,6 @@ pub(crate) fn instruction(code: &[u8], pc: u32) -> Result<(Instr, u32), CodeFaul
     if pc >= code.len() {
         return Err(CodeFault::Short);
     }
-    byte_is_small(code, pc + 1);
-    short_is_small(code, pc + 1);
     let (instr, next) = decode(code, pc)?;
     Ok((instr, next as u32))
 }

@@ -12,7 +12,7 @@ ghost use Rattle.et_event.specs.Families.{family_of, family_of_row, row_at};
 ghost use Rattle.et_event.specs.declared.families.Family.TheVariants as families;
 ghost use Rattle.et_event.specs.Places.{IsFound, IsPlace};
 
-use crate::codes::{code_of, instruction, locals_are_few, method_of};
+use crate::codes::{code_of, instruction, method_of};
 use crate::place_laws;
 use crate::rows::Row;
 use crate::sites::Site;
@@ -39,7 +39,6 @@ fn find_place<'a>(program: &'a Program, machine: &Machine, thread: ThreadId) -> 
     // Laws: they tell the prover, and do nothing.
     place_laws::switch();
     let method = method_of(program, machine, thread);
-    locals_are_few(method);
     let code = code_of(method);
     let (instr, next) = instruction(code, machine.pc(thread)).ok()?;
     let row = row_of(instr.opcode)?;

@@ -42,7 +42,7 @@ returns c =
       switch = λ e. subst (λ (bytes : List ℕ). IsSwitch bytes c.in_ok-instr.instr) (sym code)
           (c.switch.ensures (code_of_frame p f).code f.pc (c.in_ok-instr.instr, c.in_ok-instr.next) at_pc (row ∙ ap (λ (r : Row). Some r) e));
       pc = few;
-      locals = locals_found p f runs (subst (λ (m : MethodInfo). (present_body m.code).max_locals < 2 ^ 16) method c.locals_are_few.ensures);
+      locals = locals_found p f runs (subst (λ (m : MethodInfo). (present_body m.code).max_locals < 2 ^ 16) method c.code_of-code.ensures.locals);
       index = λ e. subst (λ (r : Result (Instr × ℕ) CodeFault). IfOk r (λ x. (q : Row) → row_of x.0.opcode ≡ Some q → is_frame q ≡ false → natural_of x.0.first < 2 ^ 16)) found c.instruction.ensures.index c.in_ok-row.row row e;
     } in
     subst (λ (at : Site). IsPlace p f (record { row = c.in_ok-row.row; site = at })) (sym c.new-site.ensures) found_there
