@@ -8,7 +8,6 @@ ghost use Rattle.et_state.specs.Words.{HasFrame, losing, thread_at, top};
 ghost use Rattle.et_event.specs.declared.rows.FrameRow.TheVariants as frame_rows;
 ghost use Rattle.et_event.specs.declared.rows.Row.TheVariants as rows;
 ghost use Rattle.et_event.specs.PlainRows.{is_plain};
-ghost use Rattle.et_event.specs.Places.{site_at};
 ghost use Rattle.et_event.specs.Sites.{natural_of};
 ghost use Rattle.et_ops.specs.Plain.{DoesPlain, RunsPlain};
 
@@ -35,19 +34,25 @@ pub fn lose_each(machine: &mut Machine, objects: &[ObjectId])
 fn plain_step(running: &mut Running, place: &Place<'_>) -> PlainEnd
     requires pc { running.old.frame.pc < 2 ^ 31 }
     requires switch { place.now.row ≡ rows.Frame frame_rows.Switch →
-        IsSwitch place.now.code.now place.now.instr }
+        IsSwitch place.now.site.code place.now.site.instr }
     requires index { place.now.row ≡ rows.PoolConstant →
-        natural_of place.now.instr.first < 2 ^ 16 }
+        natural_of place.now.site.instr.first < 2 ^ 16 }
     requires plain { is_plain place.now.row ≡ true }
-    ensures { RunsPlain (site_at place.now) place.now.row result running.old running.new }
+    ensures { RunsPlain place.now.site place.now.row result running.old running.new }
 {
     match place.row {
-        Row::Frame(row) => end_of(frame_event(running, &row, place.code, &place.instr, place.next)),
+        Row::Frame(row) => end_of(frame_event(
+            running,
+            &row,
+            place.site.code(),
+            place.site.instr(),
+            place.site.next(),
+        )),
         Row::PoolConstant => {
-            let index = natural(place.instr.first) as u16;
-            push_constant(running, place.pool, index, place.next)
+            let index = natural(place.site.instr().first) as u16;
+            push_constant(running, place.site.pool(), index, place.site.next())
         }
-        Row::Divide(number, division) => divide(running, number, division, place.next),
+        Row::Divide(number, division) => divide(running, number, division, place.site.next()),
         Row::Heap(_) | Row::Call(_) | Row::Throw | Row::Monitor(_) => unreachable!(),
     }
 }
@@ -62,11 +67,11 @@ pub(crate) fn plain_done(machine: &mut Machine, thread: ThreadId, place: &Place<
     requires few { length (thread_at machine.old.guest thread).frames ≤ most_frames }
     requires pc { (top machine.old.guest thread).pc < 2 ^ 31 }
     requires switch { place.now.row ≡ rows.Frame frame_rows.Switch →
-        IsSwitch place.now.code.now place.now.instr }
+        IsSwitch place.now.site.code place.now.site.instr }
     requires index { place.now.row ≡ rows.PoolConstant →
-        natural_of place.now.instr.first < 2 ^ 16 }
+        natural_of place.now.site.instr.first < 2 ^ 16 }
     requires plain { is_plain place.now.row ≡ true }
-    ensures { DoesPlain (site_at place.now) place.now.row result thread machine.old machine.new }
+    ensures { DoesPlain place.now.site place.now.row result thread machine.old machine.new }
 {
     let mut running = machine.lift(thread);
     let end = plain_step(&mut running, place);

@@ -11,7 +11,7 @@ ghost use Rattle.et_event.specs.Event.{does};
 ghost use Rattle.et_event.specs.Moments.{moment};
 ghost use Rattle.et_event.specs.Sites.{AString, constant_at, natural_of, pool_index};
 ghost use Rattle.et_event.specs.PlainRows.{is_plain};
-ghost use Rattle.et_event.specs.Places.{IsPlace, site_at};
+ghost use Rattle.et_event.specs.Places.{IsPlace};
 ghost use Rattle.et_ops.specs.Plain.{ChangesMore};
 
 use crate::constants::string_bytes;
@@ -28,10 +28,10 @@ use et_state::{EventEnd, Lines, Machine};
 /// by 0.
 fn string_loaded<'a>(place: &Place<'a>) -> Option<&'a [u8]>
     requires index { place.now.row ≡ rows.PoolConstant →
-        natural_of place.now.instr.first < 2 ^ 16 }
-    requires more { (f : FrameState) × ChangesMore (site_at place.now) place.now.row f }
+        natural_of place.now.site.instr.first < 2 ^ 16 }
+    requires more { (f : FrameState) × ChangesMore place.now.site place.now.row f }
     ensures some { IfSome result (λ bytes. (place.now.row ≡ rows.PoolConstant)
-        × (constant_at (site_at place.now).pool (pool_index (site_at place.now))
+        × (constant_at place.now.site.pool (pool_index place.now.site)
         ≡ Some (AString bytes.now))) }
     ensures short { IfSome result (λ bytes. length bytes.now < 2 ^ 16) }
     ensures none { IfNone result ((number : Number) × (division : Division)
@@ -39,8 +39,8 @@ fn string_loaded<'a>(place: &Place<'a>) -> Option<&'a [u8]>
 {
     match place.row {
         Row::PoolConstant => {
-            let index = natural(place.instr.first) as u16;
-            match string_bytes(place.pool, index) {
+            let index = natural(place.site.instr().first) as u16;
+            match string_bytes(place.site.pool(), index) {
                 Some(bytes) => Some(bytes),
                 None => unreachable!(),
             }
@@ -67,14 +67,14 @@ pub(crate) fn plain_event(
     requires place { IsPlace program.now (top machine.old.guest thread) place.now }
     requires plain { is_plain place.now.row ≡ true }
     ensures ok { IfOk result (λ end. EventAnswers (does (moment program.now machine.old thread)
-        (site_at place.now) place.now.row) end machine.old machine.new out.old out.new) }
+        place.now.site place.now.row) end machine.old machine.new out.old out.new) }
     ensures err { OnErr result (machine.new.guest ≡ machine.old.guest) }
 {
     match plain_done(machine, thread, place) {
         PlainEnd::Done => Ok(EventEnd::Done),
         PlainEnd::IllTyped => Ok(ill_typed(machine, thread)),
         PlainEnd::More => match string_loaded(place) {
-            Some(bytes) => string_event(program, machine, thread, bytes, place.next, out),
+            Some(bytes) => string_event(program, machine, thread, bytes, place.site.next(), out),
             None => {
                 let error = GuestError::ArithmeticException;
                 throw_error(program, machine, thread, error, out)

@@ -2,7 +2,6 @@ use Rattle.std.proofs.Common.{◌≡◌, ℕ, List, true, false, sym, ap, subst,
 use Rattle.et_state.specs.Running.{RunningState}
 use Rattle.et_state.specs.State.{MachineState}
 use Rattle.et_state.specs.Words.{begun, losing}
-use Rattle.et_event.specs.Places.{site_at}
 use Rattle.et_event.specs.Sites.{Site}
 use Rattle.et_ops.specs.declared.ends.PlainEnd.{PlainEnd}
 use Rattle.et_ops.specs.Plain.{DoesPlain, is_done}
@@ -15,7 +14,7 @@ pub returns : goal.returns
 returns c =
     let m : MachineState = c.args.machine.now in
     let t : ℕ = c.args.thread in
-    let at : Site = site_at c.args.place.now in
+    let at : Site = c.args.place.now.site in
     let end : PlainEnd = c.plain_step-end.result in
     let r : RunningState = c.lift-running.result in
     let r' : RunningState = c.plain_step-end.new.running in

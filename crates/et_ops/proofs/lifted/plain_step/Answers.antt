@@ -1,9 +1,10 @@
 use Rattle.std.proofs.Common.{sym, subst}
-use Rattle.std.specs.Option.{option_copied}
-use Rattle.et_event.specs.Places.{site_at}
-use Rattle.et_event.specs.Pools.{pool_slots}
 use Rattle.et_event.specs.declared.rows.Row.{Row}
 use Rattle.et_event.specs.declared.rows.Row.TheVariants as rows
+use Rattle.et_event.specs.FrameSteps.{StepsRunning}
+use Rattle.et_event.specs.Plain.{frame_after}
+use Rattle.et_event.specs.Sites.{Site}
+use Rattle.et_event.proofs.SiteAnswers.{same_site}
 use Rattle.et_ops.specs.declared.ends.PlainEnd.{PlainEnd}
 use Rattle.et_ops.specs.Plain.{RunsPlain}
 use Rattle.et_ops.proofs.Ending.{frame_runs}
@@ -14,6 +15,8 @@ returns-in-Frame c =
     let place = c.args.place.now in
     let r = c.args.running.now in
     let r' = c.frame_event.new.running in
-    let runs = frame_runs (site_at place) c.in-Frame.row c.frame_event.result r r' (c.frame_event.ensures (pool_slots (option_copied place.pool)) place.class) in
-    subst (λ (row : Row). RunsPlain (site_at place) row c.end_of.result r r') (sym c.in-Frame.is)
-    (subst (λ (end : PlainEnd). RunsPlain (site_at place) (rows.Frame c.in-Frame.row) end r r') (sym c.end_of.ensures) runs)
+    let same = same_site place.site c.instr.result.now c.next.result c.code.result.now c.instr.ensures c.next.ensures c.code.ensures in
+    let steps = subst (λ (at : Site). StepsRunning (frame_after at c.in-Frame.row r.frame) c.frame_event.result r r') same (c.frame_event.ensures place.site.pool place.site.class) in
+    let runs = frame_runs place.site c.in-Frame.row c.frame_event.result r r' steps in
+    subst (λ (row : Row). RunsPlain place.site row c.end_of.result r r') (sym c.in-Frame.is)
+    (subst (λ (end : PlainEnd). RunsPlain place.site (rows.Frame c.in-Frame.row) end r r') (sym c.end_of.ensures) runs)
