@@ -1,5 +1,5 @@
 -- The rules by what is kept are the rules by the lines.
-use Rattle.std.proofs.Common.{◌≡◌, ◌∙◌, ℕ, ◌-◌, Bool, true, false, cond, not, ◌&&◌, ◌||◌, eqb, leb, ltb, List, length, Option, Some, None, refl, ap, subst}
+use Rattle.std.proofs.Common.{◌≡◌, ◌∙◌, ℕ, ◌-◌, Bool, true, cond, not, ◌&&◌, ◌||◌, eqb, leb, ltb, List, length, Option, Some, None, refl, ap, subst}
 use Rattle.std.specs.Prelude.{slice_index, unwrap_or}
 use Rattle.et_base.specs.declared.line.TraceLine.{TraceLine}
 use Rattle.et_base.specs.declared.line.TraceLine.TheVariants.{Header, Class, Method, Alloc, Update, Enter, Exit, Unwind, Flush, Death, Finish}

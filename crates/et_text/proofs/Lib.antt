@@ -16,3 +16,4 @@ pub mod Splitting
 pub mod Standings
 pub mod TiedNames
 pub mod Versions
+pub mod Written

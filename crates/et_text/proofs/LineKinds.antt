@@ -2,6 +2,7 @@
 use Rattle.std.proofs.Common.{◌≡◌, ℕ, zero, suc, ◌-◌, ◌^◌, ◌<◌, ◌≤◌, true, cond, eqb, List, [], ◌∷◌, ◌++◌, Option, Some, None, refl, sym, ap, subst, ◌∙◌, append_assoc, arith, inl, inr}
 use Rattle.std.specs.Prelude.{All}
 use Rattle.std.specs.Fmt.{decimal}
+use Rattle.std.specs.Int.{Width, w8, w32, w64}
 use Rattle.std.specs.List.{flat_map, AllByRecursion}
 use Rattle.et_base.specs.declared.line.TraceLine.{TraceLine}
 use Rattle.et_base.specs.declared.line.TraceLine.TheVariants.{Header, Class, Method, Alloc, Update, Enter, Exit, Unwind, Flush, Death, Finish}
@@ -9,7 +10,7 @@ use Rattle.et_text.specs.Ranges.{IsInRange}
 use Rattle.std.proofs.lemmas.List.{append-nil}
 use Rattle.std.proofs.lemmas.Option.{same_Some}
 use Rattle.std.proofs.lemmas.Bool.{eqb-true}
-use Rattle.et_text.specs.Spelling.{escapes, fields, field_text, letter, line_body, SpelledField, Number}
+use Rattle.et_text.specs.Spelling.{escapes, fields, field_text, letter, line_body, LineField, Number}
 use Rattle.et_text.specs.Text.{IsLineSpelled}
 use Rattle.et_text.specs.Reading.{◌>>=◌, is_break, number_field_in, text_field_at, done, turn_at, header_line_at, class_line_at, method_line_at, alloc_at, update_at, enter_at, exit_at, unwind_at, flush_at, death_line_at, finish_at, front_at, line_at}
 use Rattle.et_text.proofs.Numbers.{IsWithin, bind_some, chosen, in_takes, in_again}
@@ -49,7 +50,7 @@ left_is line left read rest e =
     record { rest_is = ap (λ (x : TraceLine × List ℕ). x.1) p; same = ap (λ (x : TraceLine × List ℕ). x.0) p }
 
 -- fields, and bytes behind them
-abbrev before : List SpelledField → List ℕ → List ℕ
+abbrev before : List LineField → List ℕ → List ℕ
 before [] rest = rest
 before (f ∷ fs) rest = field_text f ++ before fs rest
 
@@ -82,35 +83,35 @@ unfolding turn_at
 turn_again event thread rest a b e = rw (in_again 0 (2 ^ 40) event (32 ∷ decimal thread ++ rest) (omega arith) a (omega arith) refl, in_again 0 63 thread rest (omega arith) b (omega arith) e) refl
 
 -- the letter and the fields of a line in range
-record AreFields (first : ℕ) (line : TraceLine) (fs : List SpelledField) : Type 0 where
+record AreFields (first : ℕ) (line : TraceLine) (fs : List LineField) : Type 0 where
   pub range : IsInRange 1 line
   pub first_is : first ≡ letter line
   pub fields_are : fields line ≡ fs
 
-spelled_as : (first : ℕ) (line : TraceLine) (fs : List SpelledField) (bytes rest : List ℕ) → AreFields first line fs → bytes ≡ before fs rest → IsTail first line bytes rest
-spelled_as first line fs bytes rest a parts = record { range = a.range; first_is = a.first_is; spelled = parts ∙ ap (λ (l : List SpelledField). before l rest) (sym a.fields_are) }
+spelled_as : (first : ℕ) (line : TraceLine) (fs : List LineField) (bytes rest : List ℕ) → AreFields first line fs → bytes ≡ before fs rest → IsTail first line bytes rest
+spelled_as first line fs bytes rest a parts = record { range = a.range; first_is = a.first_is; spelled = parts ∙ ap (λ (l : List LineField). before l rest) (sym a.fields_are) }
 
 -- two numbers
 abbrev read_two : (low high low' high' : ℕ) → (ℕ → ℕ → TraceLine) → List ℕ → Option (TraceLine × List ℕ)
 read_two low high low' high' make bytes = number_field_in low high bytes >>= λ x0. number_field_in low' high' x0.1 >>= λ x1. Some (make x0.0 x1.0, x1.1)
 
-two_take : (first low high low' high' : ℕ) (make : ℕ → ℕ → TraceLine) → ((a b : ℕ) → IsWithin low high a → IsWithin low' high' b → AreFields first (make a b) (Number a ∷ Number b ∷ []))
+two_take : (first : ℕ) (v w : Width) (low high low' high' : ℕ) (make : ℕ → ℕ → TraceLine) → ((a b : ℕ) → IsWithin low high a → IsWithin low' high' b → AreFields first (make a b) (Number v a ∷ Number w b ∷ []))
     → (bytes : List ℕ) (line : TraceLine) (rest : List ℕ) → read_two low high low' high' make bytes ≡ Some (line, rest) → IsTail first line bytes rest
-two_take first low high low' high' make are bytes line rest e =
+two_take first v w low high low' high' make are bytes line rest e =
     let s0 = bind_some (number_field_in low high bytes) (λ x0. number_field_in low' high' x0.1 >>= λ x1. Some (make x0.0 x1.0, x1.1)) (line, rest) e in
     let s1 = bind_some (number_field_in low' high' s0.0.1) (λ x1. Some (make s0.0.0 x1.0, x1.1)) (line, rest) s0.2 in
     let d = left_is (make s0.0.0 s1.0.0) s1.0.1 line rest s1.2 in
     let t0 = in_takes low high bytes s0.0.0 s0.0.1 s0.1 in
     let t1 = in_takes low' high' s0.0.1 s1.0.0 s1.0.1 s1.1 in
-    let parts : bytes ≡ before (Number s0.0.0 ∷ Number s1.0.0 ∷ []) rest = t0.0 ∙ ap (λ (t : List ℕ). 32 ∷ decimal s0.0.0 ++ t) (t1.0 ∙ ap (λ (t : List ℕ). 32 ∷ decimal s1.0.0 ++ t) d.rest_is) in
-    subst (λ (l : TraceLine). IsTail first l bytes rest) d.same (spelled_as first (make s0.0.0 s1.0.0) (Number s0.0.0 ∷ Number s1.0.0 ∷ []) bytes rest (are s0.0.0 s1.0.0 t0.1 t1.1) parts)
+    let parts : bytes ≡ before (Number v s0.0.0 ∷ Number w s1.0.0 ∷ []) rest = t0.0 ∙ ap (λ (t : List ℕ). 32 ∷ decimal s0.0.0 ++ t) (t1.0 ∙ ap (λ (t : List ℕ). 32 ∷ decimal s1.0.0 ++ t) d.rest_is) in
+    subst (λ (l : TraceLine). IsTail first l bytes rest) d.same (spelled_as first (make s0.0.0 s1.0.0) (Number v s0.0.0 ∷ Number w s1.0.0 ∷ []) bytes rest (are s0.0.0 s1.0.0 t0.1 t1.1) parts)
 
 -- an event, a thread, a method and an object
 abbrev read_passage : (low high : ℕ) → (ℕ → ℕ → ℕ → ℕ → TraceLine) → List ℕ → Option (TraceLine × List ℕ)
 read_passage low high make bytes = turn_at bytes >>= λ x0. number_field_in 1 (2 ^ 32 - 1) x0.1 >>= λ x1. number_field_in low high x1.1 >>= λ x2. Some (make x0.0.0 x0.0.1 x1.0 x2.0, x2.1)
 
 passage_takes : (first low high : ℕ) (make : ℕ → ℕ → ℕ → ℕ → TraceLine)
-    → ((event thread method object : ℕ) → event ≤ 2 ^ 40 → thread ≤ 63 → IsWithin 1 (2 ^ 32 - 1) method → IsWithin low high object → AreFields first (make event thread method object) (Number event ∷ Number thread ∷ Number method ∷ Number object ∷ []))
+    → ((event thread method object : ℕ) → event ≤ 2 ^ 40 → thread ≤ 63 → IsWithin 1 (2 ^ 32 - 1) method → IsWithin low high object → AreFields first (make event thread method object) (Number w64 event ∷ Number w8 thread ∷ Number w32 method ∷ Number w32 object ∷ []))
     → (bytes : List ℕ) (line : TraceLine) (rest : List ℕ) → read_passage low high make bytes ≡ Some (line, rest) → IsTail first line bytes rest
 passage_takes first low high make are bytes line rest e =
     let s0 = bind_some (turn_at bytes) (λ x0. number_field_in 1 (2 ^ 32 - 1) x0.1 >>= λ x1. number_field_in low high x1.1 >>= λ x2. Some (make x0.0.0 x0.0.1 x1.0 x2.0, x2.1)) (line, rest) e in
@@ -120,16 +121,16 @@ passage_takes first low high make are bytes line rest e =
     let t0 = turn_takes bytes s0.0.0.0 s0.0.0.1 s0.0.1 s0.1 in
     let t1 = in_takes 1 (2 ^ 32 - 1) s0.0.1 s1.0.0 s1.0.1 s1.1 in
     let t2 = in_takes low high s1.0.1 s2.0.0 s2.0.1 s2.1 in
-    let fs = Number s0.0.0.0 ∷ Number s0.0.0.1 ∷ Number s1.0.0 ∷ Number s2.0.0 ∷ [] in
+    let fs = Number w64 s0.0.0.0 ∷ Number w8 s0.0.0.1 ∷ Number w32 s1.0.0 ∷ Number w32 s2.0.0 ∷ [] in
     let parts : bytes ≡ before fs rest = t0.parts ∙ ap (λ (t : List ℕ). 32 ∷ decimal s0.0.0.0 ++ (32 ∷ decimal s0.0.0.1 ++ t)) (t1.0 ∙ ap (λ (t : List ℕ). 32 ∷ decimal s1.0.0 ++ t) (t2.0 ∙ ap (λ (t : List ℕ). 32 ∷ decimal s2.0.0 ++ t) d.rest_is)) in
     subst (λ (l : TraceLine). IsTail first l bytes rest) d.same (spelled_as first (make s0.0.0.0 s0.0.0.1 s1.0.0 s2.0.0) fs bytes rest (are s0.0.0.0 s0.0.0.1 s1.0.0 s2.0.0 t0.event_is t0.thread_is t1.1 t2.1) parts)
 
--- an event, a thread and four numbers
-module _ (first la ha lb hb lc hc ld hd : ℕ) (make : ℕ → ℕ → ℕ → ℕ → ℕ → ℕ → TraceLine) where
+-- an event, a thread and four numbers, of which the third is this wide
+module _ (first : ℕ) (w : Width) (la ha lb hb lc hc ld hd : ℕ) (make : ℕ → ℕ → ℕ → ℕ → ℕ → ℕ → TraceLine) where
   abbrev read_four : (event thread : ℕ) → List ℕ → Option (TraceLine × List ℕ)
   read_four event thread bytes = number_field_in la ha bytes >>= λ x1. number_field_in lb hb x1.1 >>= λ x2. number_field_in lc hc x2.1 >>= λ x3. number_field_in ld hd x3.1 >>= λ x4. Some (make event thread x1.0 x2.0 x3.0 x4.0, x4.1)
 
-  six_take : ((event thread a b c d : ℕ) → event ≤ 2 ^ 40 → thread ≤ 63 → IsWithin la ha a → IsWithin lb hb b → IsWithin lc hc c → IsWithin ld hd d → AreFields first (make event thread a b c d) (Number event ∷ Number thread ∷ Number a ∷ Number b ∷ Number c ∷ Number d ∷ []))
+  six_take : ((event thread a b c d : ℕ) → event ≤ 2 ^ 40 → thread ≤ 63 → IsWithin la ha a → IsWithin lb hb b → IsWithin lc hc c → IsWithin ld hd d → AreFields first (make event thread a b c d) (Number w64 event ∷ Number w8 thread ∷ Number w32 a ∷ Number w32 b ∷ Number w c ∷ Number w32 d ∷ []))
       → (bytes : List ℕ) (line : TraceLine) (rest : List ℕ) → (turn_at bytes >>= λ x0. read_four x0.0.0 x0.0.1 x0.1) ≡ Some (line, rest) → IsTail first line bytes rest
   six_take are bytes line rest e =
       let s0 = bind_some (turn_at bytes) (λ x0. read_four x0.0.0 x0.0.1 x0.1) (line, rest) e in
@@ -143,7 +144,7 @@ module _ (first la ha lb hb lc hc ld hd : ℕ) (make : ℕ → ℕ → ℕ → �
       let t2 = in_takes lb hb s1.0.1 s2.0.0 s2.0.1 s2.1 in
       let t3 = in_takes lc hc s2.0.1 s3.0.0 s3.0.1 s3.1 in
       let t4 = in_takes ld hd s3.0.1 s4.0.0 s4.0.1 s4.1 in
-      let fs = Number s0.0.0.0 ∷ Number s0.0.0.1 ∷ Number s1.0.0 ∷ Number s2.0.0 ∷ Number s3.0.0 ∷ Number s4.0.0 ∷ [] in
+      let fs = Number w64 s0.0.0.0 ∷ Number w8 s0.0.0.1 ∷ Number w32 s1.0.0 ∷ Number w32 s2.0.0 ∷ Number w s3.0.0 ∷ Number w32 s4.0.0 ∷ [] in
       let parts : bytes ≡ before fs rest = t0.parts ∙ ap (λ (t : List ℕ). 32 ∷ decimal s0.0.0.0 ++ (32 ∷ decimal s0.0.0.1 ++ t)) (t1.0 ∙ ap (λ (t : List ℕ). 32 ∷ decimal s1.0.0 ++ t) (t2.0 ∙ ap (λ (t : List ℕ). 32 ∷ decimal s2.0.0 ++ t) (t3.0 ∙ ap (λ (t : List ℕ). 32 ∷ decimal s3.0.0 ++ t) (t4.0 ∙ ap (λ (t : List ℕ). 32 ∷ decimal s4.0.0 ++ t) d.rest_is)))) in
       subst (λ (l : TraceLine). IsTail first l bytes rest) d.same (spelled_as first (make s0.0.0.0 s0.0.0.1 s1.0.0 s2.0.0 s3.0.0 s4.0.0) fs bytes rest (are s0.0.0.0 s0.0.0.1 s1.0.0 s2.0.0 s3.0.0 s4.0.0 t0.event_is t0.thread_is t1.1 t2.1 t3.1 t4.1) parts)
 
@@ -151,7 +152,7 @@ module _ (first la ha lb hb lc hc ld hd : ℕ) (make : ℕ → ℕ → ℕ → �
 
 header_takes : (bytes : List ℕ) (line : TraceLine) (rest : List ℕ) → header_line_at bytes ≡ Some (line, rest) → IsTail 72 line bytes rest
 unfolding header_line_at
-header_takes bytes line rest e = two_take 72 1 1 0 (2 ^ 40) Header (λ a b p q. record { range = omega arith; first_is = refl; fields_are = refl }) bytes line rest e
+header_takes bytes line rest e = two_take 72 w32 w64 1 1 0 (2 ^ 40) Header (λ a b p q. record { range = omega arith; first_is = refl; fields_are = refl }) bytes line rest e
 
 class_takes : (bytes : List ℕ) (line : TraceLine) (rest : List ℕ) → class_line_at bytes ≡ Some (line, rest) → IsTail 67 line bytes rest
 unfolding class_line_at
@@ -181,11 +182,11 @@ method_takes bytes line rest e =
 
 alloc_takes : (bytes : List ℕ) (line : TraceLine) (rest : List ℕ) → alloc_at bytes ≡ Some (line, rest) → IsTail 65 line bytes rest
 unfolding alloc_at
-alloc_takes bytes line rest e = six_take 65 1 (2 ^ 24 - 1) 1 (2 ^ 32 - 1) 16 (2 ^ 30) 0 (2 ^ 26) Alloc (λ event thread a b c d u v p q r s. record { range = omega arith; first_is = refl; fields_are = refl }) bytes line rest e
+alloc_takes bytes line rest e = six_take 65 w64 1 (2 ^ 24 - 1) 1 (2 ^ 32 - 1) 16 (2 ^ 30) 0 (2 ^ 26) Alloc (λ event thread a b c d u v p q r s. record { range = omega arith; first_is = refl; fields_are = refl }) bytes line rest e
 
 update_takes : (bytes : List ℕ) (line : TraceLine) (rest : List ℕ) → update_at bytes ≡ Some (line, rest) → IsTail 85 line bytes rest
 unfolding update_at
-update_takes bytes line rest e = six_take 85 0 (2 ^ 24 - 1) 0 (2 ^ 28 - 1) 0 (2 ^ 24 - 1) 0 (2 ^ 24 - 1) Update (λ event thread a b c d u v p q r s. record { range = omega arith; first_is = refl; fields_are = refl }) bytes line rest e
+update_takes bytes line rest e = six_take 85 w32 0 (2 ^ 24 - 1) 0 (2 ^ 28 - 1) 0 (2 ^ 24 - 1) 0 (2 ^ 24 - 1) Update (λ event thread a b c d u v p q r s. record { range = omega arith; first_is = refl; fields_are = refl }) bytes line rest e
 
 enter_takes : (bytes : List ℕ) (line : TraceLine) (rest : List ℕ) → enter_at bytes ≡ Some (line, rest) → IsTail 77 line bytes rest
 unfolding enter_at
@@ -208,15 +209,15 @@ unwind_takes bytes line rest e = passage_takes 88 1 (2 ^ 24 - 1) Unwind (λ even
 
 flush_takes : (bytes : List ℕ) (line : TraceLine) (rest : List ℕ) → flush_at bytes ≡ Some (line, rest) → IsTail 70 line bytes rest
 unfolding flush_at
-flush_takes bytes line rest e = two_take 70 0 (2 ^ 40) 0 (2 ^ 24 - 1) Flush (λ a b p q. record { range = omega arith; first_is = refl; fields_are = refl }) bytes line rest e
+flush_takes bytes line rest e = two_take 70 w64 w32 0 (2 ^ 40) 0 (2 ^ 24 - 1) Flush (λ a b p q. record { range = omega arith; first_is = refl; fields_are = refl }) bytes line rest e
 
 death_takes : (bytes : List ℕ) (line : TraceLine) (rest : List ℕ) → death_line_at bytes ≡ Some (line, rest) → IsTail 68 line bytes rest
 unfolding death_line_at
-death_takes bytes line rest e = two_take 68 1 (2 ^ 24 - 1) 0 (2 ^ 40) Death (λ a b p q. record { range = omega arith; first_is = refl; fields_are = refl }) bytes line rest e
+death_takes bytes line rest e = two_take 68 w32 w64 1 (2 ^ 24 - 1) 0 (2 ^ 40) Death (λ a b p q. record { range = omega arith; first_is = refl; fields_are = refl }) bytes line rest e
 
 finish_takes : (bytes : List ℕ) (line : TraceLine) (rest : List ℕ) → finish_at bytes ≡ Some (line, rest) → IsTail 90 line bytes rest
 unfolding finish_at
-finish_takes bytes line rest e = two_take 90 0 (2 ^ 40) 0 3 Finish (λ a b p q. record { range = omega arith; first_is = refl; fields_are = refl }) bytes line rest e
+finish_takes bytes line rest e = two_take 90 w64 w8 0 (2 ^ 40) 0 3 Finish (λ a b p q. record { range = omega arith; first_is = refl; fields_are = refl }) bytes line rest e
 
 -- each line in range is read again
 pub line_again : (line : TraceLine) → IsInRange 1 line → line_at (line_body line) ≡ Some line
@@ -306,7 +307,7 @@ front_takes (b ∷ rest) line left e =
           ]
     ]
 
-before_all : (fs : List SpelledField) (rest : List ℕ) → before fs rest ≡ flat_map field_text fs ++ rest
+before_all : (fs : List LineField) (rest : List ℕ) → before fs rest ≡ flat_map field_text fs ++ rest
 before_all [] rest = refl
 before_all (f ∷ fs) rest = ap (λ (t : List ℕ). field_text f ++ t) (before_all fs rest) ∙ sym (append_assoc (field_text f) (flat_map field_text fs) rest)
 

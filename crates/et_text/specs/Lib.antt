@@ -1,5 +1,6 @@
 pub mod ByStanding
 pub mod Extends
+pub mod Fields
 pub mod Followed
 pub mod Follows
 pub mod Kinds

@@ -82,11 +82,15 @@ IsShort name = length name < 2 ^ 32
 abbrev pub IsShortFor : ℕ → List ℕ → Type 0
 IsShortFor version name = version ≡ 2 → IsShort name
 
--- each name and descriptor of the line is short
+-- each name and descriptor of the line is such a one
+abbrev pub HasNames : (List ℕ → Type 0) → TraceLine → Type 0
+HasNames P (Class number name) = P name
+HasNames P (Method number class name descriptor) = P name × P descriptor
+HasNames P _ = Unit {0}
+
+-- .. is short
 abbrev pub HasShortNames : TraceLine → Type 0
-HasShortNames (Class number name) = IsShort name
-HasShortNames (Method number class name descriptor) = IsShort name × IsShort descriptor
-HasShortNames _ = Unit {0}
+HasShortNames line = HasNames IsShort line
 
 -- each field of the line is in its range, where the trace is of this version. Sizes are in bytes.
 abbrev pub IsInRange : ℕ → TraceLine → Type 0

@@ -2,6 +2,7 @@
 use Rattle.std.specs.Prelude.{ℕ, ◌/◌, ◌%◌, Bool, true, ◌||◌, ◌==◌, nat_lt, nat_le, if◌then◌else◌, List, [], ◌∷◌, ◌++◌}
 use Rattle.std.specs.List.{flat_map}
 use Rattle.std.specs.Fmt.{decimal, digit_glyph}
+use Rattle.std.specs.Int.{Width, w8, w32, w64}
 use Rattle.et_base.specs.declared.line.TraceLine.{TraceLine}
 use Rattle.et_base.specs.declared.line.TraceLine.TheVariants.{Header, Class, Method, Alloc, Update, Enter, Exit, Unwind, Flush, Death, Finish}
 
@@ -17,10 +18,10 @@ escape b = if is_escaped b then 37 ∷ digit_glyph true (b / 16) ∷ digit_glyph
 abbrev pub escapes : List ℕ → List ℕ
 escapes name = flat_map escape name
 
--- a field: a number, or the bytes of a name or descriptor
-pub data SpelledField : Type 0 where
-  Number : (n : ℕ) → SpelledField
-  Text : (name : List ℕ) → SpelledField
+-- a field: a number, which has this width in the binary spelling, or the bytes of a name or descriptor
+pub data LineField : Type 0 where
+  Number : (w : Width) (n : ℕ) → LineField
+  Text : (name : List ℕ) → LineField
 
 -- a number is decimal, and has no leading zero. Each field stands behind a space (32).
 abbrev pub number_field : ℕ → List ℕ
@@ -31,8 +32,8 @@ abbrev pub text_field : List ℕ → List ℕ
 text_field name = 32 ∷ escapes name
 
 -- any field
-abbrev pub field_text : SpelledField → List ℕ
-field_text (Number n) = number_field n
+abbrev pub field_text : LineField → List ℕ
+field_text (Number w n) = number_field n
 field_text (Text name) = text_field name
 
 -- THE TABLE: the letter of a line
@@ -50,18 +51,18 @@ letter (Death object time) = 68  -- D
 letter (Finish event how) = 90  -- Z
 
 -- .. and its fields
-abbrev pub fields : TraceLine → List SpelledField
-fields (Header v interval) = Number v ∷ Number interval ∷ []
-fields (Class number name) = Number number ∷ Text name ∷ []
-fields (Method number class name descriptor) = Number number ∷ Number class ∷ Text name ∷ Text descriptor ∷ []
-fields (Alloc event thread object class size length) = Number event ∷ Number thread ∷ Number object ∷ Number class ∷ Number size ∷ Number length ∷ []
-fields (Update event thread object slot old new) = Number event ∷ Number thread ∷ Number object ∷ Number slot ∷ Number old ∷ Number new ∷ []
-fields (Enter event thread method receiver) = Number event ∷ Number thread ∷ Number method ∷ Number receiver ∷ []
-fields (Exit event thread method) = Number event ∷ Number thread ∷ Number method ∷ []
-fields (Unwind event thread method exception) = Number event ∷ Number thread ∷ Number method ∷ Number exception ∷ []
-fields (Flush event deaths) = Number event ∷ Number deaths ∷ []
-fields (Death object time) = Number object ∷ Number time ∷ []
-fields (Finish event how) = Number event ∷ Number how ∷ []
+abbrev pub fields : TraceLine → List LineField
+fields (Header v interval) = Number w32 v ∷ Number w64 interval ∷ []
+fields (Class number name) = Number w32 number ∷ Text name ∷ []
+fields (Method number class name descriptor) = Number w32 number ∷ Number w32 class ∷ Text name ∷ Text descriptor ∷ []
+fields (Alloc event thread object class size length) = Number w64 event ∷ Number w8 thread ∷ Number w32 object ∷ Number w32 class ∷ Number w64 size ∷ Number w32 length ∷ []
+fields (Update event thread object slot old new) = Number w64 event ∷ Number w8 thread ∷ Number w32 object ∷ Number w32 slot ∷ Number w32 old ∷ Number w32 new ∷ []
+fields (Enter event thread method receiver) = Number w64 event ∷ Number w8 thread ∷ Number w32 method ∷ Number w32 receiver ∷ []
+fields (Exit event thread method) = Number w64 event ∷ Number w8 thread ∷ Number w32 method ∷ []
+fields (Unwind event thread method exception) = Number w64 event ∷ Number w8 thread ∷ Number w32 method ∷ Number w32 exception ∷ []
+fields (Flush event deaths) = Number w64 event ∷ Number w32 deaths ∷ []
+fields (Death object time) = Number w32 object ∷ Number w64 time ∷ []
+fields (Finish event how) = Number w64 event ∷ Number w8 how ∷ []
 
 -- a line without the LF (10) that ends it
 abbrev pub line_body : TraceLine → List ℕ

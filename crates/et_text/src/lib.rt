@@ -4,6 +4,7 @@
 
 mod breaking;
 mod fault;
+mod fields;
 mod follow;
 mod follower;
 mod handing;
@@ -22,6 +23,7 @@ mod writing;
 
 pub use breaking::is_flush_point;
 pub use fault::{AFTER, FORM, LineError, TraceFault, UNENDED};
+pub use fields::{FieldWriter, Width, put_fields};
 pub use follower::Follower;
 pub use handing::Following;
 pub use lines::first_line;
