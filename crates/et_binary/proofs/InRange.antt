@@ -6,7 +6,8 @@ use Rattle.std.proofs.lemmas.Bool.{cases_lt}
 use Rattle.et_base.specs.declared.line.TraceLine.{TraceLine}
 use Rattle.et_base.specs.declared.line.TraceLine.TheVariants.{Header, Class, Method, Alloc, Update, Enter, Exit, Unwind, Flush, Death, Finish}
 use Rattle.et_text.specs.Ranges.{greatest_event, thread_count, number_limit, object_limit, slot_limit, least_size, greatest_size, greatest_length, greatest_ending, IsEventNumber, IsThreadNumber, IsNumber, IsObject, IsText, IsInRange}
-use Rattle.et_binary.specs.Packing.{Prefixed, packing, packed_fields}
+use Rattle.et_text.specs.Spelling.{Text}
+use Rattle.et_binary.specs.Packing.{packing, packed_fields}
 use Rattle.et_binary.specs.Packs.{FitsWidth, IsPacked}
 
 -- WHAT THE TESTS SAY
@@ -24,7 +25,7 @@ header_range line r v interval e p h =
 pub class_range : (line : TraceLine) (r : Bool) (number : ℕ) (name : List ℕ) → line ≡ Class number name → HasRecord line → (IsTrue r ↔ (IsNumber number × (0 < length name))) → IsTrue r ↔ IsInRange 2 line
 class_range line r number name e p h =
     let own : HasRecord (Class number name) = subst HasRecord e p in
-    let room : FitsWidth (Prefixed name) = own.room.1.0 in (
+    let room : FitsWidth (Text name) = own.room.1.0 in (
       λ t. (let is : IsNumber number × (0 < length name) = h.0 t in subst (IsInRange 2) (sym e) (is.0, (is.1, room.1), λ two. room.0)),
       λ x. (let range : IsInRange 2 (Class number name) = subst (IsInRange 2) e x in h.1 (range.0, range.1.0)),
     )
@@ -33,8 +34,8 @@ pub method_range : (line : TraceLine) (r : Bool) (number class : ℕ) (name desc
     → (IsTrue r ↔ (IsNumber number × IsNumber class × (0 < length name) × (0 < length descriptor))) → IsTrue r ↔ IsInRange 2 line
 method_range line r number class name descriptor e p h =
     let own : HasRecord (Method number class name descriptor) = subst HasRecord e p in
-    let room : FitsWidth (Prefixed name) = own.room.1.1.0 in
-    let more : FitsWidth (Prefixed descriptor) = own.room.1.1.1.0 in (
+    let room : FitsWidth (Text name) = own.room.1.1.0 in
+    let more : FitsWidth (Text descriptor) = own.room.1.1.1.0 in (
       λ t. (let is : IsNumber number × IsNumber class × (0 < length name) × (0 < length descriptor) = h.0 t in
           subst (IsInRange 2) (sym e) (is.0, is.1, (is.2, room.1), (is.3, more.1), λ two. room.0, λ two. more.0)),
       λ x. (let range : IsInRange 2 (Method number class name descriptor) = subst (IsInRange 2) e x in h.1 (range.0, range.1, range.2.0, range.3.0)),
@@ -74,7 +75,7 @@ number_decided n fits = both (at_most 1 n) (Holds fits)
 object_decided : (n : ℕ) → Decided (IsObject n)
 object_decided n = both (at_most 1 n) (below n object_limit)
 
-text_decided : (name : List ℕ) → FitsWidth (Prefixed name) → Decided (IsText name)
+text_decided : (name : List ℕ) → FitsWidth (Text name) → Decided (IsText name)
 text_decided name room = both (below 0 (length name)) (Holds room.1)
 
 range_by : (line : TraceLine) → HasRecord line → AllByRecursion FitsWidth (packed_fields line) → Decided (IsInRange 2 line)

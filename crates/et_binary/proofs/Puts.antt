@@ -1,24 +1,44 @@
 -- What was put for a record is the record.
-use Rattle.std.proofs.Common.{◌≡◌, ℕ, true, List, [], ◌∷◌, ◌++◌, None, refl, sym, ap, subst, ◌∙◌, append_assoc}
+use Rattle.std.proofs.Common.{◌≡◌, ℕ, zero, suc, ◌+◌, ◌<◌, ◌≤◌, true, List, [], ◌∷◌, ◌++◌, length, take, get_or, None, refl, sym, ap, subst, ◌∙◌, add-one, arith}
 use Rattle.std.specs.Prelude.{reverse}
+use Rattle.std.specs.Int.{byte_len, to_be_bytes}
 use Rattle.std.specs.List.{flat_map}
-use Rattle.std.proofs.lemmas.List.{append-nil, reverse-append, reverse-reverse}
+use Rattle.std.proofs.lemmas.List.{append-nil, flat_map_more, reverse-append, reverse-reverse}
 use Rattle.std.proofs.lemmas.Grind.{flat_map-append}
 use Rattle.et_base.specs.declared.line.TraceLine.{TraceLine}
 use Rattle.et_base.specs.declared.line.TraceLine.TheVariants.{Header, Class, Method, Alloc, Update, Enter, Exit, Unwind, Flush, Death, Finish}
+use Rattle.et_text.specs.Fields.{numbers_of, width_of, line_bytes}
 use Rattle.et_text.specs.Rules.{has_ended, next_fault, AreFine, IsGood}
 use Rattle.et_text.proofs.Versions.{begins, one_header}
-use Rattle.et_binary.specs.Packing.{Prefixed, packed_field, packing, pack, written_record}
-use Rattle.et_binary.specs.Written.{written_field}
-use Rattle.et_binary.specs.declared.writing.Field.TheVariants as written
+use Rattle.et_text.specs.Spelling.{LineField, Number}
+use Rattle.et_text.specs.declared.fields.Width.{Width}
+use Rattle.et_text.specs.declared.fields.Width.TheVariants as widths
+use Rattle.et_binary.specs.Packing.{opening, packed_field, packing, pack, written_record}
 use Rattle.et_binary.proofs.SomePack.{pack_push}
 
-pub method_put : (old mid new : List ℕ) (number class : ℕ) (name descriptor : List ℕ) → mid ≡ old ++ 78 ∷ flat_map written_field (written.Word number ∷ written.Word class ∷ []) → new ≡ mid ++ (packed_field (Prefixed name) ++ packed_field (Prefixed descriptor))
-    → new ≡ old ++ packing (Method number class name descriptor)
-method_put old mid new number class name descriptor m e =
-    let first : List ℕ = 78 ∷ flat_map written_field (written.Word number ∷ written.Word class ∷ []) in
-    let names : List ℕ = packed_field (Prefixed name) ++ packed_field (Prefixed descriptor) in
-    e ∙ (ap (λ (t : List ℕ). t ++ names) m ∙ (append_assoc old first names ∙ ap (λ (t : List ℕ). old ++ (first ++ (packed_field (Prefixed name) ++ t))) (sym (append-nil (packed_field (Prefixed descriptor))))))
+-- how many bytes a number has at most
+pub wide : (w : Width) → byte_len (width_of w) ≤ 8
+wide widths.Byte = omega arith
+wide widths.Word = omega arith
+wide widths.Long = omega arith
+
+-- the numbers up to one, and that one
+numbers_more : (k : ℕ) (ws : List Width) (ns : List ℕ) (d : Width) → k < length ws → k < length ns
+    → numbers_of (take (suc k) ws) (take (suc k) ns) ≡ numbers_of (take k ws) (take k ns) ++ Number (width_of (get_or ws k d)) (get_or ns k 0) ∷ []
+numbers_more k [] ns d a b = absurd (omega arith)
+numbers_more k (w ∷ ws) [] d a b = absurd (omega arith)
+numbers_more zero (w ∷ ws) (n ∷ ns) d a b = refl
+numbers_more (suc k) (w ∷ ws) (n ∷ ns) d a b = ap (λ (t : List LineField). Number (width_of w) n ∷ t) (numbers_more k ws ns d (omega arith) (omega arith))
+
+pub numbers_put : (k letter : ℕ) (ws : List Width) (ns old new : List ℕ) (d : Width) → k < length ws → k < length ns
+    → old ≡ letter ∷ flat_map packed_field (numbers_of (take k ws) (take k ns)) → new ≡ old ++ to_be_bytes (width_of (get_or ws k d)) (get_or ns k 0)
+    → new ≡ letter ∷ flat_map packed_field (numbers_of (take (k + 1) ws) (take (k + 1) ns))
+numbers_put k letter ws ns old new d a b so_far more =
+    more ∙ rw (so_far, add-one, numbers_more k ws ns d a b) (flat_map_more packed_field (letter ∷ []) (numbers_of (take k ws) (take k ns)) (Number (width_of (get_or ws k d)) (get_or ns k 0)))
+
+pub line_packed : (line : TraceLine) → line_bytes (λ v interval. opening ++ packing (Header v interval)) packed_field line ≡ written_record line
+line_packed (Header v interval) = refl
+line_packed line = refl
 
 -- WHAT IS WRITTEN OF ALL LINES
 

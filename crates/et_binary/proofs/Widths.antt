@@ -12,7 +12,8 @@ use Rattle.et_base.specs.Numbers.{AreBytes}
 use Rattle.et_text.specs.Reading.{◌>>=◌}
 use Rattle.et_text.specs.Ranges.{IsShort}
 use Rattle.et_text.proofs.Numbers.{bind_some}
-use Rattle.et_binary.specs.Packing.{Prefixed, packed_field}
+use Rattle.et_text.specs.Spelling.{Text}
+use Rattle.et_binary.specs.Packing.{packed_field}
 use Rattle.et_binary.specs.Fronts.{number_front, name_front, turn_front}
 
 pub bytes-drop : (n : ℕ) (bytes : List ℕ) → AreBytes bytes → AreBytes (drop n bytes)
@@ -105,7 +106,7 @@ number_again w limit wide n rest lt =
 -- NAMES
 
 pub record IsNameTaken (bytes name rest : List ℕ) : Type 0 where
-  pub takes : Takes bytes (packed_field (Prefixed name)) rest
+  pub takes : Takes bytes (packed_field (Text name)) rest
   pub short : IsShort name
   pub small : All (λ b. b < 256) name
 
@@ -123,7 +124,7 @@ name_takes bytes name rest fits e =
     let len : length (take n.0 n.1) ≡ n.0 = omega (arith, length-take n.0 n.1) in
     let second : Takes n.1 (take n.0 n.1) (drop n.0 n.1) = record { parts = sym (take-append-drop n.0 n.1); rest_fits = bytes-drop n.0 n.1 t.0.rest_fits } in
     let both = takes_then bytes (to_be_bytes w32 n.0) n.1 (take n.0 n.1) (drop n.0 n.1) t.0 second in
-    let whole : Takes bytes (packed_field (Prefixed (take n.0 n.1))) (drop n.0 n.1) = subst (λ (k : ℕ). Takes bytes (to_be_bytes w32 k ++ take n.0 n.1) (drop n.0 n.1)) (sym len) both in
+    let whole : Takes bytes (packed_field (Text (take n.0 n.1))) (drop n.0 n.1) = subst (λ (k : ℕ). Takes bytes (to_be_bytes w32 k ++ take n.0 n.1) (drop n.0 n.1)) (sym len) both in
     let one : IsNameTaken bytes (take n.0 n.1) (drop n.0 n.1) = record { takes = whole; short = omega (arith, t.1); small = all_small (take n.0 n.1) (bytes-take n.0 n.1 t.0.rest_fits) } in
     subst (name_taken bytes) g.1 one
 

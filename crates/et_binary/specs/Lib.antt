@@ -4,4 +4,3 @@ pub mod Fronts
 pub mod Packing
 pub mod Packs
 pub mod Unpacking
-pub mod Written

@@ -4,17 +4,17 @@ use Rattle.std.specs.List.{AllByRecursion}
 use Rattle.std.specs.Int.{byte_len}
 use Rattle.et_base.specs.declared.line.TraceLine.{TraceLine}
 use Rattle.et_base.specs.declared.line.TraceLine.TheVariants.{Header}
-use Rattle.et_text.specs.Spelling.{letter}
+use Rattle.et_text.specs.Spelling.{LineField, Number, Text, letter}
 use Rattle.et_text.specs.Ranges.{IsInRange, IsShort}
 use Rattle.et_text.specs.Rules.{form, after, unended, has_ended, next_fault, AreFine, IsGood}
-use Rattle.et_binary.specs.Packing.{PackedField, Fixed, Prefixed, packed_fields, packing, opening, pack}
+use Rattle.et_binary.specs.Packing.{packed_fields, packing, opening, pack}
 
 -- RECORDS, whose numbers may be out of their ranges
 
 -- the field has room: a number in its width, a length in 32 bits
-abbrev pub FitsWidth : PackedField → Type 0
-FitsWidth (Fixed w n) = n < 256 ^ byte_len w
-FitsWidth (Prefixed name) = IsShort name × All (λ b. b < 256) name
+abbrev pub FitsWidth : LineField → Type 0
+FitsWidth (Number w n) = n < 256 ^ byte_len w
+FitsWidth (Text name) = IsShort name × All (λ b. b < 256) name
 
 -- the version of a header is 2
 abbrev pub SaysTwo : TraceLine → Type 0
