@@ -12,11 +12,11 @@ use Rattle.et_replay.specs.declared.model.Kind.{Kind}
 use Rattle.et_replay.specs.declared.model.Kind.TheVariants.{Generational}
 use Rattle.et_replay.specs.declared.model.Policy.{Policy}
 use Rattle.et_replay.specs.Feeding.{MayCome, HasItemRoom}
-use Rattle.et_replay.specs.Tally.{Heap, generations_on, generations_after, heap_by, heap_after, tally, is_exhausted}
+use Rattle.et_replay.specs.Tally.{Heap, account, generations_on, generations_after, heap_by, heap_after, tally, is_exhausted}
 use Rattle.et_models.specs.Tables.{Knows}
 use Rattle.et_models.specs.declared.places.Place.{Place}
 use Rattle.et_models.specs.declared.places.Place.TheVariants.{Nowhere}
-use Rattle.et_models.specs.Generations.{Both, Opens, KnowsPlaces, IsReadyToCollect, StepsBoth, StandsAs, account_of}
+use Rattle.et_models.specs.Generations.{Both, Opens, KnowsPlaces, IsReadyToCollect, StepsBoth, StandsAs}
 
 -- AT FIRST
 
@@ -100,8 +100,8 @@ stands_heap reached d own policy v n past t =
     ∙ (ap (λ (b : ℕ). generations_after reached policy.first b past) t.second_is
     ∙ sym (by_kind reached policy.kind policy.first policy.second past t.kind_is)))
 
-pub stands_tally : (reached : Graph → ℕ → Bool) → Decides reached → (own policy : Policy) (v : Both) (n : ℕ) (past : List Item) → StandsAs own policy v n past → account_of own v.heap ≡ tally reached policy past
-stands_tally reached d own policy v n past t = ap (λ (p : Policy). account_of p v.heap) t.policy_is ∙ ap (λ (h : Heap). account_of policy h) (stands_heap reached d own policy v n past t)
+pub stands_tally : (reached : Graph → ℕ → Bool) → Decides reached → (own policy : Policy) (v : Both) (n : ℕ) (past : List Item) → StandsAs own policy v n past → account own v.heap ≡ tally reached policy past
+stands_tally reached d own policy v n past t = ap (λ (p : Policy). account p v.heap) t.policy_is ∙ ap (λ (h : Heap). account policy h) (stands_heap reached d own policy v n past t)
 
 pub stands_exhausted : (reached : Graph → ℕ → Bool) → Decides reached → (own policy : Policy) (v : Both) (n : ℕ) (past : List Item) → StandsAs own policy v n past → is_some v.heap.exhausted ≡ is_exhausted reached policy past
 stands_exhausted reached d own policy v n past t = ap (λ (h : Heap). is_some h.exhausted) (stands_heap reached d own policy v n past t)

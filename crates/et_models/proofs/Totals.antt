@@ -16,13 +16,14 @@ use Rattle.et_replay.specs.Items.{made_objects}
 use Rattle.et_graph.specs.Graph.{Graph}
 use Rattle.et_replay.specs.declared.model.Kind.{Kind}
 use Rattle.et_replay.specs.declared.model.Report.{Report}
+use Rattle.et_replay.specs.declared.model.Totals.{Totals}
 use Rattle.et_models.specs.declared.space.Space.{Space}
-use Rattle.et_replay.specs.Tally.{heap_by, heap_after, tally, Heap, fits_capacity, live_of, collect, exhaust, place, place_with, space_on, space_after}
+use Rattle.et_replay.specs.Tally.{heap_by, heap_after, account, totals_of, tally, Heap, fits_capacity, live_of, collect, exhaust, place, space_on, space_after}
 use Rattle.et_replay.proofs.ByKey.{filter_same}
 use Rattle.et_replay.specs.Fed.{AreFed}
 use Rattle.et_models.specs.Tables.{size_at, flag_at, with_size, with_flag, Knows}
 use Rattle.et_replay.specs.declared.model.Policy.{Policy}
-use Rattle.et_models.specs.Spaces.{View, view_of, Accounts, account, collected, has_place, roomy, object_placed, unflagged, IsReplayedHeap}
+use Rattle.et_models.specs.Spaces.{View, view_of, Accounts, collected, has_place, roomy, object_placed, unflagged, IsReplayedHeap}
 use Rattle.et_replay.proofs.Coming.{AreMade, in_range, sum_same, bytes_stay, size_here, size_there, all_low, few_made}
 use Rattle.et_models.proofs.Facts.{HasFacts, facts_ready, space_facts}
 
@@ -49,6 +50,7 @@ collected_is n past v heap most f h a =
       knows = h.knows;
       held_is = live;
       bytes_is = kept;
+      minor_is = h.minor_is;
       major_is = omega (arith, m);
       kept_is = omega (arith, k, kept);
       freed_is = omega (arith, r, b, kept, parts);
@@ -104,6 +106,7 @@ placed_is n past v heap most event object size c h a =
         knows = knows;
         held_is = ap (λ (xs : List ℕ). xs ++ object ∷ []) h.held_is;
         bytes_is = total;
+        minor_is = h.minor_is;
         major_is = h.major_is;
         kept_is = h.kept_is;
         freed_is = h.freed_is;
@@ -114,6 +117,7 @@ placed_is n past v heap most event object size c h a =
         knows = knows;
         held_is = h.held_is;
         bytes_is = omega (arith, b, same);
+        minor_is = h.minor_is;
         major_is = h.major_is;
         kept_is = h.kept_is;
         freed_is = h.freed_is;
@@ -144,7 +148,7 @@ pub wrote_is : (n : ℕ) (past : List Item) (v : View) (event object slot new : 
 wrote_is n past v event object slot new none h =
     let heap = space_after v.capacity past in
     subst (λ (g : Heap). IsReplayedHeap v n (Write event object slot new ∷ past) g) (elim (is_some heap.exhausted) as (λ t. heap ≡ cond t heap heap) [ true ↦ refl | false ↦ refl ])
-    (record { knows = record { sizes_long = h.knows.sizes_long; dead_long = h.knows.dead_long; size_is = h.knows.size_is; dead_is = h.knows.dead_is }; held_is = h.held_is; bytes_is = h.bytes_is; major_is = h.major_is; kept_is = h.kept_is; freed_is = h.freed_is; peak_is = h.peak_is; exhausted_is = h.exhausted_is })
+    (record { knows = record { sizes_long = h.knows.sizes_long; dead_long = h.knows.dead_long; size_is = h.knows.size_is; dead_is = h.knows.dead_is }; held_is = h.held_is; bytes_is = h.bytes_is; minor_is = h.minor_is; major_is = h.major_is; kept_is = h.kept_is; freed_is = h.freed_is; peak_is = h.peak_is; exhausted_is = h.exhausted_is })
 
 -- a Death item
 pub knows_death : (n : ℕ) (past : List Item) (s : List (Option ℕ)) (d : List Bool) (object time : ℕ) → Knows s d n past → Knows s (with_flag d object) n (Death object time ∷ past)
@@ -172,7 +176,7 @@ pub died_is : (n : ℕ) (past : List Item) (v : View) (object time : ℕ) → v.
 died_is n past v object time none h =
     let heap = space_after v.capacity past in
     subst (λ (g : Heap). IsReplayedHeap (record v { dead = with_flag v.dead object }) n (Death object time ∷ past) g) (elim (is_some heap.exhausted) as (λ t. heap ≡ cond t heap heap) [ true ↦ refl | false ↦ refl ])
-    (record { knows = knows_death n past v.sizes v.dead object time h.knows; held_is = h.held_is; bytes_is = h.bytes_is; major_is = h.major_is; kept_is = h.kept_is; freed_is = h.freed_is; peak_is = h.peak_is; exhausted_is = h.exhausted_is })
+    (record { knows = knows_death n past v.sizes v.dead object time h.knows; held_is = h.held_is; bytes_is = h.bytes_is; minor_is = h.minor_is; major_is = h.major_is; kept_is = h.kept_is; freed_is = h.freed_is; peak_is = h.peak_is; exhausted_is = h.exhausted_is })
 
 -- what is kept is no more than all
 pub kept_le : (s s' : List (Option ℕ)) (d d' : List Bool) (held xs : List ℕ) → s' ≡ s → d' ≡ d → xs ≡ unflagged d' held → sum_by (size_at s') xs ≤ sum_by (size_at s) held
@@ -243,49 +247,18 @@ placed_capacity event object size v = after_place (roomy size v) ∙ after_room
     after_place : (u : View) → (object_placed event object size u).capacity ≡ u.capacity
     after_place u = elim (has_place size u) as (λ b. (cond b (record u { sizes = with_size u.sizes object size; held = u.held ++ object ∷ []; bytes = u.bytes + size; peak = max u.peak (u.bytes + size) }) (record u { sizes = with_size u.sizes object size; exhausted = Some event })).capacity ≡ u.capacity) [ true ↦ refl | false ↦ refl ]
 
--- the account of a space
-pub is_account : (n : ℕ) (past : List Item) (v : View) (policy : Policy) (heap : Heap) → IsReplayedHeap v n past heap → account policy v ≡ record { kind = policy.kind; first = policy.first; second = policy.second; minor = 0; major = heap.major; kept = heap.kept; freed = heap.freed; peak = heap.peak; exhausted = heap.exhausted }
-is_account n past v policy heap h =
-    let a = h.major_is in let b = h.kept_is in let c = h.freed_is in let d = h.peak_is in let e = h.exhausted_is in
+-- the totals of a space are those of the heap
+totals_are : (n : ℕ) (past : List Item) (v : View) (heap : Heap) (totals : Totals) → IsReplayedHeap v n past heap → totals ≡ record { minor = v.minor; major = v.major; kept = v.kept; freed = v.freed; peak = v.peak; exhausted = v.exhausted } → totals ≡ totals_of heap
+totals_are n past v heap totals h is =
+    let f = h.minor_is in let a = h.major_is in let b = h.kept_is in let c = h.freed_is in let d = h.peak_is in let e = h.exhausted_is in
     cc
 
-abbrev report_by : Policy → Heap → Report
-report_by policy heap = record { kind = policy.kind; first = policy.first; second = policy.second; minor = heap.minor; major = heap.major; kept = heap.kept; freed = heap.freed; peak = heap.peak; exhausted = heap.exhausted }
-
--- one space has no minor collections
-no_minor_with : (capacity : ℕ) (past : List Item) (event object size : ℕ) (heap : Heap) → heap.minor ≡ 0 → (place_with collect capacity past event object size heap).minor ≡ 0
-no_minor_with capacity past event object size heap h = settled (cond (fits_capacity past heap.space size capacity) heap (collect past heap)) ready
-  where
-    ready : (cond (fits_capacity past heap.space size capacity) heap (collect past heap)).minor ≡ 0
-    ready = elim (fits_capacity past heap.space size capacity) as (λ b. (cond b heap (collect past heap)).minor ≡ 0) [ true ↦ h | false ↦ h ]
-
-    settled : (g : Heap) → g.minor ≡ 0 → (cond (fits_capacity past g.space size capacity) (place (Alloc event object size ∷ past) object g) (exhaust event g)).minor ≡ 0
-    settled g e = elim (fits_capacity past g.space size capacity) as (λ b. (cond b (place (Alloc event object size ∷ past) object g) (exhaust event g)).minor ≡ 0) [ true ↦ e | false ↦ e ]
-
-no_minor_on : (capacity : ℕ) (past : List Item) (item : Item) (heap : Heap) → heap.minor ≡ 0 → (space_on capacity past item heap).minor ≡ 0
-no_minor_on capacity past (Alloc event object size) heap h = no_minor_with capacity past event object size heap h
-no_minor_on capacity past (Write event object slot new) heap h = h
-no_minor_on capacity past (Death object time) heap h = h
-
-no_minor : (capacity : ℕ) (past : List Item) → (space_after capacity past).minor ≡ 0
-no_minor capacity [] = refl
-no_minor capacity (item ∷ past) =
-    let heap = space_after capacity past in
-    let ih = no_minor capacity past in
-    elim (is_some heap.exhausted) as (λ b. (cond b heap (space_on capacity past item heap)).minor ≡ 0) [ true ↦ ih | false ↦ no_minor_on capacity past item heap ih ]
-
-abbrev without_minor : Policy → Heap → Report
-without_minor policy heap = record { kind = policy.kind; first = policy.first; second = policy.second; minor = 0; major = heap.major; kept = heap.kept; freed = heap.freed; peak = heap.peak; exhausted = heap.exhausted }
-
-minor_none : (policy : Policy) (heap : Heap) → heap.minor ≡ 0 → without_minor policy heap ≡ report_by policy heap
-minor_none policy heap e = cc
-
 -- the report of a space is the tally of its policy
-pub is_tally : (reached : Graph → ℕ → Bool) (space : Space) (own policy : Policy) (kind : Kind) (capacity n : ℕ) (past : List Item) → ((k : Kind) → k ≡ kind → heap_by reached k policy.first policy.second past ≡ space_after capacity past) → Accounts own policy kind capacity space n past → account own (view_of space) ≡ tally reached policy past
+pub is_tally : (reached : Graph → ℕ → Bool) (space : Space) (own policy : Policy) (kind : Kind) (capacity n : ℕ) (past : List Item) → ((k : Kind) → k ≡ kind → heap_by reached k policy.first policy.second past ≡ space_after capacity past) → Accounts own policy kind capacity space n past → record { policy = own; totals = space.totals } ≡ tally reached policy past
 is_tally reached space own policy kind capacity n past by a =
-    let v = view_of space in
     let s = a.stands in
-    let heap : heap_after reached policy past ≡ space_after v.capacity past = by policy.kind a.kind_is ∙ ap (λ (k : ℕ). space_after k past) (sym a.capacity_is) in
-    ap (λ (p : Policy). account p v) a.policy_is
-    ∙ (is_account n past v policy (space_after v.capacity past) s.heap
-    ∙ (minor_none policy (space_after v.capacity past) (no_minor v.capacity past) ∙ ap (λ (h : Heap). report_by policy h) (sym heap)))
+    let heap : heap_after reached policy past ≡ space_after space.capacity past = by policy.kind a.kind_is ∙ ap (λ (k : ℕ). space_after k past) (sym a.capacity_is) in
+    let totals = totals_are n past (view_of space) (space_after space.capacity past) space.totals s.heap refl in
+    let own_is = a.policy_is in
+    let to : Policy → Totals → Report = λ p t. record { policy = p; totals = t } in
+    ap (λ (p : Policy). to p space.totals) own_is ∙ (ap (λ (t : Totals). to policy t) totals ∙ ap (λ (h : Heap). account policy h) (sym heap))

@@ -7,7 +7,6 @@ use Rattle.indexmap.specs.IndexSet.{insert_key}
 use Rattle.et_graph.specs.Graph.{Graph, Decides}
 use Rattle.et_replay.specs.declared.item.Item.{Item}
 use Rattle.et_replay.specs.declared.model.Policy.{Policy}
-use Rattle.et_replay.specs.declared.model.Report.{Report}
 use Rattle.et_replay.specs.Heap.{bytes, is_made, content}
 use Rattle.et_replay.specs.Items.{made_objects, sizes}
 use Rattle.et_replay.specs.Feeding.{MayCome}
@@ -48,7 +47,7 @@ both_of g = record {
   early = g.early.keys;
   young_bytes = g.nursery_bytes;
   old_bytes = g.space_bytes;
-  heap = record { nursery = g.nursery.items; space = g.space.items; minor = g.minor; major = g.major; kept = g.kept; freed = g.freed; peak = g.peak; exhausted = g.exhausted };
+  heap = record { nursery = g.nursery.items; space = g.space.items; minor = g.totals.minor; major = g.totals.major; kept = g.totals.kept; freed = g.totals.freed; peak = g.totals.peak; exhausted = g.totals.exhausted };
 }
 
 abbrev pub new_both : Both
@@ -90,18 +89,20 @@ reference_noted object new v =
     else if is_some (slice_index_or v.sizes new None) then (if is_old (place_at v.places object) && is_nursery (place_at v.places new) then record v { remembered = insert_key nat_eq v.remembered object } else v)
     else record v { early = insert_key nat_eq v.early object }
 
--- after the objects that were marked went to the old space
-abbrev pub promoted : List Place → List Place → Both → Both
-promoted marked places v =
-    let kept = filter (λ o. is_kept (place_at marked o)) v.heap.nursery in
+-- after a minor collection kept these objects, which went to the old space
+abbrev pub moved : List ℕ → Both → Both
+moved kept v =
     let more = sum_by (size_at v.sizes) kept in
     record v {
-      places = places;
       remembered = [];
       young_bytes = 0;
       old_bytes = v.old_bytes + more;
       heap = record v.heap { nursery = []; space = v.heap.space ++ kept; minor = v.heap.minor + 1; kept = v.heap.kept + more };
     }
+
+-- after the objects that were marked went there
+abbrev pub promoted : List Place → List Place → Both → Both
+promoted marked places v = record (moved (filter (λ o. is_kept (place_at marked o)) v.heap.nursery) v) { places = places }
 
 -- a minor collection marked what is reached, and promoted it
 pub record Promotes (v v' : Both) : Type 0 where
@@ -175,10 +176,6 @@ pub record StepsBoth (item : Item) (v v' : Both) : Type 0 where
   pub stable : (objects : ℕ) (past : List Item) → MayCome objects past item → IsStable v objects past → IsStable v' objects (item ∷ past)
   pub heap_is : (objects : ℕ) (past : List Item) → MayCome objects past item → IsStable v objects past →
       (reached : Graph → ℕ → Bool) → Decides reached → v'.heap ≡ generations_on reached v.first v.second past item v.heap
-
--- the report
-abbrev pub account_of : Policy → Heap → Report
-account_of policy heap = record { kind = policy.kind; first = policy.first; second = policy.second; minor = heap.minor; major = heap.major; kept = heap.kept; freed = heap.freed; peak = heap.peak; exhausted = heap.exhausted }
 
 -- the two spaces stand for these items, and account for them by the policy
 pub record StandsAs (own policy : Policy) (v : Both) (objects : ℕ) (past : List Item) : Type 0 where

@@ -4,7 +4,6 @@ use Rattle.std.specs.List.{sum_by}
 use Rattle.et_replay.specs.declared.item.Item.{Item}
 use Rattle.et_replay.specs.declared.model.Kind.{Kind}
 use Rattle.et_replay.specs.declared.model.Policy.{Policy}
-use Rattle.et_replay.specs.declared.model.Report.{Report}
 use Rattle.et_replay.specs.Heap.{bytes}
 use Rattle.et_replay.specs.Tally.{Heap, space_after}
 use Rattle.et_replay.specs.Fed.{AreFed}
@@ -18,6 +17,7 @@ pub record View : Type 0 where
   pub dead : List Bool
   pub held : List ℕ
   pub bytes : ℕ
+  pub minor : ℕ
   pub major : ℕ
   pub kept : ℕ
   pub freed : ℕ
@@ -31,15 +31,16 @@ view_of s = record {
   dead = s.dead.items;
   held = s.held.items;
   bytes = s.bytes;
-  major = s.major;
-  kept = s.kept;
-  freed = s.freed;
-  peak = s.peak;
-  exhausted = s.exhausted;
+  minor = s.totals.minor;
+  major = s.totals.major;
+  kept = s.totals.kept;
+  freed = s.totals.freed;
+  peak = s.totals.peak;
+  exhausted = s.totals.exhausted;
 }
 
 abbrev pub new_view : View
-new_view = record { capacity = 0; sizes = []; dead = []; held = []; bytes = 0; major = 0; kept = 0; freed = 0; peak = 0; exhausted = None }
+new_view = record { capacity = 0; sizes = []; dead = []; held = []; bytes = 0; minor = 0; major = 0; kept = 0; freed = 0; peak = 0; exhausted = None }
 
 abbrev pub unflagged : List Bool → List ℕ → List ℕ
 unflagged dead objects = filter (λ object. not (flag_at dead object)) objects
@@ -66,15 +67,12 @@ object_placed event object size v =
     then record v { sizes = with_size v.sizes object size; held = v.held ++ object ∷ []; bytes = v.bytes + size; peak = max v.peak (v.bytes + size) }
     else record v { sizes = with_size v.sizes object size; exhausted = Some event }
 
--- the report
-abbrev pub account : Policy → View → Report
-account policy v = record { kind = policy.kind; first = policy.first; second = policy.second; minor = 0; major = v.major; kept = v.kept; freed = v.freed; peak = v.peak; exhausted = v.exhausted }
-
 -- the running totals are those of the heap
 pub record IsReplayedHeap (v : View) (objects : ℕ) (past : List Item) (heap : Heap) : Type 0 where
   pub knows : Knows v.sizes v.dead objects past
   pub held_is : v.held ≡ heap.space
   pub bytes_is : v.bytes ≡ bytes past heap.space
+  pub minor_is : v.minor ≡ heap.minor
   pub major_is : v.major ≡ heap.major
   pub kept_is : v.kept ≡ heap.kept
   pub freed_is : v.freed ≡ heap.freed

@@ -61,7 +61,7 @@ impl HeapModel for Generational {
         let Ok(()) = self.heap.take(item) else {
             return Fed::NoMemory;
         };
-        if self.heap.exhausted.is_some() {
+        if self.heap.totals.exhausted.is_some() {
             Fed::Exhausted
         } else {
             Fed::Ok
@@ -69,6 +69,9 @@ impl HeapModel for Generational {
     }
 
     fn report(&self) -> Report {
-        self.heap.report(self.policy)
+        Report {
+            policy: self.policy,
+            totals: self.heap.totals,
+        }
     }
 }

@@ -4,7 +4,7 @@ ghost use Rattle.std.specs.List.{sum_by};
 ghost use Rattle.et_replay.specs.Feeding.{MayCome};
 ghost use Rattle.et_replay.specs.declared.item.Item.{Item};
 ghost use Rattle.et_replay.specs.declared.item.Item.TheVariants.{Alloc, Write, Death};
-ghost use Rattle.et_models.specs.Generations.{both_of, new_both, swept, placed_young, placed_old, left_out, reference_noted, Opens, Promotes, Collects, IsStable, StepsBoth, account_of};
+ghost use Rattle.et_models.specs.Generations.{both_of, new_both, swept, moved, placed_young, placed_old, left_out, reference_noted, Opens, Promotes, Collects, IsStable, StepsBoth};
 ghost use Rattle.et_models.specs.Tables.{size_at};
 
 use crate::marks::{push_kept, search_nursery, settle, take_dead};
@@ -13,7 +13,7 @@ use crate::remembered::remember;
 use crate::slots::{make_slots, write_slot};
 use crate::tables::{bytes_of, is_sized, keep_unflagged, set_flag, set_size};
 use et_base::NoMemory;
-use et_replay::{Item, Policy, Report};
+use et_replay::{Item, Totals};
 use indexmap::IndexSet;
 use std::alloc::Global;
 use std::collections::BTreeMap;
@@ -42,13 +42,7 @@ pub struct Generations {
     pub nursery_bytes: u64,
     pub space: Vec<u32>,
     pub space_bytes: u64,
-    pub minor: u64,
-    pub major: u64,
-    /// The bytes that minor collections promoted.
-    pub kept: u128,
-    pub freed: u64,
-    pub peak: u64,
-    pub exhausted: Option<u64>,
+    pub totals: Totals,
 }
 
 impl Generations {
@@ -70,12 +64,7 @@ impl Generations {
             nursery_bytes: 0,
             space: Vec::new(alloc),
             space_bytes: 0,
-            minor: 0,
-            major: 0,
-            kept: 0,
-            freed: 0,
-            peak: 0,
-            exhausted: None,
+            totals: Totals::begin(),
         }
     }
 
@@ -99,15 +88,15 @@ impl Generations {
     fn sweep(&mut self)
         requires bytes { sum_by (size_at self.old.sizes.items) self.old.space.items
             ≤ self.old.space_bytes }
-        requires major { self.old.major + 1 < 2 ^ 64 }
-        requires freed { self.old.freed + self.old.space_bytes < 2 ^ 64 }
+        requires major { self.old.totals.major + 1 < 2 ^ 64 }
+        requires freed { self.old.totals.freed + self.old.space_bytes < 2 ^ 64 }
         ensures { both_of self.new ≡ swept (both_of self.old) }
     {
         take_dead(&self.space, &self.dead, &mut self.places);
         keep_unflagged(&mut self.space, &self.dead);
         let kept = bytes_of(&self.sizes, &self.space);
-        self.major += 1;
-        self.freed += self.space_bytes - kept;
+        self.totals.major += 1;
+        self.totals.freed += self.space_bytes - kept;
         self.space_bytes = kept;
     }
 
@@ -115,8 +104,8 @@ impl Generations {
     fn promote(&mut self) -> Result<(), NoMemory>
         requires bytes { sum_by (size_at self.old.sizes.items) self.old.nursery.items
             + self.old.space_bytes < 2 ^ 64 }
-        requires minor { self.old.minor + 1 < 2 ^ 64 }
-        requires kept { self.old.kept + sum_by (size_at self.old.sizes.items) self.old.nursery.items
+        requires minor { self.old.totals.minor + 1 < 2 ^ 64 }
+        requires kept { self.old.totals.kept + sum_by (size_at self.old.sizes.items) self.old.nursery.items
             < 2 ^ 128 }
         ensures { OnOk result (Promotes (both_of self.old) (both_of self.new)) }
     {
@@ -133,14 +122,26 @@ impl Generations {
         let mut kept = Vec::new(self.alloc);
         push_kept(&self.nursery, &self.places, &mut kept)?;
         settle(&self.nursery, &mut self.places);
-        let bytes = bytes_of(&self.sizes, &kept);
-        self.space.extend_from_slice(&kept)?;
+        self.move_kept(&kept)
+    }
+
+    /// Moves these objects of the nursery to the old space, and empties the nursery.
+    fn move_kept(&mut self, kept: &[u32]) -> Result<(), NoMemory>
+        requires bytes { sum_by (size_at self.old.sizes.items) kept.now
+            + self.old.space_bytes < 2 ^ 64 }
+        requires minor { self.old.totals.minor + 1 < 2 ^ 64 }
+        requires kept { self.old.totals.kept + sum_by (size_at self.old.sizes.items) kept.now
+            < 2 ^ 128 }
+        ensures { OnOk result (both_of self.new ≡ moved kept.now (both_of self.old)) }
+    {
+        let bytes = bytes_of(&self.sizes, kept);
+        self.space.extend_from_slice(kept)?;
         self.remembered.clear();
         self.nursery.clear();
         self.nursery_bytes = 0;
         self.space_bytes += bytes;
-        self.minor += 1;
-        self.kept += u128::from(bytes);
+        self.totals.minor += 1;
+        self.totals.kept += u128::from(bytes);
         Ok(())
     }
 
@@ -153,7 +154,7 @@ impl Generations {
         set_size(&mut self.sizes, object, size);
         set_place(&mut self.places, object, Place::Nursery);
         self.nursery_bytes += u64::from(size);
-        self.peak = self.peak.max(self.nursery_bytes + self.space_bytes);
+        self.totals.peak = self.totals.peak.max(self.nursery_bytes + self.space_bytes);
         Ok(())
     }
 
@@ -166,7 +167,7 @@ impl Generations {
         set_size(&mut self.sizes, object, size);
         set_place(&mut self.places, object, Place::Old);
         self.space_bytes += u64::from(size);
-        self.peak = self.peak.max(self.nursery_bytes + self.space_bytes);
+        self.totals.peak = self.totals.peak.max(self.nursery_bytes + self.space_bytes);
         Ok(())
     }
 
@@ -175,7 +176,7 @@ impl Generations {
         ensures { both_of self.new ≡ left_out event object size (both_of self.old) }
     {
         set_size(&mut self.sizes, object, size);
-        self.exhausted = Some(event);
+        self.totals.exhausted = Some(event);
     }
 
     /// A minor collection, and a major one where the old space is too full then.
@@ -273,23 +274,6 @@ impl Generations {
         ensures { (time : ℕ) → StepsBoth (Death object time) (both_of self.old) (both_of self.new) }
     {
         set_flag(&mut self.dead, object);
-    }
-
-    /// The account of the two spaces by their policy.
-    pub fn report(&self, policy: Policy) -> Report
-        ensures { result ≡ account_of policy (both_of self.now).heap }
-    {
-        Report {
-            kind: policy.kind,
-            first: policy.first,
-            second: policy.second,
-            minor: self.minor,
-            major: self.major,
-            kept: self.kept,
-            freed: self.freed,
-            peak: self.peak,
-            exhausted: self.exhausted,
-        }
     }
 
     /// Takes an item. Where there is no room for its object, `exhausted` has the event.

@@ -151,7 +151,7 @@ impl<C: Collected + Drop> HeapModel for OneSpace<C> {
         ensures no_memory { result ≢ Fed.NoMemory }
     {
         self.space.feed(item);
-        if self.space.exhausted.is_some() {
+        if self.space.totals.exhausted.is_some() {
             Fed::Exhausted
         } else {
             Fed::Ok
@@ -159,6 +159,9 @@ impl<C: Collected + Drop> HeapModel for OneSpace<C> {
     }
 
     fn report(&self) -> Report {
-        self.space.report(self.policy)
+        Report {
+            policy: self.policy,
+            totals: self.space.totals,
+        }
     }
 }

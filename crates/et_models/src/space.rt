@@ -5,12 +5,12 @@ ghost use Rattle.et_graph.specs.Graph.{Graph};
 ghost use Rattle.et_replay.specs.Feeding.{MayCome};
 ghost use Rattle.et_replay.specs.Tally.{space_after};
 ghost use Rattle.et_replay.specs.declared.item.Item.{Item};
-ghost use Rattle.et_models.specs.Spaces.{view_of, new_view, account, collected, roomy, object_placed, IsSpaceOf};
+ghost use Rattle.et_models.specs.Spaces.{view_of, new_view, collected, roomy, object_placed, IsSpaceOf};
 ghost use Rattle.et_models.specs.Tables.{size_at};
 
 use crate::tables::{bytes_of, keep_unflagged, push_within, set_flag, set_size};
 use et_base::NoMemory;
-use et_replay::{Item, Policy, Report};
+use et_replay::{Item, Totals};
 use std::alloc::Global;
 
 /// A space, the objects in it, and its running totals.
@@ -26,11 +26,7 @@ pub struct Space {
     pub held: Vec<u32>,
     /// Their bytes.
     pub bytes: u64,
-    pub major: u64,
-    pub kept: u128,
-    pub freed: u64,
-    pub peak: u64,
-    pub exhausted: Option<u64>,
+    pub totals: Totals,
 }
 
 impl Space {
@@ -44,11 +40,7 @@ impl Space {
             dead: Vec::new(alloc),
             held: Vec::new(alloc),
             bytes: 0,
-            major: 0,
-            kept: 0,
-            freed: 0,
-            peak: 0,
-            exhausted: None,
+            totals: Totals::begin(),
         }
     }
 
@@ -71,17 +63,17 @@ impl Space {
     fn collect(&mut self)
         requires bytes { sum_by (size_at self.old.sizes.items) self.old.held.items
             ≤ self.old.bytes }
-        requires major { self.old.major + 1 < 2 ^ 64 }
-        requires kept { self.old.kept + self.old.bytes < 2 ^ 128 }
-        requires freed { self.old.freed + self.old.bytes < 2 ^ 64 }
+        requires major { self.old.totals.major + 1 < 2 ^ 64 }
+        requires kept { self.old.totals.kept + self.old.bytes < 2 ^ 128 }
+        requires freed { self.old.totals.freed + self.old.bytes < 2 ^ 64 }
         ensures view { view_of self.new ≡ collected (view_of self.old) }
         ensures room { vec_capacity self.new.held ≡ vec_capacity self.old.held }
     {
         keep_unflagged(&mut self.held, &self.dead);
         let kept = bytes_of(&self.sizes, &self.held);
-        self.major += 1;
-        self.kept += u128::from(kept);
-        self.freed += self.bytes - kept;
+        self.totals.major += 1;
+        self.totals.kept += u128::from(kept);
+        self.totals.freed += self.bytes - kept;
         self.bytes = kept;
     }
 
@@ -90,9 +82,9 @@ impl Space {
         requires fits { self.old.bytes + size < 2 ^ 64 }
         requires bytes { sum_by (size_at self.old.sizes.items) self.old.held.items
             ≤ self.old.bytes }
-        requires major { self.old.major + 1 < 2 ^ 64 }
-        requires kept { self.old.kept + self.old.bytes < 2 ^ 128 }
-        requires freed { self.old.freed + self.old.bytes < 2 ^ 64 }
+        requires major { self.old.totals.major + 1 < 2 ^ 64 }
+        requires kept { self.old.totals.kept + self.old.bytes < 2 ^ 128 }
+        requires freed { self.old.totals.freed + self.old.bytes < 2 ^ 64 }
         ensures view { view_of self.new ≡ roomy size (view_of self.old) }
         ensures room { vec_capacity self.new.held ≡ vec_capacity self.old.held }
     {
@@ -111,18 +103,18 @@ impl Space {
         set_size(&mut self.sizes, object, size);
         let bytes = self.bytes + u64::from(size);
         if bytes > self.capacity {
-            self.exhausted = Some(event);
+            self.totals.exhausted = Some(event);
             return;
         }
         push_within(&mut self.held, object);
         self.bytes = bytes;
-        self.peak = self.peak.max(bytes);
+        self.totals.peak = self.totals.peak.max(bytes);
     }
 
     /// Takes an item. Where there is no room for its object, `exhausted` has the event.
     pub fn feed(&mut self, item: &Item)
         requires stands { (objects : ℕ) × (past : List Item) × IsSpaceOf self.old objects past
-            × (self.old.exhausted ≡ None) × MayCome objects past item.now }
+            × (self.old.totals.exhausted ≡ None) × MayCome objects past item.now }
         ensures stands { (objects : ℕ) (past : List Item) →
             IsSpaceOf self.old objects past → IsSpaceOf self.new objects (item.now ∷ past) }
         ensures capacity { self.new.capacity ≡ self.old.capacity }
@@ -138,23 +130,6 @@ impl Space {
             }
             Item::Write { .. } => {}
             Item::Death { object, .. } => set_flag(&mut self.dead, *object),
-        }
-    }
-
-    /// The account of the space by its policy.
-    pub fn report(&self, policy: Policy) -> Report
-        ensures { result ≡ account policy (view_of self.now) }
-    {
-        Report {
-            kind: policy.kind,
-            first: policy.first,
-            second: policy.second,
-            minor: 0,
-            major: self.major,
-            kept: self.kept,
-            freed: self.freed,
-            peak: self.peak,
-            exhausted: self.exhausted,
         }
     }
 }

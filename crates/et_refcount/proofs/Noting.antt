@@ -132,8 +132,8 @@ module _ (v : View) (n : ℕ) (past : List Item) (c : Counted) (event object siz
           peak_is = t.peak_is;
           exhausted_is = refl;
           nursery_none = t.nursery_none;
-          minor_none = t.minor_none;
-          major_none = t.major_none;
+          minor_is = t.minor_is;
+          major_is = t.major_is;
           sums = omega (arith, sums, b, sum_by-cons (λ x. x) size (sizes past));
         };
         leaked_is = h.leaked_is;
@@ -223,8 +223,8 @@ module _ (v : View) (n : ℕ) (past : List Item) (c : Counted) (event object siz
           peak_is = ap (λ (p : ℕ). max p (v.bytes + size)) t.peak_is ∙ ap (λ (p : ℕ). max c.heap.peak p) (plus young total);
           exhausted_is = t.exhausted_is;
           nursery_none = t.nursery_none;
-          minor_none = t.minor_none;
-          major_none = t.major_none;
+          minor_is = t.minor_is;
+          major_is = t.major_is;
           sums = omega (arith, sums, total, bi, sum_by-cons (λ x. x) size (sizes past));
         };
         leaked_is = elim (cases_Bool (flag_at v.tables.dead object)) [
@@ -329,7 +329,7 @@ module _ (v : View) (n : ℕ) (past : List Item) (c : Counted) (object time : �
         | inl q ↦ subst (λ (z : ℕ). flag_at v.tables.dead z ≡ (eqb object z || flag_at v.tables.dead z)) q.1 (e ∙ sym (ap (λ (b : Bool). eqb object object || b) e ∙ or_true (eqb object object)))
         | inr q ↦ sym (ap (λ (b : Bool). b || flag_at v.tables.dead o) q.0)
       ]);
-      totals = record { bytes_is = h.totals.bytes_is; freed_is = h.totals.freed_is; peak_is = h.totals.peak_is; exhausted_is = h.totals.exhausted_is; nursery_none = h.totals.nursery_none; minor_none = h.totals.minor_none; major_none = h.totals.major_none; sums = h.totals.sums };
+      totals = record { bytes_is = h.totals.bytes_is; freed_is = h.totals.freed_is; peak_is = h.totals.peak_is; exhausted_is = h.totals.exhausted_is; nursery_none = h.totals.nursery_none; minor_is = h.totals.minor_is; major_is = h.totals.major_is; sums = h.totals.sums };
       leaked_is = (let l = death_leaks true e in omega (arith, l));
       only = λ o k l. not_both (is_left v.tables.dead v.tables.counts o) l (h.none o k);
     })
@@ -345,7 +345,7 @@ module _ (v : View) (n : ℕ) (past : List Item) (c : Counted) (object time : �
                 subst (λ (z : ℕ). flag_at dead z ≡ (eqb object z || flag_at v.tables.dead z)) q.1 (get_or-set_same v.tables.dead object true false lt ∙ sym (ap (λ (b : Bool). b || flag_at v.tables.dead object) (itself object)))
             | inr q ↦ get_or-set_other v.tables.dead object o true false (λ r. q.1 (sym r)) ∙ sym (ap (λ (b : Bool). b || flag_at v.tables.dead o) q.0)
           ]);
-          totals = record { bytes_is = h.totals.bytes_is; freed_is = h.totals.freed_is; peak_is = h.totals.peak_is; exhausted_is = h.totals.exhausted_is; nursery_none = h.totals.nursery_none; minor_none = h.totals.minor_none; major_none = h.totals.major_none; sums = h.totals.sums };
+          totals = record { bytes_is = h.totals.bytes_is; freed_is = h.totals.freed_is; peak_is = h.totals.peak_is; exhausted_is = h.totals.exhausted_is; nursery_none = h.totals.nursery_none; minor_is = h.totals.minor_is; major_is = h.totals.major_is; sums = h.totals.sums };
           leaked_is = death_leaks false e;
           only = λ o k l. elim (cases_eqb o object) [
             | inl q ↦ q.1
@@ -523,7 +523,7 @@ module _ (v v' : View) (n : ℕ) (past : List Item) (c : Counted) (event object 
       few = h.few;
       fed = (h.fed, tt);
       agrees = unchanged;
-      totals = record { bytes_is = h.totals.bytes_is; freed_is = h.totals.freed_is; peak_is = h.totals.peak_is; exhausted_is = h.totals.exhausted_is; nursery_none = h.totals.nursery_none; minor_none = h.totals.minor_none; major_none = h.totals.major_none; sums = h.totals.sums };
+      totals = record { bytes_is = h.totals.bytes_is; freed_is = h.totals.freed_is; peak_is = h.totals.peak_is; exhausted_is = h.totals.exhausted_is; nursery_none = h.totals.nursery_none; minor_is = h.totals.minor_is; major_is = h.totals.major_is; sums = h.totals.sums };
       leaked_is = (let leaked = h.leaked_is in let kept = h.kept_is in let bi = h.totals.bytes_is in omega (arith, leaked, kept, bi));
       only = λ o k l. not_both (is_left v.tables.dead v.tables.counts o) l (h.none o k);
     }))
@@ -531,7 +531,7 @@ module _ (v v' : View) (n : ℕ) (past : List Item) (c : Counted) (event object 
       few = h.few;
       fed = (h.fed, tt);
       agrees = written_agrees e.0 e.1;
-      totals = record { bytes_is = h.totals.bytes_is; freed_is = h.totals.freed_is; peak_is = h.totals.peak_is; exhausted_is = h.totals.exhausted_is; nursery_none = h.totals.nursery_none; minor_none = h.totals.minor_none; major_none = h.totals.major_none; sums = h.totals.sums };
+      totals = record { bytes_is = h.totals.bytes_is; freed_is = h.totals.freed_is; peak_is = h.totals.peak_is; exhausted_is = h.totals.exhausted_is; nursery_none = h.totals.nursery_none; minor_is = h.totals.minor_is; major_is = h.totals.major_is; sums = h.totals.sums };
       leaked_is = (let leaked = h.leaked_is in let kept = h.kept_is in let bi = h.totals.bytes_is in omega (arith, leaked, kept, bi));
       only = λ o k l.
           (let r = e.1 in

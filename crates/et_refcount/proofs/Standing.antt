@@ -18,14 +18,16 @@ use Rattle.et_replay.specs.declared.model.Kind.{Kind}
 use Rattle.et_replay.specs.declared.model.Kind.TheVariants.{RefCount}
 use Rattle.et_replay.specs.declared.model.Policy.{Policy}
 use Rattle.et_replay.specs.declared.model.Report.{Report}
+use Rattle.et_replay.specs.declared.model.Totals.{Totals}
+use Rattle.et_refcount.specs.declared.counts.Counts.{Counts}
 use Rattle.et_replay.specs.Feeding.{MayCome, HasItemRoom}
 use Rattle.et_replay.specs.Heap.{size_in, is_live, bytes}
-use Rattle.et_replay.specs.Tally.{Heap, Counted, empty_counted, fits_capacity, exhaust, live_of, dead_of, unfreed, settled, entered, counted_on, counted_after, heap_by, heap_after, tally, is_exhausted}
+use Rattle.et_replay.specs.Tally.{account, totals_of, Heap, Counted, empty_counted, fits_capacity, exhaust, live_of, dead_of, unfreed, settled, entered, counted_on, counted_after, heap_by, heap_after, tally, is_exhausted}
 use Rattle.et_replay.proofs.Coming.{all_low, not_both}
 use Rattle.et_refcount.specs.declared.objects.Place.{Place}
 use Rattle.et_refcount.specs.declared.objects.Place.TheVariants.{Unmade}
 use Rattle.et_refcount.specs.Objects.{Tables, Slots, size_of, is_not_unmade, held_at, flag_at, slots_at, target_at, hits, all_hits, weight, is_left, empty_tables, IsFreeing}
-use Rattle.et_refcount.specs.Counts.{View, AgreesWith, IsReady, IsCountedHeap, Settles, TakesItem, WritesTo, Accounts, placed, left_out, ended, opened, account_of}
+use Rattle.et_refcount.specs.Counts.{View, AgreesWith, IsReady, IsCountedHeap, Settles, TakesItem, WritesTo, Accounts, placed, left_out, ended, opened, view_of}
 use Rattle.et_refcount.proofs.Hits.{all-cons}
 use Rattle.et_refcount.proofs.Noting.{left_out_stands, placed_ready, ended_ready, written_ready}
 use Rattle.et_refcount.proofs.Settling.{empty_sorted, weight_is, agrees_settled, live_stays, bytes_settled}
@@ -93,8 +95,8 @@ settles v t object freed i = record {
           peak_is = o.peak_is;
           exhausted_is = o.exhausted_is;
           nursery_none = o.nursery_none;
-          minor_none = o.minor_none;
-          major_none = o.major_none;
+          minor_is = o.minor_is;
+          major_is = o.major_is;
           sums = omega (arith, all, s);
         };
         leaked_is = omega (arith, all, live, part, b, l);
@@ -165,19 +167,17 @@ by_kind reached k first second past e = subst (λ (j : Kind). heap_by reached j 
 pub stands_heap : (reached : Graph → ℕ → Bool) (own policy : Policy) (v : View) (n : ℕ) (past : List Item) → Accounts own policy v n past → heap_after reached policy past ≡ (counted_after reached v.capacity past).heap
 stands_heap reached own policy v n past t = by_kind reached policy.kind policy.first policy.second past t.kind_is ∙ ap (λ (k : ℕ). (counted_after reached k past).heap) (sym t.capacity_is)
 
-abbrev report_by : Policy → Heap → Report
-report_by policy heap = record { kind = policy.kind; first = policy.first; second = policy.second; minor = heap.minor; major = heap.major; kept = heap.kept; freed = heap.freed; peak = heap.peak; exhausted = heap.exhausted }
-
-account_is : (policy : Policy) (v : View) (n : ℕ) (past : List Item) (c : Counted) → IsCountedHeap v n past c → account_of policy v ≡ report_by policy c.heap
-account_is policy v n past c h =
-    let a = h.leaked_is in let b = h.totals.freed_is in let d = h.totals.peak_is in let e = h.totals.exhausted_is in let f = h.totals.minor_none in let g = h.totals.major_none in
+totals_are : (v : View) (n : ℕ) (past : List Item) (c : Counted) (totals : Totals) → IsCountedHeap v n past c → totals ≡ record { minor = v.minor; major = v.major; kept = v.leaked; freed = v.freed; peak = v.peak; exhausted = v.exhausted } → totals ≡ totals_of c.heap
+totals_are v n past c totals h is =
+    let a = h.leaked_is in let b = h.totals.freed_is in let d = h.totals.peak_is in let e = h.totals.exhausted_is in let f = h.totals.minor_is in let g = h.totals.major_is in
     cc
 
-pub stands_tally : (reached : Graph → ℕ → Bool) → Decides reached → (own policy : Policy) (v : View) (n : ℕ) (past : List Item) → Accounts own policy v n past → account_of own v ≡ tally reached policy past
-stands_tally reached decides own policy v n past t =
-    ap (λ (p : Policy). account_of p v) t.policy_is
-    ∙ (account_is policy v n past (counted_after reached v.capacity past) (t.stands reached decides)
-    ∙ ap (λ (h : Heap). report_by policy h) (sym (stands_heap reached own policy v n past t)))
+pub stands_tally : (reached : Graph → ℕ → Bool) → Decides reached → (own policy : Policy) (counts : Counts) (n : ℕ) (past : List Item) → Accounts own policy (view_of counts) n past → record { policy = own; totals = counts.totals } ≡ tally reached policy past
+stands_tally reached decides own policy counts n past t =
+    let v = view_of counts in
+    let totals = totals_are v n past (counted_after reached v.capacity past) counts.totals (t.stands reached decides) refl in
+    let to : Policy → Totals → Report = λ p t. record { policy = p; totals = t } in
+    ap (λ (p : Policy). to p counts.totals) t.policy_is ∙ (ap (λ (t : Totals). to policy t) totals ∙ ap (λ (h : Heap). account policy h) (sym (stands_heap reached own policy v n past t)))
 
 pub stands_exhausted : (reached : Graph → ℕ → Bool) → Decides reached → (own policy : Policy) (v : View) (n : ℕ) (past : List Item) → Accounts own policy v n past → is_some v.exhausted ≡ is_exhausted reached policy past
 stands_exhausted reached decides own policy v n past t = (let h = t.stands reached decides in ap (λ (e : Option ℕ). is_some e) h.totals.exhausted_is ∙ ap (λ (g : Heap). is_some g.exhausted) (sym (stands_heap reached own policy v n past t)))
@@ -241,7 +241,7 @@ opened_stands policy n few kind = record {
     few = few;
     fed = tt;
     agrees = empty_agrees n;
-    totals = record { bytes_is = refl; freed_is = refl; peak_is = refl; exhausted_is = refl; nursery_none = refl; minor_none = refl; major_none = refl; sums = omega arith };
+    totals = record { bytes_is = refl; freed_is = refl; peak_is = refl; exhausted_is = refl; nursery_none = refl; minor_is = refl; major_is = refl; sums = omega arith };
     leaked_is = refl;
     kept_is = refl;
     none = λ o h. absurd (not_held o h);

@@ -8,7 +8,6 @@ use Rattle.et_graph.specs.Graph.{Graph, Decides}
 use Rattle.et_replay.specs.declared.item.Item.{Item}
 use Rattle.et_replay.specs.declared.model.Kind.TheVariants as kinds
 use Rattle.et_replay.specs.declared.model.Policy.{Policy}
-use Rattle.et_replay.specs.declared.model.Report.{Report}
 use Rattle.et_replay.specs.Fed.{AreFed}
 use Rattle.et_replay.specs.Feeding.{MayCome}
 use Rattle.et_replay.specs.Heap.{size_in, is_made, ends_life, bytes}
@@ -23,16 +22,18 @@ pub record View : Type 0 where
   pub capacity : ℕ
   pub tables : Tables
   pub bytes : ℕ
+  pub minor : ℕ
+  pub major : ℕ
   pub leaked : ℕ
   pub freed : ℕ
   pub peak : ℕ
   pub exhausted : Option ℕ
 
 abbrev pub view_of : Counts → View
-view_of c = record { capacity = c.capacity; tables = tables_of c.objects; bytes = c.bytes; leaked = c.leaked; freed = c.freed; peak = c.peak; exhausted = c.exhausted }
+view_of c = record { capacity = c.capacity; tables = tables_of c.objects; bytes = c.bytes; minor = c.totals.minor; major = c.totals.major; leaked = c.totals.kept; freed = c.totals.freed; peak = c.totals.peak; exhausted = c.totals.exhausted }
 
 abbrev pub new_view : View
-new_view = record { capacity = 0; tables = no_tables; bytes = 0; leaked = 0; freed = 0; peak = 0; exhausted = None }
+new_view = record { capacity = 0; tables = no_tables; bytes = 0; minor = 0; major = 0; leaked = 0; freed = 0; peak = 0; exhausted = None }
 
 -- with places for so many objects, and null
 abbrev pub opened : ℕ → ℕ → View
@@ -60,8 +61,8 @@ pub record HasTotals (v : View) (past : List Item) (c : Counted) : Type 0 where
   pub peak_is : v.peak ≡ c.heap.peak
   pub exhausted_is : v.exhausted ≡ c.heap.exhausted
   pub nursery_none : c.heap.nursery ≡ []
-  pub minor_none : c.heap.minor ≡ 0
-  pub major_none : c.heap.major ≡ 0
+  pub minor_is : v.minor ≡ c.heap.minor
+  pub major_is : v.major ≡ c.heap.major
   pub sums : c.heap.freed + bytes past c.heap.space ≤ sum (sizes past)
 
 -- the item is noted; only the one object may be left
@@ -116,10 +117,6 @@ pub record Settles (v v' : View) (object : ℕ) : Type 0 where
 pub record TakesItem (item : Item) (v v' : View) : Type 0 where
   pub capacity_is : v'.capacity ≡ v.capacity
   pub taken : (n : ℕ) (past : List Item) (c : Counted) → MayCome n past item → IsCountedHeap v n past c → (reached : Graph → ℕ → Bool) → Decides reached → IsCountedHeap v' n (item ∷ past) (counted_on reached v.capacity past item c)
-
--- the report
-abbrev pub account_of : Policy → View → Report
-account_of policy v = record { kind = policy.kind; first = policy.first; second = policy.second; minor = 0; major = 0; kept = v.leaked; freed = v.freed; peak = v.peak; exhausted = v.exhausted }
 
 -- the heap stands for these items, and accounts for them by the policy
 pub record Accounts (own policy : Policy) (v : View) (n : ℕ) (past : List Item) : Type 0 where

@@ -4,13 +4,13 @@ ghost use Rattle.et_replay.specs.Feeding.{MayCome};
 ghost use Rattle.et_replay.specs.Tally.{Counted};
 ghost use Rattle.et_replay.specs.declared.item.Item.{Item};
 ghost use Rattle.et_replay.specs.declared.item.Item.TheVariants.{Alloc};
-ghost use Rattle.et_refcount.specs.Counts.{view_of, new_view, opened, placed, ended, IsReady, IsCountedHeap, Settles, TakesItem, WritesTo, account_of};
+ghost use Rattle.et_refcount.specs.Counts.{view_of, new_view, opened, placed, ended, IsReady, IsCountedHeap, Settles, TakesItem, WritesTo};
 
 use crate::objects::{
     Objects, Place, flag_at, free_from, held_at, make_places, set_flag, write_slot,
 };
 use et_base::NoMemory;
-use et_replay::{Item, Policy, Report};
+use et_replay::{Item, Totals};
 use std::alloc::Global;
 
 /// The objects of a heap with reference counts, and its running totals.
@@ -22,11 +22,8 @@ pub struct Counts {
     pub objects: Objects,
     /// The bytes of the objects that are made and not freed.
     pub bytes: u64,
-    /// The bytes of those of them that ended.
-    pub leaked: u64,
-    pub freed: u64,
-    pub peak: u64,
-    pub exhausted: Option<u64>,
+    /// The totals; kept are the bytes of those of them that ended.
+    pub totals: Totals,
 }
 
 impl Counts {
@@ -44,10 +41,7 @@ impl Counts {
                 slots: Vec::new(alloc),
             },
             bytes: 0,
-            leaked: 0,
-            freed: 0,
-            peak: 0,
-            exhausted: None,
+            totals: Totals::begin(),
         }
     }
 
@@ -70,23 +64,23 @@ impl Counts {
     {
         let freed = free_from(self.alloc, &mut self.objects, object)?;
         self.bytes -= freed;
-        self.leaked -= freed;
-        self.freed += freed;
+        self.totals.kept -= u128::from(freed);
+        self.totals.freed += freed;
         Ok(())
     }
 
     /// Places an object.
     fn place(&mut self, object: u32, size: u32)
         requires fits { self.old.bytes + size < 2 ^ 64 }
-        requires leaked { self.old.leaked ≤ self.old.bytes }
+        requires leaked { self.old.totals.kept ≤ self.old.bytes }
         requires within { object < length self.old.objects.places.items }
         ensures { view_of self.new ≡ placed object size (view_of self.old) }
     {
         self.objects.places[object as usize] = Place::Held(size);
         self.bytes += u64::from(size);
-        self.peak = self.peak.max(self.bytes);
+        self.totals.peak = self.totals.peak.max(self.bytes);
         if flag_at(&self.objects.dead, object) {
-            self.leaked += u64::from(size);
+            self.totals.kept += u128::from(size);
         }
     }
 
@@ -99,7 +93,7 @@ impl Counts {
     {
         if self.bytes + u64::from(size) > self.capacity {
             self.objects.places[object as usize] = Place::Gone;
-            self.exhausted = Some(event);
+            self.totals.exhausted = Some(event);
             return Ok(());
         }
         self.place(object, size);
@@ -135,7 +129,7 @@ impl Counts {
             return;
         }
         let size = held_at(&self.objects.places, object).unwrap_or(0);
-        self.leaked += u64::from(size);
+        self.totals.kept += u128::from(size);
         set_flag(&mut self.objects.dead, object);
     }
 
@@ -164,23 +158,6 @@ impl Counts {
                 self.end(*object);
                 self.settle(*object)
             }
-        }
-    }
-
-    /// The account of the heap by its policy.
-    pub fn report(&self, policy: Policy) -> Report
-        ensures { result ≡ account_of policy (view_of self.now) }
-    {
-        Report {
-            kind: policy.kind,
-            first: policy.first,
-            second: policy.second,
-            minor: 0,
-            major: 0,
-            kept: u128::from(self.leaked),
-            freed: self.freed,
-            peak: self.peak,
-            exhausted: self.exhausted,
         }
     }
 }

@@ -62,7 +62,7 @@ impl HeapModel for RefCount {
         let Ok(()) = self.counts.take(item) else {
             return Fed::NoMemory;
         };
-        if self.counts.exhausted.is_some() {
+        if self.counts.totals.exhausted.is_some() {
             Fed::Exhausted
         } else {
             Fed::Ok
@@ -70,6 +70,9 @@ impl HeapModel for RefCount {
     }
 
     fn report(&self) -> Report {
-        self.counts.report(self.policy)
+        Report {
+            policy: self.policy,
+            totals: self.counts.totals,
+        }
     }
 }

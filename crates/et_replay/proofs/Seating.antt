@@ -7,7 +7,6 @@ use Rattle.std.specs.List.{flat_map, AllZip, All}
 use Rattle.std.proofs.lemmas.List.{take_more, append-nil}
 use Rattle.std.proofs.lemmas.Grind.{flat_map-append}
 use Rattle.std.proofs.lemmas.List.Elements.{All-cons}
-use Rattle.et_io.specs.Sink.{Log, with_more, TakesPrefix}
 use Rattle.et_graph.specs.Graph.{Graph, Decides}
 use Rattle.et_graph.proofs.Walks.{is_reached, is_reached_decides}
 use Rattle.et_replay.specs.declared.item.Item.{Item}
@@ -19,7 +18,7 @@ use Rattle.et_replay.specs.Feeding.{HasItemRoom, MayCome}
 use Rattle.et_replay.specs.Lines.{report_text}
 use Rattle.et_replay.specs.Replay.{replay_text}
 use Rattle.et_replay.specs.Seats.{IsFinal, Sits, EachZip, Told, AllMayCome, told_line}
-use Rattle.et_replay.specs.Tally.{Heap, Counted, tally, is_exhausted, heap_by, space_on, generations_on, counted_on, counted_after}
+use Rattle.et_replay.specs.Tally.{Heap, Counted, account, tally, is_exhausted, heap_by, space_on, generations_on, counted_on, counted_after}
 
 -- there is room where each test that decides says so
 pub has_room : (policy : Policy) (past : List Item) → ((reached : Graph → ℕ → Bool) → Decides reached → is_exhausted reached policy past ≡ false) → HasItemRoom policy past
@@ -31,9 +30,6 @@ stopped heap next e = rw e refl
 stopped_counted : (c next : Counted) → is_some c.heap.exhausted ≡ true → (cond (is_some c.heap.exhausted) c next).heap ≡ c.heap
 stopped_counted c next e = rw e refl
 
-abbrev report_by : Policy → Heap → Report
-report_by policy heap = record { kind = policy.kind; first = policy.first; second = policy.second; minor = heap.minor; major = heap.major; kept = heap.kept; freed = heap.freed; peak = heap.peak; exhausted = heap.exhausted }
-
 -- an exhausted heap stays as it is
 stays_by : (reached : Graph → ℕ → Bool) (kind : Kind) (first second : ℕ) (item : Item) (past : List Item) → is_some (heap_by reached kind first second past).exhausted ≡ true → heap_by reached kind first second (item ∷ past) ≡ heap_by reached kind first second past
 stays_by reached MarkSweep first second item past e = stopped (heap_by reached MarkSweep first second past) (space_on first past item (heap_by reached MarkSweep first second past)) e
@@ -43,7 +39,7 @@ stays_by reached RefCount first second item past e = stopped_counted (counted_af
 
 pub final_stays : (report : Report) (policy : Policy) (item : Item) (past : List Item) → IsFinal report policy past → IsFinal report policy (item ∷ past)
 final_stays report policy item past f = record {
-  tally_is = λ reached decides. f.tally_is reached decides ∙ ap (λ (h : Heap). report_by policy h) (sym (stays_by reached policy.kind policy.first policy.second item past (f.exhausted reached decides)));
+  tally_is = λ reached decides. f.tally_is reached decides ∙ ap (λ (h : Heap). account policy h) (sym (stays_by reached policy.kind policy.first policy.second item past (f.exhausted reached decides)));
   exhausted = λ reached decides. ap (λ (h : Heap). is_some h.exhausted) (stays_by reached policy.kind policy.first policy.second item past (f.exhausted reached decides)) ∙ f.exhausted reached decides;
 }
 

@@ -8,6 +8,7 @@ use Rattle.et_replay.specs.declared.model.Kind.{Kind}
 use Rattle.et_replay.specs.declared.model.Kind.TheVariants.{MarkSweep, SemiSpace, Generational, RefCount}
 use Rattle.et_replay.specs.declared.model.Policy.{Policy}
 use Rattle.et_replay.specs.declared.model.Report.{Report}
+use Rattle.et_replay.specs.declared.model.Totals.{Totals}
 use Rattle.et_replay.specs.Heap.{is_live, bytes, slots}
 use Rattle.et_replay.specs.Items.{made_objects}
 
@@ -30,6 +31,13 @@ pub record Heap : Type 0 where
 
 abbrev pub empty_heap : Heap
 empty_heap = record { nursery = []; space = []; minor = 0; major = 0; kept = 0; freed = 0; peak = 0; exhausted = None }
+
+abbrev pub totals_of : Heap → Totals
+totals_of heap = record { minor = heap.minor; major = heap.major; kept = heap.kept; freed = heap.freed; peak = heap.peak; exhausted = heap.exhausted }
+
+-- the report of a heap
+abbrev pub account : Policy → Heap → Report
+account policy heap = record { policy = policy; totals = totals_of heap }
 
 -- so many bytes fit beside the objects
 abbrev pub fits_capacity : List Item → List ℕ → ℕ → ℕ → Bool
@@ -210,9 +218,7 @@ module _ (reached : Graph → ℕ → Bool) where
   heap_after policy past = heap_by policy.kind policy.first policy.second past
 
   abbrev pub tally : Policy → List Item → Report
-  tally policy past =
-      let heap = heap_after policy past in
-      record { kind = policy.kind; first = policy.first; second = policy.second; minor = heap.minor; major = heap.major; kept = heap.kept; freed = heap.freed; peak = heap.peak; exhausted = heap.exhausted }
+  tally policy past = account policy (heap_after policy past)
 
   abbrev pub is_exhausted : Policy → List Item → Bool
   is_exhausted policy past = is_some (heap_after policy past).exhausted

@@ -15,5 +15,5 @@ pub use by_time::{Happenings, timeline};
 pub use curve::{Curve, curve_lines};
 pub use item::{Item, Timeline};
 pub use live::live_bytes;
-pub use model::{Fed, HeapModel, Kind, Policy, Report};
+pub use model::{Fed, HeapModel, Kind, Policy, Report, Totals};
 pub use replaying::replay;

@@ -2,7 +2,7 @@
 ghost use Rattle.std.specs.Prelude.{◌≡◌, ◌≤◌, ℕ, Bool, List, [], ◌∷◌, OnOk};
 ghost use Rattle.et_graph.specs.Graph.{Graph, Decides};
 ghost use Rattle.et_replay.specs.Feeding.{MayCome, HasItemRoom, OnTaken, TellsExhausted};
-ghost use Rattle.et_replay.specs.Tally.{tally, is_exhausted};
+ghost use Rattle.et_replay.specs.Tally.{empty_heap, totals_of, tally, is_exhausted};
 ghost use Rattle.et_replay.specs.declared.item.Item.{Item};
 ghost use Rattle.et_replay.specs.declared.model.Kind.{Kind};
 ghost use Rattle.et_replay.specs.declared.model.Policy.{Policy};
@@ -33,12 +33,9 @@ pub struct Policy {
     pub second: u64,
 }
 
-/// The account of a policy. Each number is 0 where the policy doesn't count it.
+/// The running totals of a heap. Each is 0 where the policy doesn't count it.
 #[derive(Clone, Copy, Debug, PartialEq, Eq)]
-pub struct Report {
-    pub kind: Kind,
-    pub first: u64,
-    pub second: u64,
+pub struct Totals {
     /// Minor collections.
     pub minor: u64,
     /// Collections of the whole space, of a generational heap those of its old space.
@@ -52,6 +49,29 @@ pub struct Report {
     pub peak: u64,
     /// The event of the object for which there was no room.
     pub exhausted: Option<u64>,
+}
+
+impl Totals {
+    /// The totals of a heap to which nothing came.
+    pub fn begin() -> Totals
+        ensures { result ≡ totals_of empty_heap }
+    {
+        Totals {
+            minor: 0,
+            major: 0,
+            kept: 0,
+            freed: 0,
+            peak: 0,
+            exhausted: None,
+        }
+    }
+}
+
+/// The account of a policy.
+#[derive(Clone, Copy, Debug, PartialEq, Eq)]
+pub struct Report {
+    pub policy: Policy,
+    pub totals: Totals,
 }
 
 /// What a model answers to an item.

@@ -1,5 +1,5 @@
 //! The line of a report.
-use crate::model::{Kind, Report};
+use crate::model::{Kind, Policy, Report, Totals};
 use std::fmt;
 
 /// The end of the line of a report.
@@ -27,13 +27,21 @@ impl fmt::Display for Report {
     ghost output = { λ r. Some (report_text r) };
 
     fn fmt<W: fmt::Write>(&self, f: &mut fmt::Formatter<W>) -> fmt::Result {
-        let first = self.first;
-        let major = self.major;
-        let kept = self.kept;
-        let freed = self.freed;
-        let peak = self.peak;
-        let end = End(self.exhausted);
-        match self.kind {
+        let Policy {
+            kind,
+            first,
+            second: old,
+        } = self.policy;
+        let Totals {
+            minor,
+            major,
+            kept,
+            freed,
+            peak,
+            exhausted,
+        } = self.totals;
+        let end = End(exhausted);
+        match kind {
             Kind::MarkSweep => write!(
                 f,
                 "mark-sweep capacity={first} collections={major} marked={kept} swept={freed} peak={peak}{end}"
@@ -42,14 +50,10 @@ impl fmt::Display for Report {
                 f,
                 "semispace capacity={first} collections={major} copied={kept} freed={freed} peak={peak}{end}"
             ),
-            Kind::Generational => {
-                let old = self.second;
-                let minor = self.minor;
-                write!(
-                    f,
-                    "generational nursery={first} old={old} minor={minor} major={major} promoted={kept} swept={freed} peak={peak}{end}"
-                )
-            }
+            Kind::Generational => write!(
+                f,
+                "generational nursery={first} old={old} minor={minor} major={major} promoted={kept} swept={freed} peak={peak}{end}"
+            ),
             Kind::RefCount => write!(
                 f,
                 "refcount capacity={first} leaked={kept} freed={freed} peak={peak}{end}"

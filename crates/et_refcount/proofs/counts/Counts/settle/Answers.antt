@@ -11,10 +11,10 @@ pub overflow_sub-self : goal.overflow_sub-self
 overflow_sub-self c = let s = c.requires.ready in (freed_low (view_of c.args.self.now) (tables_of c.free_from.new.objects) c.args.object s.0 s.1 s.2 c.in_ok-freed.freed s.3 c.in_ok-freed.ensures).bytes
 
 pub overflow_sub-self-2 : goal.overflow_sub-self-2
-overflow_sub-self-2 c = let s = c.requires.ready in (freed_low (view_of c.args.self.now) (tables_of c.free_from.new.objects) c.args.object s.0 s.1 s.2 c.in_ok-freed.freed s.3 c.in_ok-freed.ensures).leaked
+overflow_sub-self-2 c = let s = c.requires.ready in let e = c.from.ensures in let low = (freed_low (view_of c.args.self.now) (tables_of c.free_from.new.objects) c.args.object s.0 s.1 s.2 c.in_ok-freed.freed s.3 c.in_ok-freed.ensures).leaked in omega (arith, e, low)
 
 pub overflow_add-self : goal.overflow_add-self
 overflow_add-self c = let s = c.requires.ready in let low = (freed_low (view_of c.args.self.now) (tables_of c.free_from.new.objects) c.args.object s.0 s.1 s.2 c.in_ok-freed.freed s.3 c.in_ok-freed.ensures).freed in omega (arith, low)
 
 pub returns : goal.returns
-returns c = settles (view_of c.args.self.now) (tables_of c.free_from.new.objects) c.args.object c.in_ok-freed.freed c.in_ok-freed.ensures
+returns c = rw c.from.ensures (settles (view_of c.args.self.now) (tables_of c.free_from.new.objects) c.args.object c.in_ok-freed.freed c.in_ok-freed.ensures)

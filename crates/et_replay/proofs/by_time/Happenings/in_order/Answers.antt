@@ -5,7 +5,6 @@ use Rattle.std.specs.Ordering.{nat_cmp}
 use Rattle.std.proofs.lemmas.List.{reverse-reverse}
 use Rattle.std.proofs.lemmas.List.Sorted.{IsNonDecreasingBy-from_sort_by_key, answers_always}
 use Rattle.et_base.specs.declared.line.TraceLine.{TraceLine}
-use Rattle.et_text.specs.Rules.{IsGoodTrace}
 use Rattle.et_replay.specs.declared.by_time.Happenings.{Happenings}
 use Rattle.et_replay.specs.declared.item.Item.{Item}
 use Rattle.et_replay.specs.Kept.{AreHappenings}
