@@ -158,14 +158,6 @@ counted_making m seen f bytes e d text c =
 
 -- A FIELD
 
-pub counted_number : (m : MachineState) (seen : List ℕ) (e : Moment) (d : Doing) (f : ℕ) → constant_text e.program f ≡ None → Counted e.program m seen d → Counted e.program m seen (field_set e d f)
-counted_number m seen e d f none c = counted_alike e.program m seen d (field_set e d f) (alike_number e d f none) c
-
-pub counted_old : (m : MachineState) (seen : List ℕ) (e : Moment) (d : Doing) (f : ℕ) (bytes : List ℕ) → constant_text e.program f ≡ Some bytes → (is_some (object_of m.guest.interned bytes) || list_any (has_text e.program bytes) seen) ≡ true
-    → Counted e.program m seen d → Counted e.program m seen (field_set e d f)
-counted_old m seen e d f bytes text old c =
-    counted_alike e.program m seen d (field_set e d f) (alike_then d (interned e bytes d) (field_set e d f) (alike_known e bytes d (c.known bytes ∙ old)) (alike_field e d f bytes text)) c
-
 pub counted_new : (m : MachineState) (seen : List ℕ) (e : Moment) (d : Doing) (f : ℕ) (bytes : List ℕ) → constant_text e.program f ≡ Some bytes → (is_some (object_of m.guest.interned bytes) || list_any (has_text e.program bytes) seen) ≡ false
     → Counted e.program m seen d → Counted e.program m (seen ++ f ∷ []) (field_set e d f)
 counted_new m seen e d f bytes text new c =
@@ -233,11 +225,7 @@ done_is e c (Begun t) d apart = refl
 done_is e c Done d apart = refl
 done_is e c Failed d apart = refl
 
--- a class that was not untouched
-pub counted_touched : (m : MachineState) (e : Moment) (c : ℕ) (d : Doing) → (class_state_at m.guest c ≡ Untouched → ⊥) → Marks e.program m d → done_step e d c ≡ d
-counted_touched m e c d apart marks = elim (marks c) [ inl same ↦ done_is e c (state_of d c) d (λ un. apart (sym same ∙ un)) | inr b ↦ absurd (apart b.was) ]
-
--- one that was
+-- .. of a class that was untouched
 marks_after : (m : MachineState) (e : Moment) (c : ℕ) (d : Doing) → c < length d.state.guest.classes → class_state_at m.guest c ≡ Untouched → Marks e.program m d → Marks e.program m (constants_set e c (with_state c Done d))
 marks_after m e c d lt un marks k =
     let y = with_state c Done d in

@@ -30,17 +30,13 @@ quiet_fit p t c m m₁ out e fit = fits_behind (λ q x. quietly_done q c x) p t 
 
 -- WHAT IS NEEDED
 
-ready_or_waits : (e : Moment) (d : Doing) (c : ℕ) (go : Doing → Outcome Kept) (b : Bool) → (if b then go d else met e d c go Waits) ≡ met e d c go (if b then Ready else Waits)
-ready_or_waits e d c go true = refl
-ready_or_waits e d c go false = refl
+met_either : (e : Moment) (d : Doing) (c : ℕ) (go : Doing → Outcome Kept) (x y : Need) (b : Bool) → (if b then met e d c go x else met e d c go y) ≡ met e d c go (if b then x else y)
+met_either e d c go x y true = refl
+met_either e d c go x y false = refl
 
-quiet_or_begins : (e : Moment) (d : Doing) (c : ℕ) (go : Doing → Outcome Kept) (b : Bool) → (if b then go (quietly_done e c d) else met e d c go Begins) ≡ met e d c go (if b then Quiet else Begins)
-quiet_or_begins e d c go true = refl
-quiet_or_begins e d c go false = refl
-
-needed_by : (e : Moment) (d : Doing) (c : ℕ) (s : ClassState) (go : Doing → Outcome Kept) → needed e d c s go ≡ met e d c go (need_by e d c s)
-needed_by e d c Untouched go = quiet_or_begins e d c go (is_quiet e d c)
-needed_by e d c (Begun t) go = ready_or_waits e d c go (t == e.thread)
+pub needed_by : (e : Moment) (d : Doing) (c : ℕ) (s : ClassState) (go : Doing → Outcome Kept) → needed e d c s go ≡ met e d c go (need_by e d c s)
+needed_by e d c Untouched go = met_either e d c go Quiet Begins (is_quiet e d c)
+needed_by e d c (Begun t) go = met_either e d c go Ready Waits (t == e.thread)
 needed_by e d c Done go = refl
 needed_by e d c Failed go = refl
 

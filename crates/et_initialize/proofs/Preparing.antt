@@ -1,6 +1,6 @@
 -- The prerequisites of a class.
 use Rattle.std.proofs.Common.{◌≡◌, ℕ, zero, suc, ◌+◌, ◌<◌, ◌⊎◌, Bool, true, false, cond, List, [], ◌∷◌, length, get_or, take, All, Some, None, refl, sym, ◌∙◌, ap, subst, arith, inl, inr, Contains}
-use Rattle.std.specs.Prelude.{fold, ◌==◌, ◌&&◌, if◌then◌else◌, find, take_while, not}
+use Rattle.std.specs.Prelude.{fold, ◌&&◌, if◌then◌else◌, find, take_while, not}
 use Rattle.std.specs.List.{list_all, prefix_len}
 use Rattle.std.proofs.lemmas.Bool.{cases_eq, and_parts}
 use Rattle.std.proofs.lemmas.List.Sums.{fold_more}
@@ -16,16 +16,17 @@ use Rattle.et_program.specs.Entries.{Linked, class_at}
 use Rattle.et_state.specs.declared.records.Record.{Record}
 use Rattle.et_state.specs.Outcome.{Outcome}
 use Rattle.et_event.specs.Moments.{Moment, moment, Doing, begins}
-use Rattle.et_event.specs.Initialization.{state_of, with_state, class_done, quietly_done, quietly_if_untouched, prepared, is_quiet, is_quiet_state, is_ready, is_ready_state, needed, initialized}
+use Rattle.et_event.specs.Initialization.{state_of, with_state, class_done, quietly_done, quietly_if_untouched, prepared, is_quiet, is_quiet_state, is_ready, is_ready_state, initialized}
 use Rattle.et_initialize.specs.declared.needs.Need.{Need}
-use Rattle.et_initialize.specs.declared.needs.Need.TheVariants.{Ready, Waits, Quiet, Begins}
+use Rattle.et_initialize.specs.declared.needs.Need.TheVariants.{Quiet, Begins}
 use Rattle.et_initialize.specs.Needs.{need_by, need_of, met}
 use Rattle.et_event.specs.InitializationOrder.{IsInOrder}
 use Rattle.et_initialize.specs.Texts.{CountedAll}
 use Rattle.et_event.specs.Telling.{so_far, StandsAt}
 use Rattle.et_initialize.specs.Under.{IsInitializing, HasMadeStrings}
+use Rattle.et_initialize.proofs.Needing.{needed_by}
 use Rattle.et_initialize.proofs.Running.{at, known}
-use Rattle.et_initialize.proofs.Setting.{Grown, grown_none, grown_then, grown_order, done_step, state_changed, state_set, follows_each}
+use Rattle.et_initialize.proofs.Setting.{Grown, grown_none, grown_then, grown_order, done_step, done_untouched, begun_untouched, state_changed, state_set, follows_each}
 use Rattle.et_initialize.proofs.Legal.{quietly_made, quietly_ready, quietly_threads, quietly_monitors}
 use Rattle.et_initialize.proofs.Counting.{done_is}
 use Rattle.et_initialize.proofs.Records.{behind, behind_quietly}
@@ -82,12 +83,6 @@ behind_prepared r e (k ∷ ks) d = ap (λ (y : Doing). prepared e ks y) (behind_
 
 -- HOW FAR CLASSES ARE
 
-done_is_set : Done ≡ Untouched → ⊥
-done_is_set e = cc
-
-begun_not : (t : ℕ) → Begun t ≡ Untouched → ⊥
-begun_not t e = cc
-
 failed_not : Failed ≡ Untouched → ⊥
 failed_not e = cc
 
@@ -108,8 +103,8 @@ step_this e d c lt = case (state_of d c) refl
   where
     case : (s : ClassState) → state_of d c ≡ s → (state_of d c ≡ Untouched → class_state_at (class_done e c s d).state.guest c ≡ Done) × ((state_of d c ≡ Untouched → ⊥) → class_state_at (class_done e c s d).state.guest c ≡ class_state_at d.state.guest c)
     case Untouched is = (λ un. ap (λ (xs : List ClassState). get_or xs c Untouched) (follows_each e (class_at e.program c).info.constants (with_state c Done d)).classes ∙ state_set d c Done lt, λ apart. absurd (apart is))
-    case (Begun t) is = (λ un. absurd (begun_not t (sym is ∙ un)), λ apart. refl)
-    case Done is = (λ un. absurd (done_is_set (sym is ∙ un)), λ apart. refl)
+    case (Begun t) is = (λ un. absurd (begun_untouched t (sym is ∙ un)), λ apart. refl)
+    case Done is = (λ un. absurd (done_untouched (sym is ∙ un)), λ apart. refl)
     case Failed is = (λ un. absurd (failed_not (sym is ∙ un)), λ apart. refl)
 
 step_classes : (e : Moment) (d : Doing) (c : ℕ) → length (done_step e d c).state.guest.classes ≡ length d.state.guest.classes
@@ -147,7 +142,7 @@ passed e (k ∷ ks) d all =
             (elim (is_untouched (class_state_at d.state.guest k)) [
               | inl un ↦ elim (tail.each k) [
                 | inl stay ↦ inr (un, stay ∙ this.0 un, Contains-here k ks)
-                | inr t ↦ absurd (done_is_set (sym (this.0 un) ∙ t.0))
+                | inr t ↦ absurd (done_untouched (sym (this.0 un) ∙ t.0))
               ]
               | inr apart ↦ elim (tail.each k) [
                 | inl stay ↦ inl (stay ∙ this.1 apart)
@@ -166,7 +161,7 @@ passed e (k ∷ ks) d all =
             let un_k : class_state_at d'.state.guest k ≡ Untouched = ap (λ (i : ℕ). class_state_at d'.state.guest i) is ∙ un in
             elim (tail.each k) [
               | inl stay ↦ first_set e d k (all 0 0 (omega arith)) (sym stay ∙ un_k)
-              | inr t ↦ done_is_set (sym t.1 ∙ un_k)
+              | inr t ↦ done_untouched (sym t.1 ∙ un_k)
             ]
         | inr in_rest ↦ tail.whole j in_rest un
       ];
@@ -177,7 +172,7 @@ passed e (k ∷ ks) d all =
     first_set e d c lt un =
         let this = step_this e d c lt in
         elim (is_untouched (class_state_at d.state.guest c)) [
-          | inl u ↦ done_is_set (sym (this.0 u) ∙ un)
+          | inl u ↦ done_untouched (sym (this.0 u) ∙ un)
           | inr apart ↦ apart (sym (this.1 apart) ∙ un)
         ]
 
@@ -237,7 +232,7 @@ turns_step : (e : Moment) (d₀ d : Doing) (c : ℕ) → IsInOrder e.program →
 turns_step e d₀ d c has lt ready t = by_state (λ y. Turns e d₀ y) e d c (λ un.
     let d' = quietly_done e c d in
     let ks = (class_at e.program c).init_order in
-    let first : class_state_at d₀.state.guest c ≡ Untouched = elim (t.each c) [ inl same ↦ sym same ∙ un | inr v ↦ absurd (done_is_set (sym v.is ∙ un)) ] in
+    let first : class_state_at d₀.state.guest c ≡ Untouched = elim (t.each c) [ inl same ↦ sym same ∙ un | inr v ↦ absurd (done_untouched (sym v.is ∙ un)) ] in
     let quiet : is_quiet e d₀ c ≡ true = sym (ap (λ (s : ClassState). is_ready_state e d₀ c s) first) ∙ ready in
     let over : Passed ks d d' = passed e ks d (λ i z within. subst (λ (n : ℕ). get_or ks i z < n) (sym t.classes) (has.within c lt i z within)) in
     record {
@@ -248,7 +243,7 @@ turns_step e d₀ d c has lt ready t = by_state (λ y. Turns e d₀ y) e d c (λ
         ]
         | inr w ↦ elim (t.each j) [
           | inl stay ↦ inr (record { was = sym stay ∙ w.0; is = w.1; by = c; within = lt; quiet = quiet; member = w.2; whole = over.whole })
-          | inr v ↦ absurd (done_is_set (sym v.is ∙ w.0))
+          | inr v ↦ absurd (done_untouched (sym v.is ∙ w.0))
         ]
       ];
       classes = over.classes ∙ t.classes;
@@ -286,20 +281,9 @@ need_alike e d₀ d b (Begun t) q = refl
 need_alike e d₀ d b Done q = refl
 need_alike e d₀ d b Failed q = refl
 
-met_either : (e : Moment) (d : Doing) (c : ℕ) (go : Doing → Outcome Kept) (x y : Need) (b : Bool) → (if b then met e d c go x else met e d c go y) ≡ met e d c go (if b then x else y)
-met_either e d c go x y true = refl
-met_either e d c go x y false = refl
-
--- what an event comes to that needs a class
-pub needed_is : (e : Moment) (d : Doing) (c : ℕ) (go : Doing → Outcome Kept) (s : ClassState) → needed e d c s go ≡ met e d c go (need_by e d c s)
-needed_is e d c go Done = refl
-needed_is e d c go (Begun t) = met_either e d c go Ready Waits (t == e.thread)
-needed_is e d c go Failed = refl
-needed_is e d c go Untouched = met_either e d c go Quiet Begins (is_quiet e d c)
-
 pub blocked : (e : Moment) (d₀ d : Doing) (b : ℕ) (go : Doing → Outcome Kept) → IsInOrder e.program → is_ready e d₀ b ≡ false → Turns e d₀ d → initialized e d b go ≡ met e d b go (need_of e d₀ b)
 blocked e d₀ d b go has not_ready t =
-    needed_is e d b go (state_of d b)
+    needed_by e d b (state_of d b) go
     ∙ ap (λ (n : Need). met e d b go n) (ap (λ (s : ClassState). need_by e d b s) (blocker_state e d₀ d b has not_ready t) ∙ need_alike e d₀ d b (state_of d₀ b) (quiet_same e d₀ d b t))
 
 -- THE STRINGS of prerequisites
@@ -310,7 +294,7 @@ all_done e (k ∷ ks) d h =
     let one : done_step e d k ≡ d = done_is e k (state_of d k) d (h k (Contains-here k ks)) in
     ap (λ (x : Doing). fold (done_step e) x ks) one ∙ all_done e ks d (λ j c. h j (Contains-there k ks j c))
 
-pre_is : (e : Moment) (c : ℕ) (s : ClassState) (d : Doing) → (s ≡ Untouched → ⊥) → quietly_if_untouched e c s d ≡ d
+pub pre_is : (e : Moment) (c : ℕ) (s : ClassState) (d : Doing) → (s ≡ Untouched → ⊥) → quietly_if_untouched e c s d ≡ d
 pre_is e c Untouched d apart = absurd (apart refl)
 pre_is e c (Begun t) d apart = refl
 pre_is e c Done d apart = refl
@@ -327,7 +311,7 @@ counted_pre m seen seen' e d₀ d c has un t count h = elim (t.each c) [
   | inl same ↦ subst (λ (x : Doing). CountedAll e.program m seen' x) (sym (ap (λ (s : ClassState). quietly_if_untouched e c s d) (same ∙ un))) (count d h)
   | inr v ↦
       let stays : quietly_done e c d ≡ d = all_done e (class_at e.program c).init_order d (λ j m. v.whole j (has.orders v.by c j v.within v.member m)) in
-      let pre : pre_step e d c ≡ d = pre_is e c (state_of d c) d (λ u. done_is_set (sym v.is ∙ u)) in
+      let pre : pre_step e d c ≡ d = pre_is e c (state_of d c) d (λ u. done_untouched (sym v.is ∙ u)) in
       subst (λ (x : Doing). CountedAll e.program m seen' x) (stays ∙ sym pre) (count d h)
 ]
 

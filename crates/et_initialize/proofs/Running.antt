@@ -12,11 +12,11 @@ use Rattle.et_state.specs.State.{Kept, MachineState, kept_of}
 use Rattle.et_program.specs.Entries.{Linked, class_at}
 use Rattle.et_state.specs.declared.records.Record.{Record}
 use Rattle.et_event.specs.Moments.{Moment, moment, Doing, fits_heap}
-use Rattle.et_event.specs.Initialization.{state_of, with_state, field_set, constants_set, class_done, quietly_done}
+use Rattle.et_event.specs.Initialization.{state_of, with_state, field_set, constants_set, class_done}
 use Rattle.et_event.specs.InitializationOrder.{IsInOrder}
 use Rattle.et_event.specs.Telling.{so_far, with_kept, StandsAt}
 use Rattle.et_initialize.specs.Under.{IsInitializing, class_of_slot}
-use Rattle.et_initialize.proofs.Setting.{CanSet, Grown, after, can_set, one_fits, done_first, ready_order, ready_marked, unset_marked}
+use Rattle.et_initialize.proofs.Setting.{CanSet, Grown, after, can_set, one_fits, done_first, done_step, ready_order, ready_marked, unset_marked}
 
 abbrev pub at : Linked → ℕ → Kept → Moment
 at p t b = record { program = p; before = b; thread = t }
@@ -24,15 +24,6 @@ at p t b = record { program = p; before = b; thread = t }
 -- the state before the event doesn't matter
 pub field_same : (p : Linked) (t : ℕ) (b b' : Kept) (f : ℕ) (x : Doing) → field_set (at p t b) x f ≡ field_set (at p t b') x f
 field_same p t b b' f x = refl
-
-pub constants_same : (p : Linked) (t : ℕ) (b b' : Kept) (c : ℕ) (x : Doing) → constants_set (at p t b) c x ≡ constants_set (at p t b') c x
-constants_same p t b b' c x = refl
-
-pub done_same : (p : Linked) (t : ℕ) (b b' : Kept) (c : ℕ) (x : Doing) → class_done (at p t b) c (state_of x c) x ≡ class_done (at p t b') c (state_of x c) x
-done_same p t b b' c x = refl
-
-pub quietly_same : (p : Linked) (t : ℕ) (b b' : Kept) (c : ℕ) (x : Doing) → quietly_done (at p t b) c x ≡ quietly_done (at p t b') c x
-quietly_same p t b b' c x = refl
 
 -- one call more
 pub came : (F : Kept → Doing → Doing) → ((b b' : Kept) (x : Doing) → F b x ≡ F b' x) → (m₀ m m' : MachineState) (out out' : List Record) (x : Doing)
@@ -92,6 +83,9 @@ field_can p t c m₀ m out₀ out fs k f has lt ready unset is within read befor
 
 -- A LOOP OVER CLASSES
 
+pub next_within : (n : ℕ) (ks : List ℕ) (k c : ℕ) → k < length ks → c ≡ get_or ks k c → All (λ j. j < n) ks → c < n
+next_within n ks k c lt read all = subst (λ (j : ℕ). j < n) (sym read) (all k c lt)
+
 pub class_ready : (p : Linked) (t : ℕ) (m₀ m : MachineState) (out₀ out : List Record) (ks : List ℕ) (k : ℕ) → IsInOrder p → k < length ks → All (λ c. c < length p.classes) ks → IsInitializing p (kept_of m₀)
     → StandsAt (done_first (moment p m₀ t) (so_far m₀ out₀) ks k) m₀ m out → IsInitializing p (kept_of m)
 class_ready p t m₀ m out₀ out ks k has within all ready before =
@@ -116,3 +110,13 @@ pub done_fits : (p : Linked) (t c : ℕ) (m m' : MachineState) (out : List Recor
 done_fits p t c m m' out un is fit =
     let one : fits_heap (constants_set (moment p m t) c (with_state c Done (so_far m out))).state.heap ≡ true = ap (λ (x : ClassState). fits_heap (class_done (moment p m t) c x (so_far m out)).state.heap) (sym un) ∙ fit in
     ap (λ (n : MachineState). fits_heap (constants_set (moment p n t) c (so_far n out)).state.heap) is ∙ one
+
+-- a round in which an untouched class becomes done, and one in which a class stays
+pub done_came : (p : Linked) (t c : ℕ) (m m₁ m₂ : MachineState) (out out₂ : List Record) → class_state_at m.guest c ≡ Untouched → m₁ ≡ marked m c Done → StandsAt (constants_set (moment p m₁ t) c (so_far m₁ out)) m₁ m₂ out₂
+    → StandsAt (done_step (moment p m t) (so_far m out) c) m m₂ out₂
+done_came p t c m m₁ m₂ out out₂ un is h =
+    let one : StandsAt (constants_set (moment p m t) c (with_state c Done (so_far m out))) m m₂ out₂ = subst (λ (n : MachineState). StandsAt (constants_set (moment p n t) c (so_far n out)) n m₂ out₂) is h in
+    subst (λ (s : ClassState). StandsAt (class_done (moment p m t) c s (so_far m out)) m m₂ out₂) (sym un) one
+
+pub stayed : (d : Doing → Doing) (m : MachineState) (out : List Record) → d (so_far m out) ≡ so_far m out → StandsAt (d (so_far m out)) m m out
+stayed d m out is = subst (λ (x : Doing). StandsAt x m m out) (sym is) (refl, refl)

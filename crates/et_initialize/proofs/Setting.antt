@@ -13,7 +13,7 @@ use Rattle.et_base.specs.declared.value.Value.TheVariants.{Unset, Int, Long, Ref
 use Rattle.et_heap.specs.Objects.{Objects, slots_in, most_objects, most_slots}
 use Rattle.et_state.specs.declared.class_state.ClassState.{ClassState}
 use Rattle.et_state.specs.declared.class_state.ClassState.TheVariants.{Untouched, Begun, Done, Failed}
-use Rattle.et_state.specs.State.{Kept}
+use Rattle.et_state.specs.State.{GuestState, Kept}
 use Rattle.et_state.specs.Interned.{interned_objects}
 use Rattle.et_state.specs.Words.{static_at, with_static, class_state_at}
 use Rattle.et_program.specs.Entries.{Linked, class_at, field_at}
@@ -287,24 +287,21 @@ ready_order e (k ∷ ks) d has all r =
     let lt = all 0 0 (omega arith) in
     ready_order e ks (done_step e d k) has (λ i z within. all (suc i) z (omega arith)) (ready_done e k (state_of d k) d lt (has.constants k lt) r)
 
--- THE THREADS stay
-threads_done : (e : Moment) (c : ℕ) (x : ClassState) (d : Doing) → (class_done e c x d).state.guest.threads ≡ d.state.guest.threads
-threads_done e c Untouched d = (follows_each e (class_at e.program c).info.constants (with_state c Done d)).threads
-threads_done e c (Begun t) d = refl
-threads_done e c Done d = refl
-threads_done e c Failed d = refl
+-- A PART OF THE GUEST STAYS that setting constants leaves as it was: the threads, and the monitors of classes
+part_done : {A : Type 0} (part : GuestState → A) (e : Moment) → ((c : ℕ) (d : Doing) → part (constants_set e c (with_state c Done d)).state.guest ≡ part d.state.guest)
+    → (c : ℕ) (x : ClassState) (d : Doing) → part (class_done e c x d).state.guest ≡ part d.state.guest
+part_done part e stays c Untouched d = stays c d
+part_done part e stays c (Begun t) d = refl
+part_done part e stays c Done d = refl
+part_done part e stays c Failed d = refl
+
+part_order : {A : Type 0} (part : GuestState → A) (e : Moment) → ((c : ℕ) (d : Doing) → part (constants_set e c (with_state c Done d)).state.guest ≡ part d.state.guest)
+    → (ks : List ℕ) (d : Doing) → part (fold (done_step e) d ks).state.guest ≡ part d.state.guest
+part_order part e stays [] d = refl
+part_order part e stays (k ∷ ks) d = part_order part e stays ks (done_step e d k) ∙ part_done part e stays k (state_of d k) d
 
 pub threads_order : (e : Moment) (ks : List ℕ) (d : Doing) → (fold (done_step e) d ks).state.guest.threads ≡ d.state.guest.threads
-threads_order e [] d = refl
-threads_order e (k ∷ ks) d = threads_order e ks (done_step e d k) ∙ threads_done e k (state_of d k) d
-
--- AND THE MONITORS OF CLASSES
-monitors_done : (e : Moment) (c : ℕ) (x : ClassState) (d : Doing) → (class_done e c x d).state.guest.class_monitors ≡ d.state.guest.class_monitors
-monitors_done e c Untouched d = (follows_each e (class_at e.program c).info.constants (with_state c Done d)).monitors
-monitors_done e c (Begun t) d = refl
-monitors_done e c Done d = refl
-monitors_done e c Failed d = refl
+threads_order e ks d = part_order (λ g. g.threads) e (λ c x. (follows_each e (class_at e.program c).info.constants (with_state c Done x)).threads) ks d
 
 pub monitors_order : (e : Moment) (ks : List ℕ) (d : Doing) → (fold (done_step e) d ks).state.guest.class_monitors ≡ d.state.guest.class_monitors
-monitors_order e [] d = refl
-monitors_order e (k ∷ ks) d = monitors_order e ks (done_step e d k) ∙ monitors_done e k (state_of d k) d
+monitors_order e ks d = part_order (λ g. g.class_monitors) e (λ c x. (follows_each e (class_at e.program c).info.constants (with_state c Done x)).monitors) ks d

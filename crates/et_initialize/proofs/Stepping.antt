@@ -266,18 +266,6 @@ error_thrown p t error ks m m₂ m₃ m₄ out out₂ out₃ class slots o has a
     below : (o m l : ℕ) → o < l → l ≡ m + 1 → (o ≡ m → ⊥) → o < m
     below o m l lt e ne = omega arith
 
-pub error_full : (p : Linked) (t : ℕ) (error : GuestError) (ks : List ℕ) (m : MachineState) (out : List Record) (class slots : ℕ) → 0 < length (after p m t ks).state.heap → HasFrame m.guest t
-    → class ≡ error_class p error → slots ≡ (class_at p class).info.slots → has_room (after p m t ks).state.heap 1 slots ≡ false
-    → EventAnswers (throws (moment p m t) error (after p m t ks)) ends.ObjectLimit m m out out
-error_full p t error ks m out class slots some frame name size room =
-    let e = moment p m t in
-    let d = after p m t ks in
-    let was : thread_at d.state.guest t ≡ thread_at m.guest t = ap (λ (ts : List ThreadState). get_or ts t no_thread) (threads_after p t ks m) in
-    let has_one : 0 < length (thread_at d.state.guest t).frames = subst (λ (z : ThreadState). 0 < length z.frames) (sym was) frame.frame in
-    let slots_are : slots ≡ (class_at p (error_class p error)).info.slots = size ∙ ap (λ (c : ℕ). (class_at p c).info.slots) name in
-    let fit : fits_heap (thrown e error d).state.heap ≡ false = one_fits d.state.heap (error_class p error) 0 (class_at p (error_class p error)).info.slots some ∙ (ap (λ (i : ℕ). has_room d.state.heap 1 i) (sym slots_are) ∙ room) in
-    subst (λ (z : Outcome Kept). EventAnswers z ends.ObjectLimit m m out out) (sym (throws_is e error d has_one ∙ ends_full (thrown e error d) fit)) (refl, refl)
-
 pub fits_less : (heap : Objects) (slots : ℕ) → has_room heap 1 slots ≡ true → fits_heap heap ≡ true
 fits_less heap slots room =
     let b = and_parts _ _ room in

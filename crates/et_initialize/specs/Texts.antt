@@ -13,7 +13,6 @@ use Rattle.et_program.specs.Entries.{Linked, class_at, field_at}
 use Rattle.et_event.specs.Errors.{class_called}
 use Rattle.et_event.specs.Moments.{Moment, Doing}
 use Rattle.et_event.specs.Sites.{pool_of_class}
-use Rattle.et_initialize.specs.declared.limits.Count.{Count}
 
 -- the bytes of the constant of a field, where that is a string
 abbrev pub constant_text : Linked → ℕ → Option (List ℕ)
@@ -41,9 +40,9 @@ pub record Counted (p : Linked) (m : MachineState) (seen : List ℕ) (d : Doing)
   pub slots : slot_count d.state.heap ≡ slot_count m.heap + length seen * string_slots p
 
 -- the fields that were added to those seen are those whose strings are made by this
-abbrev pub Adds : Count → List ℕ → List ℕ → (Moment → Doing → Doing) → Type 0
-Adds x seen seen' act =
-    (before : Kept) (thread : ℕ) (d : Doing) → Counted x.program.now x.machine.now seen d → Counted x.program.now x.machine.now seen' (act (record { program = x.program.now; before = before; thread = thread }) d)
+abbrev pub Adds : Linked → MachineState → List ℕ → List ℕ → (Moment → Doing → Doing) → Type 0
+Adds p m seen seen' act =
+    (before : Kept) (thread : ℕ) (d : Doing) → Counted p m seen d → Counted p m seen' (act (record { program = p; before = before; thread = thread }) d)
 
 -- the strings of these fields are there
 abbrev pub AreKnown : Linked → List ℕ → Doing → Type 0
@@ -62,15 +61,15 @@ pub record CountedAll (p : Linked) (m : MachineState) (seen : List ℕ) (d : Doi
   pub classes : length d.state.guest.classes ≡ length p.classes
 
 -- the fields that were added to those seen are those whose strings are made as classes become done by this
-abbrev pub AddsOfDone : Count → List ℕ → List ℕ → (Moment → Doing → Doing) → Type 0
-AddsOfDone x seen seen' act =
-    (before : Kept) (thread : ℕ) (d : Doing) → CountedAll x.program.now x.machine.now seen d → CountedAll x.program.now x.machine.now seen' (act (record { program = x.program.now; before = before; thread = thread }) d)
+abbrev pub AddsOfDone : Linked → MachineState → List ℕ → List ℕ → (Moment → Doing → Doing) → Type 0
+AddsOfDone p m seen seen' act =
+    (before : Kept) (thread : ℕ) (d : Doing) → CountedAll p m seen d → CountedAll p m seen' (act (record { program = p; before = before; thread = thread }) d)
 
 -- fields of the program
 abbrev pub AreFields : Linked → List ℕ → Type 0
 AreFields p fs = All (λ f. f < length p.fields) fs
 
 -- the strings may be counted that constants of classes make, besides those that were seen
-pub record MayCount (x : Count) (seen : List ℕ) : Type 0 where
-  pub classes : length x.machine.now.guest.classes ≡ length x.program.now.classes
-  pub within : AreFields x.program.now seen
+pub record MayCount (p : Linked) (m : MachineState) (seen : List ℕ) : Type 0 where
+  pub classes : length m.guest.classes ≡ length p.classes
+  pub within : AreFields p seen

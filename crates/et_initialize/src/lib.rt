@@ -10,8 +10,8 @@ mod needs;
 mod quiet;
 mod steps;
 
-pub use begins::{MOST_FRAMES, begin_class_event};
+pub use begins::{MOST_FRAMES, begin_class_event, throw_after};
 pub use limits::{prepared_fit, quiet_fits};
 pub use needs::{Need, need_of};
-pub use quiet::set_quietly;
-pub use steps::{begin_prepared, initialization_event, throw_after};
+pub use quiet::{begin_prepared, set_quietly};
+pub use steps::initialization_event;

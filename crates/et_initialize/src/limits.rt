@@ -97,8 +97,8 @@ impl<'a> Count<'a> {
         requires field { field < length self.now.program.now.fields }
         requires within { AreFields self.now.program.now seen.old.items }
         ensures within { OnOk result (AreFields self.now.program.now seen.new.items) }
-        ensures counted { OnOk result (Adds self.now seen.old.items seen.new.items
-            (λ e d. field_set e d field)) }
+        ensures counted { OnOk result (Adds self.now.program.now self.now.machine.now
+            seen.old.items seen.new.items (λ e d. field_set e d field)) }
     {
         if let Some(text) = text_of(self.program, field) {
             if !is_known(self.program, self.machine, seen.as_slice(), text) {
@@ -113,8 +113,8 @@ impl<'a> Count<'a> {
         requires class { class < length self.now.program.now.classes }
         requires within { AreFields self.now.program.now seen.old.items }
         ensures within { OnOk result (AreFields self.now.program.now seen.new.items) }
-        ensures counted { OnOk result (Adds self.now seen.old.items seen.new.items
-            (λ e d. constants_set e class d)) }
+        ensures counted { OnOk result (Adds self.now.program.now self.now.machine.now
+            seen.old.items seen.new.items (λ e d. constants_set e class d)) }
     {
         let constants = self.program.class(class).constants.as_slice();
         for k in 0..constants.len() {
@@ -126,9 +126,9 @@ impl<'a> Count<'a> {
     /// Adds the constants of a class that make strings, where it is untouched.
     fn count_class(&self, class: ClassId, seen: &mut Vec<FieldId>) -> Result<(), NoMemory>
         requires class { class < length self.now.program.now.classes }
-        requires counts { MayCount self.now seen.old.items }
+        requires counts { MayCount self.now.program.now self.now.machine.now seen.old.items }
         ensures within { OnOk result (AreFields self.now.program.now seen.new.items) }
-        ensures counted { OnOk result (AddsOfDone self.now
+        ensures counted { OnOk result (AddsOfDone self.now.program.now self.now.machine.now
             seen.old.items seen.new.items (λ e d. class_done e class (state_of d class) d)) }
     {
         match self.machine.class_state(class) {
@@ -140,9 +140,9 @@ impl<'a> Count<'a> {
     /// Adds the constants of all untouched classes among these that make strings.
     fn count_classes(&self, classes: &[ClassId], seen: &mut Vec<FieldId>) -> Result<(), NoMemory>
         requires all { All (λ c. c < length self.now.program.now.classes) classes.now }
-        requires counts { MayCount self.now seen.old.items }
+        requires counts { MayCount self.now.program.now self.now.machine.now seen.old.items }
         ensures within { OnOk result (AreFields self.now.program.now seen.new.items) }
-        ensures counted { OnOk result (AddsOfDone self.now
+        ensures counted { OnOk result (AddsOfDone self.now.program.now self.now.machine.now
             seen.old.items seen.new.items
             (λ e d. fold (λ x k. class_done e k (state_of x k) x) d classes.now)) }
     {
@@ -155,11 +155,12 @@ impl<'a> Count<'a> {
     /// Adds the constants that make strings of an untouched quiet class and of what is initialized with it.
     fn count_quiet(&self, class: ClassId, seen: &mut Vec<FieldId>) -> Result<(), NoMemory>
         requires class { class < length self.now.program.now.classes }
-        requires counts { MayCount self.now seen.old.items }
+        requires counts { MayCount self.now.program.now self.now.machine.now seen.old.items }
         ensures within { OnOk result (AreFields self.now.program.now seen.new.items) }
         ensures counted { OnOk result (class_state_at self.now.machine.now.guest class
             ≡ states.Untouched →
-            AddsOfDone self.now seen.old.items seen.new.items (λ e d. quietly_done e class d)) }
+            AddsOfDone self.now.program.now self.now.machine.now
+            seen.old.items seen.new.items (λ e d. quietly_done e class d)) }
         ensures other { OnOk result ((class_state_at self.now.machine.now.guest class
             ≡ states.Untouched → ⊥) → seen.new.items ≡ seen.old.items) }
     {
@@ -173,7 +174,7 @@ impl<'a> Count<'a> {
     fn count_prepared(&self, classes: &[ClassId], seen: &mut Vec<FieldId>) -> Result<(), NoMemory>
         requires program { IsInOrder self.now.program.now }
         requires all { All (λ c. c < length self.now.program.now.classes) classes.now }
-        requires counts { MayCount self.now seen.old.items }
+        requires counts { MayCount self.now.program.now self.now.machine.now seen.old.items }
         ensures within { OnOk result (AreFields self.now.program.now seen.new.items) }
         ensures counted { OnOk result ((thread : ℕ) →
             let e = moment self.now.program.now self.now.machine.now thread in
@@ -223,25 +224,6 @@ pub fn quiet_fits(
     let mut seen = Vec::new(alloc);
     count.count_classes(program.init_order(class), &mut seen)?;
     Ok(count.seen_fit(seen.as_slice(), objects, slots))
-}
-
-/// Whether the strings that the constants of a class make fit. Nothing is changed.
-pub(crate) fn constants_fit(
-    alloc: Global,
-    program: &Program,
-    machine: &Machine,
-    class: ClassId,
-) -> Result<bool, NoMemory>
-    requires class { class < length program.now.classes }
-    requires classes { length machine.now.guest.classes ≡ length program.now.classes }
-    ensures { IfOk result (λ fits. (thread : ℕ) (state : State) →
-        fits ≡ all_fit (constants_set (moment program.now machine.now thread) class
-        (with_state class state (begins (moment program.now machine.now thread)))).state.heap) }
-{
-    let count = Count { program, machine };
-    let mut seen = Vec::new(alloc);
-    count.count_constants(class, &mut seen)?;
-    Ok(count.seen_fit(seen.as_slice(), 0, 0))
 }
 
 /// Whether what these classes make, as the quiet ones become done, fits together with so many objects and slots besides
