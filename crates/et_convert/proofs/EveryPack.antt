@@ -9,8 +9,8 @@ use Rattle.std.proofs.lemmas.List.{reverse-reverse}
 use Rattle.et_base.specs.Numbers.{AreBytes}
 use Rattle.et_base.specs.declared.line.TraceLine.{TraceLine}
 use Rattle.et_base.specs.declared.line.TraceLine.TheVariants.{Header, Class, Method, Alloc, Update, Enter, Exit, Unwind, Flush, Death, Finish}
-use Rattle.et_text.specs.Spelling.{letter}
-use Rattle.et_binary.specs.Packing.{PackedField, Fixed, Prefixed, packed_field, packed_fields, opening, pack}
+use Rattle.et_text.specs.Spelling.{LineField, Number, Text, letter}
+use Rattle.et_binary.specs.Packing.{packed_field, packed_fields, opening, pack}
 use Rattle.et_binary.specs.Packs.{FitsWidth, IsPacked, IsNoLetter, IsUnfinished, IsUnpackedTo, ShowsPackFault, LacksRecord, HasPackAnswer}
 use Rattle.et_binary.specs.Packs.IsMalformed.{HasNoLetter}
 use Rattle.et_binary.specs.Packs.BreaksRecord.{BreaksTable, BreaksEnd}
@@ -49,11 +49,11 @@ small_number : (k n : ℕ) → AreSmall (bytes_high_first k n)
 small_number zero n = tt
 small_number (suc k) n = (small_byte k n, small_number k n)
 
-small_field : (f : PackedField) → FitsWidth f → AreSmall (packed_field f)
-small_field (Fixed w n) h = small_number (byte_len w) n
-small_field (Prefixed name) h = small_append (bytes_high_first 4 (length name)) name (small_number 4 (length name)) (small_each name h.1)
+small_field : (f : LineField) → FitsWidth f → AreSmall (packed_field f)
+small_field (Number w n) h = small_number (byte_len w) n
+small_field (Text name) h = small_append (bytes_high_first 4 (length name)) name (small_number 4 (length name)) (small_each name h.1)
 
-small_fields : (fs : List PackedField) → AllByRecursion FitsWidth fs → AreSmall (flat_map packed_field fs)
+small_fields : (fs : List LineField) → AllByRecursion FitsWidth fs → AreSmall (flat_map packed_field fs)
 small_fields [] h = tt
 small_fields (f ∷ fs) h = small_append (packed_field f) (flat_map packed_field fs) (small_field f h.0) (small_fields fs h.1)
 
