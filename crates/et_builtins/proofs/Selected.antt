@@ -22,11 +22,6 @@ use Rattle.et_program.specs.Entries.{Linked}
 use Rattle.et_builtins.specs.Calling.{answered}
 use Rattle.et_builtins.specs.declared.changes.Called.{Called}
 
-pub fit_answers : (e : Moment) (at : Site) (args : List Value) (o : ℕ) (b : BuiltIn) (end : EventEnd) (m m' : MachineState) (out out' : List Record) → is_fit_for e (begins e) o b ≡ true
-    → EventAnswers (row_done e at (begins e) args o b) end m m' out out' → EventAnswers (built_in_row e at (begins e) args o b) end m m' out out'
-fit_answers e at args o b end m m' out out' fit a =
-    subst (λ (x : Outcome Kept). EventAnswers x end m m' out out') (sym (ap (λ (c : Bool). ill_typed_unless e c (row_done e at (begins e) args o b)) fit)) a
-
 pub unfit_answers : (e : Moment) (at : Site) (args : List Value) (o : ℕ) (b : BuiltIn) (end : EventEnd) (m m' : MachineState) (out out' : List Record) → is_fit_for e (begins e) o b ≡ false
     → EventAnswers (ill_typed e) end m m' out out' → EventAnswers (built_in_row e at (begins e) args o b) end m m' out out'
 unfit_answers e at args o b end m m' out out' unfit a =
@@ -34,12 +29,15 @@ unfit_answers e at args o b end m m' out out' unfit a =
 
 -- WHAT IS DONE, by the kind of the method
 
-pub done_by : (p : Linked) (m m' : MachineState) (call : Called) (at : Site) (o : ℕ) (b b' : BuiltIn) (end : EventEnd) (out out' : List Record) → b ≡ b'
+pub done_by : (p : Linked) (m m' : MachineState) (call : Called) (at : Site) (o : ℕ) (b b' : BuiltIn) (end : EventEnd) (out out' : List Record)
+    → is_fit_for (moment p m call.thread) (begins (moment p m call.thread)) o b ≡ true → b ≡ b'
     → EventAnswers (row_done (moment p m call.thread) at (begins (moment p m call.thread)) (arguments_of (moment p m call.thread) call.count) o b') end m m' out out'
-    → EventAnswers (row_done (moment p m call.thread) at (begins (moment p m call.thread)) (arguments_of (moment p m call.thread) call.count) o b) end m m' out out'
-done_by p m m' call at o b b' end out out' is a =
+    → EventAnswers (built_in_row (moment p m call.thread) at (begins (moment p m call.thread)) (arguments_of (moment p m call.thread) call.count) o b) end m m' out out'
+done_by p m m' call at o b b' end out out' fit is a =
     let e = moment p m call.thread in
-    subst (λ (x : BuiltIn). EventAnswers (row_done e at (begins e) (arguments_of e call.count) o x) end m m' out out') (sym is) a
+    let args = arguments_of e call.count in
+    subst (λ (x : Outcome Kept). EventAnswers x end m m' out out')
+    (ap (λ (x : BuiltIn). row_done e at (begins e) args o x) (sym is) ∙ sym (ap (λ (c : Bool). ill_typed_unless e c (row_done e at (begins e) args o b)) fit)) a
 
 pub made_by : (p : Linked) (m m' : MachineState) (call : Called) (at : Site) (o : ℕ) (end : EventEnd) (out : List Record) (r r' q q' : Option ℕ) → r ≡ r' → q ≡ q'
     → EventAnswers (goes (with_reference_made o r q (answered p m call at []))) end m m' out out

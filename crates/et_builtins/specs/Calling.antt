@@ -16,6 +16,7 @@ use Rattle.et_event.specs.Sound.{IsSoundFor}
 use Rattle.et_builtins.specs.Plans.{HasCallRoom}
 use Rattle.et_builtins.specs.declared.changes.Called.{Called}
 use Rattle.et_builtins.specs.declared.plans.Call.{Call}
+use Rattle.et_builtins.specs.declared.plans.Callee.{Callee}
 
 -- so many of the topmost operands of a sound state are the arguments
 pub record HasArguments (p : Linked) (m : MachineState) (t count : ℕ) : Type 0 where
@@ -29,7 +30,13 @@ pub record IsCallable (p : Linked) (m : MachineState) (t called count : ℕ) : T
   pub method : called < length p.methods
   pub room : HasCallRoom (moment p m t) called count
 
--- .. and the event in which it is called may be done
+-- .. which an invoke in a method of the current class names in a named one
+pub record IsCallee (p : Linked) (m : MachineState) (t : ℕ) (callee : Callee) : Type 0 where
+  pub callable : IsCallable p m t callee.method callee.count
+  pub current : callee.current < length p.classes
+  pub named : callee.named < length p.classes
+
+-- the event in which a method is called may be done
 pub record MayCall (p : Linked) (m : MachineState) (t : ℕ) (call : Call) : Type 0 where
   pub callable : IsCallable p m t call.method call.count
   pub clock : m.guest.clock < 2 ^ 40

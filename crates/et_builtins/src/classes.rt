@@ -5,7 +5,7 @@ ghost use Rattle.et_heap.specs.Objects.{IsHeld};
 ghost use Rattle.et_heap.specs.Refs.{refs_of_value};
 ghost use Rattle.et_state.specs.State.{kept_of};
 ghost use Rattle.et_program.specs.BootNames.{built_in_class_name};
-ghost use Rattle.et_event.specs.BuiltIns.{class_argument as argument_in_table, class_argument_of as argument_of_method, is_null_or_of_class, is_object_of_class as is_of_class, is_of_its_class as is_of_class_wanted, takes_arguments as takes_in, text_argument as text_in_table};
+ghost use Rattle.et_event.specs.BuiltIns.{class_argument as argument_in_table, class_argument_of as argument_of_method, is_null_or_of_class, is_object_of_class as is_of_class, is_of_its_class as is_of_class_wanted, text_argument as text_in_table};
 ghost use Rattle.et_event.specs.Calls.{arguments_of, fits_resolved as fits_in};
 ghost use Rattle.et_event.specs.Moments.{begins, moment, object_class};
 ghost use Rattle.et_event.specs.Sound.{IsSoundFor};
@@ -155,27 +155,6 @@ fn is_of_its_class<L: Ledger>(
     is_null_or_of(program, machine, value, argument.class, visits)
 }
 
-/// Whether a method takes the arguments of a call, by their classes.
-#[inline(always)]
-fn takes_arguments<L: Ledger>(
-    program: &Program,
-    machine: &Machine,
-    thread: ThreadId,
-    method: MethodId,
-    count: u16,
-    visits: &mut Steps<L>,
-) -> bool
-    requires call { HasArguments program.now machine.now thread count }
-    requires method { method < length program.now.methods }
-    ensures value { result ≡ takes_in (moment program.now machine.now thread)
-        (begins (moment program.now machine.now thread))
-        (arguments_of (moment program.now machine.now thread) count) method }
-    ensures visits { visits.new ≤ visits.old + 1 }
-{
-    let argument = class_argument_of(program, method);
-    is_of_its_class(program, machine, thread, argument, count, visits)
-}
-
 /// Whether a method of texts takes the arguments of a call, by their classes: what is to be a string is null or one.
 pub fn takes_text<L: Ledger>(
     program: &Program,
@@ -220,5 +199,6 @@ pub(crate) fn fits_resolved<L: Ledger>(
     if !program.is_subclass(class, program.method(method).class) {
         return false;
     }
-    takes_arguments(program, machine, thread, method, count, visits)
+    let argument = class_argument_of(program, method);
+    is_of_its_class(program, machine, thread, argument, count, visits)
 }

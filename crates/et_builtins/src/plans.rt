@@ -20,7 +20,7 @@ ghost use Rattle.et_event.specs.Sites.{Member, Site, natural_of, site_member, na
 ghost use Rattle.et_event.specs.Initialization.{state_of};
 ghost use Rattle.et_event.specs.Sound.{IsSoundFor};
 ghost use Rattle.et_event.specs.Selected.{selected_from, selected_method, with_resolved};
-ghost use Rattle.et_builtins.specs.Calling.{IsCallable};
+ghost use Rattle.et_builtins.specs.Calling.{IsCallable, IsCallee};
 ghost use Rattle.et_builtins.specs.Plans.{method_entered, call_planned, HasCallRoom, HasCount, IsCallPlan, IsPassing, IsPlanOf, resolving, entered_by, fits_in_kind, is_interface_call as calls_interface, selection_in};
 
 use crate::arguments::{fitting_call, receiver};
@@ -115,7 +115,7 @@ fn fits_kind<L: Ledger>(
     class: ClassId,
     visits: &mut Steps<L>,
 ) -> bool
-    requires call { IsCallable program.now machine.now thread callee.now.method callee.now.count }
+    requires callee { IsCallee program.now machine.now thread callee.now }
     requires class { class < length program.now.classes }
     ensures value { (o : ℕ) →
         class ≡ object_class (begins (moment program.now machine.now thread)) o →
@@ -166,9 +166,7 @@ fn receiver_plan<L: Ledger>(
     callee: &Callee,
     visits: &mut Steps<L>,
 ) -> CallPlan
-    requires call { IsCallable program.now machine.now thread callee.now.method callee.now.count }
-    requires current { callee.now.current < length program.now.classes }
-    requires named { callee.now.named < length program.now.classes }
+    requires callee { IsCallee program.now machine.now thread callee.now }
     requires receives { kind ≡ kinds.Static → ⊥ }
     ensures plan { (at : Site) → at.class ≡ callee.now.current →
         IsPlanOf (moment program.now machine.now thread) at kind
@@ -235,36 +233,6 @@ fn state_plan(state: ClassState, thread: ThreadId, method: MethodId, count: u16)
     }
 }
 
-/// The plan of an invoke of a kind in a method of the current class, of a method that was resolved in a named one.
-fn dispatch_plan<L: Ledger>(
-    program: &Program,
-    machine: &Machine,
-    thread: ThreadId,
-    kind: CallKind,
-    callee: Callee,
-    visits: &mut Steps<L>,
-) -> CallPlan
-    requires call { IsCallable program.now machine.now thread callee.method callee.count }
-    requires current { callee.current < length program.now.classes }
-    requires named { callee.named < length program.now.classes }
-    requires is_static { is_as (calls_static kind) (is_static program.now callee.method) ≡ true }
-    ensures plan { (at : Site) → at.class ≡ callee.current →
-        IsPlanOf (moment program.now machine.now thread) at kind
-        callee.named callee.method callee.count result }
-    ensures deferred { (at : Site) → at.class ≡ callee.current →
-        kept (is_deferred_in program.now) (method_entered result)
-        ≡ kept (is_deferred_in program.now) (entered_by (moment program.now machine.now thread)
-        at kind callee.named callee.method callee.count) }
-    ensures within { IsCallPlan (moment program.now machine.now thread) result }
-    ensures passes { HasCount callee.count result }
-    ensures visits { visits.new ≤ visits.old + 2 }
-{
-    match kind {
-        CallKind::Static => static_plan(program, machine, thread, callee.method, callee.count),
-        _ => receiver_plan(program, machine, thread, kind, &callee, visits),
-    }
-}
-
 /// Whether an invoke calls static methods.
 fn is_static_call(kind: CallKind) -> bool
     ensures { result ≡ calls_static kind }
@@ -272,7 +240,7 @@ fn is_static_call(kind: CallKind) -> bool
     matches!(kind, CallKind::Static)
 }
 
-/// The plan of an invoke of a resolved method, which is static or not as the invoke wants it.
+/// The plan of an invoke of a kind in a method of the current class, of a method that was resolved in a named one.
 fn resolved_plan<L: Ledger>(
     program: &Program,
     machine: &Machine,
@@ -281,9 +249,7 @@ fn resolved_plan<L: Ledger>(
     callee: Callee,
     visits: &mut Steps<L>,
 ) -> CallPlan
-    requires call { IsCallable program.now machine.now thread callee.method callee.count }
-    requires current { callee.current < length program.now.classes }
-    requires named { callee.named < length program.now.classes }
+    requires callee { IsCallee program.now machine.now thread callee }
     ensures plan { (at : Site) →
         at.class ≡ callee.current → throws_unless (moment program.now machine.now thread)
         (begins (moment program.now machine.now thread)) errors.IncompatibleClassChangeError
@@ -304,7 +270,10 @@ fn resolved_plan<L: Ledger>(
     if is_static != is_static_call(kind) {
         return CallPlan::Throws(GuestError::IncompatibleClassChangeError);
     }
-    dispatch_plan(program, machine, thread, kind, callee, visits)
+    match kind {
+        CallKind::Static => static_plan(program, machine, thread, callee.method, callee.count),
+        _ => receiver_plan(program, machine, thread, kind, &callee, visits),
+    }
 }
 
 /// The method that an instruction names, as it was resolved when the program was linked (JVMS 5.4.3.3, 5.4.3.4).

@@ -7,7 +7,7 @@ ghost use Rattle.et_state.specs.State.{kept_of};
 ghost use Rattle.et_program.specs.Entries.{Linked};
 ghost use Rattle.et_state.specs.declared.records.Record.{Record};
 ghost use Rattle.et_event.specs.Answered.{EventAnswers};
-ghost use Rattle.et_event.specs.BuiltIns.{built_in_row as row_of, entries_answered, has_thread_ended as has_ended_in, is_fit_for as fits_row, reference_in, row_done, starts_thread, uses_thread as is_on_thread, uses_throwable as is_on_throwable, with_thread_for};
+ghost use Rattle.et_event.specs.BuiltIns.{built_in_row as row_of, entries_answered, has_thread_ended as has_ended_in, is_fit_for as fits_row, reference_in, starts_thread, uses_thread as is_on_thread, uses_throwable as is_on_throwable, with_thread_for};
 ghost use Rattle.et_event.specs.Calls.{arguments_of};
 ghost use Rattle.et_event.specs.Checks.{waits_unless};
 ghost use Rattle.et_event.specs.Kinds.{or_zero};
@@ -186,8 +186,8 @@ fn join_event(machine: &mut Machine, call: &Called, object: ObjectId) -> EventEn
     EventEnd::Waited
 }
 
-/// The event of a built-in method on an object for which it is fit.
-fn fit_row_event<L: Ledger>(
+/// The event of a built-in method on an object.
+pub(crate) fn row_event<L: Ledger>(
     program: &Program,
     machine: &mut Machine,
     call: &Called,
@@ -196,22 +196,27 @@ fn fit_row_event<L: Ledger>(
     out: &mut Lines,
     visits: &mut Steps<L>,
 ) -> Result<EventEnd, NoMemory>
+    requires sound { IsSoundFor program.now (kept_of machine.old) }
+    requires slots { HasMachineSlots program.now }
     requires calls { MayDo machine.old call.now }
     requires room { HasRoomFor (entries_answered built_in) machine.old call.now }
     requires object { StandsThere machine.old call.now object }
-    requires slots { slots_used built_in ≤ length (object_at machine.old.heap object).slots }
     ensures ok { IfOk result (λ end. (at : Site) → at.next ≡ call.now.next →
-        EventAnswers (row_done (moment program.now machine.old call.now.thread) at
+        EventAnswers (row_of (moment program.now machine.old call.now.thread) at
         (begins (moment program.now machine.old call.now.thread))
         (arguments_of (moment program.now machine.old call.now.thread) call.now.count)
         object built_in) end machine.old machine.new out.old out.new) }
-    ensures visits { visits.new ≤ visits.old + 2 }
+    ensures visits { visits.new ≤ visits.old + 3 }
 {
+    if !is_fit(program, machine, object, built_in, visits) {
+        return Ok(ill_typed(machine, call.thread));
+    }
     let value = argument_at(machine, call.thread, call.count, 1);
     match built_in {
         BuiltIn::Nothing => Ok(give_nothing(machine, call)),
-        BuiltIn::SetMessage => write_one(machine, call, object, value, out, visits),
-        BuiltIn::SetTarget => write_one(machine, call, object, value, out, visits),
+        BuiltIn::SetMessage | BuiltIn::SetTarget => {
+            write_one(machine, call, object, value, out, visits)
+        }
         BuiltIn::SetMessageAndCause => {
             let cause = argument_at(machine, call.thread, call.count, 2);
             write_two(machine, call, object, value, cause, out, visits)
@@ -236,32 +241,4 @@ fn fit_row_event<L: Ledger>(
         BuiltIn::ClearReferent => Ok(clear_referent(machine, call, object, visits)),
         BuiltIn::Poll => Ok(give_first(machine, call, object, visits)),
     }
-}
-
-/// The event of a built-in method on an object.
-pub(crate) fn row_event<L: Ledger>(
-    program: &Program,
-    machine: &mut Machine,
-    call: &Called,
-    object: ObjectId,
-    built_in: BuiltIn,
-    out: &mut Lines,
-    visits: &mut Steps<L>,
-) -> Result<EventEnd, NoMemory>
-    requires sound { IsSoundFor program.now (kept_of machine.old) }
-    requires slots { HasMachineSlots program.now }
-    requires calls { MayDo machine.old call.now }
-    requires room { HasRoomFor (entries_answered built_in) machine.old call.now }
-    requires object { StandsThere machine.old call.now object }
-    ensures ok { IfOk result (λ end. (at : Site) → at.next ≡ call.now.next →
-        EventAnswers (row_of (moment program.now machine.old call.now.thread) at
-        (begins (moment program.now machine.old call.now.thread))
-        (arguments_of (moment program.now machine.old call.now.thread) call.now.count)
-        object built_in) end machine.old machine.new out.old out.new) }
-    ensures visits { visits.new ≤ visits.old + 3 }
-{
-    if is_fit(program, machine, object, built_in, visits) {
-        return fit_row_event(program, machine, call, object, built_in, out, visits);
-    }
-    Ok(ill_typed(machine, call.thread))
 }

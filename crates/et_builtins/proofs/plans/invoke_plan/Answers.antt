@@ -98,13 +98,19 @@ resolve-requires-clause-pool g c = place_pool c.args.program.now _ c.args.place.
 
 -- WHAT IS RETURNED FITS
 
-pub resolved_plan-requires-clause-call : goal.resolved_plan-requires-clause-call
-resolved_plan-requires-clause-call g c =
+pub resolved_plan-requires : goal.resolved_plan-requires
+resolved_plan-requires g c =
     let e = moment c.args.program.now c.args.machine.now c.args.thread in
     let at = site_at c.args.place.now in
     let f = fits_at e at c.args.kind c.args.place.now.class c.index_of.result c.in-Some.shape.now c.is_static_call.result (Some c.in-Some-fitting_call.count) (place_pool c.args.program.now _ c.args.place.now c.requires.place) c.index_of.ensures c.in-Some.ensures c.is_static_call.ensures (c.in-Some-fitting_call.ensures.value c.args.program.now) in
     record {
-      arguments = record { frame = c.requires.frame; sound = c.requires.sound; operands = c.in-Some-fitting_call.ensures.operands };
-      method = c.in-Ok.ensures.within.1;
-      room = resolved_room e c.in-Ok.found.1 c.in-Some-fitting_call.count f.has.member.descriptor f.has.type c.in-Some.shape.now (c.in-Ok.ensures.same f.has.member f.has.named) f.has.typed f.has.is c.in-Some-fitting_call.ensures.room;
+      callee = record {
+        callable = record {
+          arguments = record { frame = c.requires.frame; sound = c.requires.sound; operands = c.in-Some-fitting_call.ensures.operands };
+          method = c.in-Ok.ensures.within.1;
+          room = resolved_room e c.in-Ok.found.1 c.in-Some-fitting_call.count f.has.member.descriptor f.has.type c.in-Some.shape.now (c.in-Ok.ensures.same f.has.member f.has.named) f.has.typed f.has.is c.in-Some-fitting_call.ensures.room;
+        };
+        current = c.requires.class;
+        named = c.in-Ok.ensures.within.0;
+      };
     }

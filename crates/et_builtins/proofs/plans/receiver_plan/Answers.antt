@@ -70,7 +70,7 @@ returns g c =
           ∙ sym (ap (λ (o : Option ℕ). option_and_then (selected_on e at c.args.kind args x.named x.method) o) (sym c.in-Some.ensures.value)
           ∙ (selects_on e at c.args.kind args x.named x.method c.in-Some.receiver c.requires.receives
           ∙ (ap (λ (b : Bool). if b then result_ok (selection_in p c.args.kind at.class x.named x.method (object_class (begins e) c.in-Some.receiver)) else None) fit ∙ ap (λ (r : Result ℕ LinkError). result_ok r) (answer at same))));
-      within = c.selected.ensures.within e c.selection-answer.ensures.within (selection_room e c.args.kind x.current x.named x.method c.class_of-class.result x.count c.selection-answer.result c.selection-answer.ensures.value c.requires.call.room) c.requires.call.arguments.operands;
+      within = c.selected.ensures.within e c.selection-answer.ensures.within (selection_room e c.args.kind x.current x.named x.method c.class_of-class.result x.count c.selection-answer.result c.selection-answer.ensures.value c.requires.callee.callable.room) c.requires.callee.callable.arguments.operands;
       passes = c.selected.ensures.passes;
       visits = omega (arith, c.class_of-class.ensures.visits, c.if-not-fits_kind.ensures.visits);
     }
