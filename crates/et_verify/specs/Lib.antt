@@ -1,5 +1,6 @@
 pub mod Effects
 pub mod Steps
+pub mod Groups
 pub mod Calling
 pub mod Leads
 pub mod Typings

@@ -1,16 +1,11 @@
 //! The code of a method, as the search for its typing goes over it.
 ghost use Rattle.std.specs.Prelude.{◌≡◌, ℕ, ◌+◌, ◌<◌, ◌≤◌, ◌^◌, ◌++◌, [], true, false, length, map, None, Some, IfSome, IfNone, IfOk, OnOk, IsSome, ◌||◌};
 ghost use Rattle.std.specs.List.{flat_map};
-ghost use Rattle.std.specs.Int.{w8, w16};
-ghost use Rattle.std.specs.Option.{option_copied};
-ghost use Rattle.et_base.specs.Numbers.{number_at};
 ghost use Rattle.et_code.specs.Bodies.{Body, body_of};
 ghost use Rattle.et_program.specs.Entries.{Linked, is_static as static_at, method_at};
 ghost use Rattle.et_event.specs.Programs.{is_initializing};
-ghost use Rattle.et_event.specs.Sites.{pool_of_class};
-ghost use Rattle.et_event.specs.Pools.{pool_slots};
 ghost use Rattle.et_pool.specs.Operands.{shape_in};
-ghost use Rattle.et_verify.specs.Methods.{IsPlaceIn, StandsAt};
+ghost use Rattle.et_verify.specs.Methods.{StandsAt};
 ghost use Rattle.et_flow.specs.Stores.{with_free};
 ghost use Rattle.et_verify.specs.Typings.{parameter_entries, argument_entries, HasTyping};
 
@@ -22,7 +17,6 @@ use crate::plain::plain_row;
 use crate::rows::{step, step_returned, step_within};
 use crate::simple::simple_at;
 use crate::targets::mark_method;
-use et_base::numbers::{u8_at, u16_at};
 use et_base::{ClassId, MethodId, NoMemory};
 use et_class::flags::{STATIC, has};
 use et_code::{RawCode, TableRow};
@@ -32,50 +26,6 @@ use et_pool::{CallShape, Pool, Returned};
 use et_program::{MethodInfo, Program};
 use std::alloc::Global;
 use std::marker::Model;
-
-/// A byte is a number of 8 bits.
-fn byte_is_small(code: &[u8], at: usize)
-    ensures { IfSome (number_at w8 code.now at) (λ x. x.0 < 2 ^ 8) }
-{
-    if let Some((_byte, _at)) = u8_at(code, at) {}
-}
-
-/// Two bytes are a number of 16 bits.
-fn short_is_small(code: &[u8], at: usize)
-    ensures { IfSome (number_at w16 code.now at) (λ x. x.0 < 2 ^ 16) }
-{
-    if let Some((_short, _at)) = u16_at(code, at) {}
-}
-
-/// An instruction of the code of a method of a class that has such a pool.
-#[inline(always)]
-fn place_in<'a>(
-    class: ClassId,
-    pool: Option<&'a Pool>,
-    code: &'a [u8],
-    pc: u32,
-    at: &Decoded,
-) -> Place<'a>
-    requires { StandsAt code.now pc at.now }
-    ensures is { (p : Linked) (m : ℕ) (body : Body) → body.code ≡ code.now →
-        class ≡ (method_at p m).class →
-        pool_slots (option_copied pool.entry) ≡ pool_of_class p (method_at p m).class →
-        IsPlaceIn p m body pc result }
-    ensures row { result.row ≡ at.now.row }
-    ensures instr { result.instr ≡ at.now.instr }
-    ensures next { result.next ≡ at.now.next }
-{
-    byte_is_small(code, pc as usize + 1);
-    short_is_small(code, pc as usize + 1);
-    Place {
-        row: at.row,
-        instr: at.instr,
-        next: at.next,
-        code,
-        pool,
-        class,
-    }
-}
 
 /// The code of a method, and what is read off the method once.
 #[derive(Drop)]
@@ -145,7 +95,14 @@ impl<'a> MethodFlow<'a> {
         let code = self.code.code.as_slice();
         let class = self.info.class;
         let pool = self.program.pool(class);
-        let place = place_in(class, pool, code, pc, at);
+        let place = Place {
+            row: at.row,
+            instr: at.instr,
+            next: at.next,
+            code,
+            pool,
+            class,
+        };
         let room = self.code.max_stack as usize;
         let done = step(types, self.program, &place, self.returned, room)?;
         Ok(done)
@@ -392,8 +349,6 @@ pub(crate) fn has_typing(
     ensures no { IfOk result (λ b. b ≡ false → HasTyping program.now method → ⊥) }
     ensures code { IfOk result (λ b. b ≡ false → IsSome (method_at program.now method).code) }
 {
-    // A law: it tells the prover, and does nothing.
-    et_code::laws::kept_code();
     let info = program.method(method);
     let Some(code) = &info.code else {
         return Ok(true);

@@ -1,7 +1,8 @@
 //! Rearrangements of the topmost operands (JVMS 2.11.6), by their types.
-ghost use Rattle.std.specs.Prelude.{◌≡◌, [], ◌∷◌, true, false, Some, None, IfOk, OnOk, IfSome, IfNone};
+ghost use Rattle.std.specs.Prelude.{◌≡◌, [], ◌∷◌, ◌++◌, true, false, Some, None, IfOk, OnOk, IfSome, IfNone};
 ghost use Rattle.et_event.specs.declared.rows.Rearrangement.TheVariants as stack;
 ghost use Rattle.et_verify.specs.Steps.{is_one, is_pair as pair_first, Rearranges, rearranged_types};
+ghost use Rattle.et_verify.specs.Groups.{entries_of, is_group, are_groups, IsGroup, doubling, inserting};
 
 use et_base::NoMemory;
 use et_event::Rearrangement;
@@ -49,100 +50,92 @@ fn pop_pair(types: &mut Types) -> Option<(EntryType, EntryType)>
     Some((upper, lower))
 }
 
-/// Puts two entries on top, of which the first is the upper one.
-fn push_pair(types: &mut Types, pair: (EntryType, EntryType)) -> Result<(), NoMemory>
-    ensures operands { OnOk result (types.new.operands ≡ pair.0 ∷ pair.1 ∷ types.old.operands) }
+/// How many entries a group of operands has: one that is a value by itself, or two that are a long or two such values.
+#[derive(Clone, Copy)]
+enum Width {
+    One,
+    Two,
+}
+
+/// The entries of a group of operands, the upper one first.
+#[derive(Clone, Copy)]
+enum Group {
+    One(EntryType),
+    Two(EntryType, EntryType),
+}
+
+/// Takes a group. Where none of this width stands on top, some of its entries may be gone then.
+fn pop_group(types: &mut Types, width: Width) -> Option<Group>
+    ensures some { IfSome result (λ group. types.old.operands
+        ≡ entries_of group ++ types.new.operands) }
+    ensures whole { IfSome result (λ group. IsGroup width group types.old.operands) }
+    ensures none { IfNone result (is_group width types.old.operands ≡ false) }
+    ensures locals { types.new.locals ≡ types.old.locals }
+{
+    match width {
+        Width::One => {
+            let entry = pop_one(types)?;
+            Some(Group::One(entry))
+        }
+        Width::Two => {
+            let (upper, lower) = pop_pair(types)?;
+            Some(Group::Two(upper, lower))
+        }
+    }
+}
+
+/// Puts a group on top.
+fn push_group(types: &mut Types, group: Group) -> Result<(), NoMemory>
+    ensures operands { OnOk result
+        (types.new.operands ≡ entries_of group ++ types.old.operands) }
     ensures locals { OnOk result (types.new.locals ≡ types.old.locals) }
 {
-    types.push_entry(pair.1)?;
-    types.push_entry(pair.0)
+    match group {
+        Group::One(entry) => types.push_entry(entry),
+        Group::Two(upper, lower) => {
+            types.push_entry(lower)?;
+            types.push_entry(upper)
+        }
+    }
 }
 
-/// `dup`.
-fn dup(types: &mut Types) -> Result<bool, NoMemory>
-    ensures { IfOk result (Rearranges stack.Dup types.old types.new) }
+/// Puts a copy of the topmost group on top: `dup` or `dup2`, by the width.
+fn double(types: &mut Types, width: Width) -> Result<bool, NoMemory>
+    ensures { IfOk result (Rearranges (doubling width) types.old types.new) }
 {
-    let Some(first) = pop_one(types) else {
+    let Some(group) = pop_group(types, width) else {
         return Ok(false);
     };
-    types.push_entry(first)?;
-    types.push_entry(first)?;
+    push_group(types, group)?;
+    push_group(types, group)?;
     Ok(true)
 }
 
-/// `dup_x1`.
-fn dup_x1(types: &mut Types) -> Result<bool, NoMemory>
-    ensures { IfOk result (Rearranges stack.DupX1 types.old types.new) }
+/// Takes two groups, the upper one first. Where no such groups stand on top, some entries may be gone then.
+fn pop_groups(types: &mut Types, upper: Width, lower: Width) -> Option<(Group, Group)>
+    ensures some { IfSome result (λ x. types.old.operands
+        ≡ entries_of x.0 ++ (entries_of x.1 ++ types.new.operands)) }
+    ensures upper { IfSome result (λ x. IsGroup upper x.0 types.old.operands) }
+    ensures lower { IfSome result
+        (λ x. IsGroup lower x.1 (entries_of x.1 ++ types.new.operands)) }
+    ensures none { IfNone result (are_groups upper lower types.old.operands ≡ false) }
+    ensures locals { types.new.locals ≡ types.old.locals }
 {
-    let Some(first) = pop_one(types) else {
-        return Ok(false);
-    };
-    let Some(second) = pop_one(types) else {
-        return Ok(false);
-    };
-    types.push_entry(first)?;
-    types.push_entry(second)?;
-    types.push_entry(first)?;
-    Ok(true)
+    let first = pop_group(types, upper)?;
+    let second = pop_group(types, lower)?;
+    Some((first, second))
 }
 
-/// `dup_x2`.
-fn dup_x2(types: &mut Types) -> Result<bool, NoMemory>
-    ensures { IfOk result (Rearranges stack.DupX2 types.old types.new) }
+/// Puts a copy of the topmost group below the group under it: `dup_x1`, `dup_x2`, `dup2_x1` or `dup2_x2`, by their widths.
+fn insert(types: &mut Types, upper: Width, lower: Width) -> Result<bool, NoMemory>
+    ensures { IfOk result (Rearranges (inserting upper lower) types.old types.new) }
 {
-    let Some(first) = pop_one(types) else {
+    let Some((first, second)) = pop_groups(types, upper, lower) else {
         return Ok(false);
     };
-    let Some(below) = pop_pair(types) else {
-        return Ok(false);
-    };
-    types.push_entry(first)?;
-    push_pair(types, below)?;
-    types.push_entry(first)?;
-    Ok(true)
-}
-
-/// `dup2`.
-fn dup2(types: &mut Types) -> Result<bool, NoMemory>
-    ensures { IfOk result (Rearranges stack.Dup2 types.old types.new) }
-{
-    let Some(first) = pop_pair(types) else {
-        return Ok(false);
-    };
-    push_pair(types, first)?;
-    push_pair(types, first)?;
-    Ok(true)
-}
-
-/// `dup2_x1`.
-fn dup2_x1(types: &mut Types) -> Result<bool, NoMemory>
-    ensures { IfOk result (Rearranges stack.Dup2X1 types.old types.new) }
-{
-    let Some(first) = pop_pair(types) else {
-        return Ok(false);
-    };
-    let Some(below) = pop_one(types) else {
-        return Ok(false);
-    };
-    push_pair(types, first)?;
-    types.push_entry(below)?;
-    push_pair(types, first)?;
-    Ok(true)
-}
-
-/// `dup2_x2`.
-fn dup2_x2(types: &mut Types) -> Result<bool, NoMemory>
-    ensures { IfOk result (Rearranges stack.Dup2X2 types.old types.new) }
-{
-    let Some(first) = pop_pair(types) else {
-        return Ok(false);
-    };
-    let Some(below) = pop_pair(types) else {
-        return Ok(false);
-    };
-    push_pair(types, first)?;
-    push_pair(types, below)?;
-    push_pair(types, first)?;
+    push_group(types, first)?;
+    push_group(types, second)?;
+    push_group(types, first)?;
     Ok(true)
 }
 
@@ -150,14 +143,11 @@ fn dup2_x2(types: &mut Types) -> Result<bool, NoMemory>
 fn swap(types: &mut Types) -> Result<bool, NoMemory>
     ensures { IfOk result (Rearranges stack.Swap types.old types.new) }
 {
-    let Some(first) = pop_one(types) else {
+    let Some((first, second)) = pop_groups(types, Width::One, Width::One) else {
         return Ok(false);
     };
-    let Some(second) = pop_one(types) else {
-        return Ok(false);
-    };
-    types.push_entry(first)?;
-    types.push_entry(second)?;
+    push_group(types, first)?;
+    push_group(types, second)?;
     Ok(true)
 }
 
@@ -174,12 +164,12 @@ pub(crate) fn rearrange(types: &mut Types, rearrangement: Rearrangement) -> Resu
         Rearrangement::Nop => true,
         Rearrangement::Pop => pop_one(types).is_some(),
         Rearrangement::Pop2 => pop_pair(types).is_some(),
-        Rearrangement::Dup => dup(types)?,
-        Rearrangement::DupX1 => dup_x1(types)?,
-        Rearrangement::DupX2 => dup_x2(types)?,
-        Rearrangement::Dup2 => dup2(types)?,
-        Rearrangement::Dup2X1 => dup2_x1(types)?,
-        Rearrangement::Dup2X2 => dup2_x2(types)?,
+        Rearrangement::Dup => double(types, Width::One)?,
+        Rearrangement::DupX1 => insert(types, Width::One, Width::One)?,
+        Rearrangement::DupX2 => insert(types, Width::One, Width::Two)?,
+        Rearrangement::Dup2 => double(types, Width::Two)?,
+        Rearrangement::Dup2X1 => insert(types, Width::Two, Width::One)?,
+        Rearrangement::Dup2X2 => insert(types, Width::Two, Width::Two)?,
         Rearrangement::Swap => swap(types)?,
     };
     Ok(done)

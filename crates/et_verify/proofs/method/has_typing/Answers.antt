@@ -3,6 +3,7 @@ use Rattle.std.specs.Prelude.{nat_le, nat_lt, ◌^◌}
 use Rattle.std.proofs.lemmas.Bool.{and_parts, leb-true, ltb-true}
 use Rattle.et_code.specs.Bodies.{Body}
 use Rattle.et_code.specs.Kept.{IsKeptCode}
+use Rattle.et_code.proofs.Keeping.{kept_code}
 use Rattle.et_program.specs.declared.info.MethodInfo.{MethodInfo}
 use Rattle.et_verify.proofs.Decided.{no_code, no_type}
 use Rattle.et_verify.proofs.method.has_typing.Goals.{After-raw}
@@ -18,7 +19,7 @@ returns-in_default-method_shape-clause-no c = λ e.
 -- the code that is kept has one byte at least, and fewer than 65,536
 sized : (c : After-raw) → (1 ≤ length c.raw.result.now.code.items) × (length c.raw.result.now.code.items < 2 ^ 16)
 sized c =
-    let kept : IsKeptCode c.in-Some.code c.raw.ensures.kept.tags = c.kept_code.ensures c.in-Some.code c.raw.ensures.kept.tags c.raw.ensures.kept.kept in
+    let kept : IsKeptCode c.in-Some.code c.raw.ensures.kept.tags = kept_code c.in-Some.code c.raw.ensures.kept.tags c.raw.ensures.kept.kept in
     let both = and_parts (nat_le 1 (length c.in-Some.code.code)) (nat_lt (length c.in-Some.code.code) (2 ^ 16)) kept.sized in
     let same : length c.raw.result.now.code.items ≡ length c.in-Some.code.code = ap (λ (b : Body). length b.code) c.raw.ensures.items in
     (omega (arith, leb-true 1 (length c.in-Some.code.code) both.0, same), omega (arith, ltb-true (length c.in-Some.code.code) (2 ^ 16) both.1, same))
