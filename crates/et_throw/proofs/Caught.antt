@@ -1,8 +1,7 @@
 -- The event in which a handler is entered.
-use Rattle.std.proofs.Common.{◌≡◌, ℕ, ◌+◌, ◌<◌, ◌≤◌, ◌^◌, Bool, List, [], ◌∷◌, ◌++◌, length, Some, None, option_to_list, refl, sym, ◌∙◌, ap, subst, arith, Contains, get_or-set_same, set-set, append-nil, ltb, inl, inr}
+use Rattle.std.proofs.Common.{◌≡◌, ℕ, ◌+◌, ◌<◌, ◌≤◌, ◌^◌, List, [], ◌∷◌, ◌++◌, length, Some, None, option_to_list, sym, ◌∙◌, ap, subst, arith, Contains, get_or-set_same, set-set, append-nil, inl, inr}
 use Rattle.std.proofs.lemmas.List.{length-set, length-append}
 use Rattle.std.proofs.lemmas.List.Elements.{Contains-append_left, Contains-append_right}
-use Rattle.std.proofs.lemmas.Bool.{lt-ltb}
 use Rattle.et_heap.proofs.Places.{at_most_one}
 use Rattle.et_heap.proofs.References.{one_reference}
 use Rattle.et_base.specs.declared.value.Value.{Value}
@@ -10,7 +9,6 @@ use Rattle.et_base.specs.declared.value.Value.TheVariants.{Ref}
 use Rattle.et_base.proofs.Lists.{Contains-cons, Contains-none}
 use Rattle.et_heap.specs.Objects.{IsHeld}
 use Rattle.et_heap.specs.Refs.{refs_of, refs_of_value}
-use Rattle.et_program.specs.Entries.{Linked}
 use Rattle.et_state.specs.Threads.{FrameState, ThreadState, no_thread, at_pc, pushed, without_operands, with_pending, with_top_of, lost_room}
 use Rattle.et_state.specs.ThreadRoots.{frame_roots}
 use Rattle.et_state.specs.State.{GuestState, Kept, MachineState, kept_of}
@@ -20,14 +18,7 @@ use Rattle.et_state.specs.Moves.{IsOnWay, Led}
 use Rattle.et_state.proofs.Places.{pending_root, top_root}
 use Rattle.et_state.proofs.Calls.{on_begin_event, on_take_pending}
 use Rattle.et_state.proofs.Steps.{Did, did_begin, did_clear_operands, did_push, did_set_pc, did_on_way, led_plain, root_there}
-use Rattle.et_state.specs.declared.records.Record.{Record}
-use Rattle.et_state.specs.declared.ends.EventEnd.{EventEnd}
-use Rattle.et_state.specs.declared.ends.EventEnd.TheVariants as ends
-use Rattle.et_event.specs.Answered.{EventAnswers}
-use Rattle.et_event.specs.Moments.{moment, begins, with_thread_state, goes}
-use Rattle.et_event.specs.Checks.{ill_typed_unless}
-use Rattle.et_event.specs.Throw.{handled, caught}
-use Rattle.et_event.proofs.Answering.{ill_typed_answers, ill_typed_end}
+use Rattle.et_event.specs.Throw.{handled}
 use Rattle.et_throw.specs.Unwinding.{handled_state}
 use Rattle.et_throw.proofs.Turning.{pending_held}
 
@@ -96,19 +87,3 @@ handled_loses m t o handler m₁ m₂ m₃ m₄ small e₁ e₂ e₃ e₄ =
     let l₄ : m₄.lost ≡ refs_of ops = ap (λ (n : MachineState). n.lost) e₄ ∙ (append-nil m₃.lost ∙ l₃) in
     let few : length (refs_of ops) ≤ length ops = refs_are_few ops in
     subst (λ (os : List ℕ). length os < lost_room) (sym l₄) (omega arith)
-
--- WHAT IT ANSWERS
-
-pub caught_answers : (p : Linked) (t o handler : ℕ) (m m' : MachineState) (out : List Record) → 0 < (top m.guest t).room → Led (kept_of m) (handled_state m t o handler) m'
-    → EventAnswers (caught (moment p m t) o handler) ends.Done m m' out out
-caught_answers p t o handler m m' out room led =
-    let e = moment p m t in
-    subst (λ (b : Bool). EventAnswers (ill_typed_unless e b (goes (with_thread_state e (with_pending None (with_top_of (thread_at m.guest t) (handled (top m.guest t) handler o))) (begins e)))) ends.Done m m' out out)
-    (sym (lt-ltb 0 (top m.guest t).room room)) (led, sym (append-nil out))
-
-pub uncaught_answers : (p : Linked) (t o handler : ℕ) (m : MachineState) (out : List Record) (end : EventEnd) → (top m.guest t).room ≡ 0 → end ≡ ill_typed_end m t
-    → EventAnswers (caught (moment p m t) o handler) end m m out out
-uncaught_answers p t o handler m out end none is =
-    let e = moment p m t in
-    subst (λ (n : ℕ). EventAnswers (ill_typed_unless e (ltb 0 n) (goes (with_thread_state e (with_pending None (with_top_of (thread_at m.guest t) (handled (top m.guest t) handler o))) (begins e)))) end m m out out)
-    (sym none) (ill_typed_answers p t m m out end refl is)

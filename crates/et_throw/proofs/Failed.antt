@@ -37,7 +37,7 @@ use Rattle.et_event.specs.Errors.{error_class}
 use Rattle.et_event.specs.Initialization.{with_state}
 use Rattle.et_event.specs.Moments.{moment, Doing, fits_heap, number_of_value, ends_event as ending}
 use Rattle.et_event.specs.Throw.{replaced}
-use Rattle.et_event.proofs.Throwing.{ends_fit, ends_full}
+use Rattle.et_event.proofs.Throwing.{ends_fit}
 use Rattle.et_throw.specs.Unwinding.{initializer_left, initializer_dropped, unwind_records, IsThrowMade}
 use Rattle.et_throw.proofs.Caught.{roots_are_few}
 use Rattle.et_throw.proofs.Turning.{pending_held}
@@ -237,16 +237,6 @@ replaced_answers p t class o true m m' out out' sound has pending room e told_is
 replaced_answers p t class o false m m' out out' sound has pending room e told_is =
     done_by p t class o false m m' out out' (fits_caused m.heap (kind_of p) (slots_of p) o sound.room ∙ room) (replaced_led m m' t class (kind_of p) (slots_of p) o sound has pending e) (records_told p m t o false out out' told_is)
 
-full_by : (p : Linked) (t class o : ℕ) (tells : Bool) (m m' : MachineState) (out : List Record) → fits_heap (replaced_there p m t class o tells).state.heap ≡ false → m' ≡ m
-    → EventAnswers (ending (replaced_there p m t class o tells)) ends.ObjectLimit m m' out out
-full_by p t class o tells m m' out full same =
-    subst (λ (x : Outcome Kept). EventAnswers x ends.ObjectLimit m m' out out) (sym (ends_full (replaced_there p m t class o tells) full)) (same, refl)
-
-pub full_answers : (p : Linked) (t class o : ℕ) (tells : Bool) (m m' : MachineState) (out : List Record) → IsSound (kept_of m) → has_room m.heap 1 (slots_of p) ≡ false → m' ≡ m
-    → EventAnswers (ending (replaced_there p m t class o tells)) ends.ObjectLimit m m' out out
-full_answers p t class o true m m' out sound full same = full_by p t class o true m m' out (fits_caused m.heap (kind_of p) (slots_of p) o sound.room ∙ full) same
-full_answers p t class o false m m' out sound full same = full_by p t class o false m m' out (fits_caused m.heap (kind_of p) (slots_of p) o sound.room ∙ full) same
-
 -- .. of the class that has the name, call by call
 abbrev told_error : MachineState → ℕ → ℕ → ℕ → ℕ → ℕ → List Record
 told_error m t n kind slots o = Alloc (m.guest.clock + 1) t n kind (16 + 8 * slots) 0 ∷ Update (m.guest.clock + 1) t n 1 0 o ∷ []
@@ -281,8 +271,3 @@ replaced_by_name p t class kind slots n o tells m m₀ m₃ m₄ m' out out₁ o
     let all : slots ≡ slots_of p = slots_by_name p kind slots name many in
     replaced_answers p t class o tells m m' out out' sound has pending (ap (λ (k : ℕ). has_room m.heap 1 k) (sym all) ∙ made.0) (error_is p m t class kind slots n o m₀ m₃ m₄ m' name all made e₃ e₄ e₅)
     (told_is_there p m t kind slots n o tells m₀ out out₁ out' name all made told₁ told₂)
-
-pub full_by_name : (p : Linked) (t class kind slots o : ℕ) (tells : Bool) (m m₀ : MachineState) (out : List Record) → IsSound (kept_of m) → kind ≡ kind_of p → slots ≡ (class_at p kind).info.slots → IsThrowMade kind slots None m m₀
-    → EventAnswers (ending (replaced_there p m t class o tells)) ends.ObjectLimit m m₀ out out
-full_by_name p t class kind slots o tells m m₀ out sound name many made =
-    full_answers p t class o tells m m₀ out sound (ap (λ (k : ℕ). has_room m.heap 1 k) (sym (slots_by_name p kind slots name many)) ∙ made.0) made.1

@@ -48,7 +48,3 @@ pub turn_ill_typed : (p : Linked) (t : ℕ) (m m' : MachineState) (out : List Re
     → EventAnswers (event p (kept_of m) t) end m m' out out
 turn_ill_typed p t m m' out end turn pending same is =
     subst (λ (x : Outcome Kept). EventAnswers x end m m' out out) (sym (step_is p m t turn ∙ ap (λ (q : Option ℕ). unwinding_step (moment p m t) q) pending)) (ill_typed_answers p t m m' out end same is)
-
-pub stage_answers : {E : Type 0} (p : Linked) (t o : ℕ) (stage : Stage) (m m' : MachineState) (out out' : List Record) (r : Result EventEnd E) → (top m.guest t).stage ≡ stage
-    → IfOk r (λ end. EventAnswers (unwinds (moment p m t) o stage) end m m' out out') → IfOk r (λ end. EventAnswers (unwinds (moment p m t) o (top m.guest t).stage) end m m' out out')
-stage_answers p t o stage m m' out out' r at h = subst (λ (x : Stage). IfOk r (λ end. EventAnswers (unwinds (moment p m t) o x) end m m' out out')) (sym at) h

@@ -12,7 +12,7 @@ fn table_in(code: &Code) -> &[TableRow]
     ensures stack { code.now.max_stack < 2 ^ 16 }
 {
     let raw = code.raw();
-    let _locals = raw.max_locals;
+    // A number that is read is known to fit its type.
     let _stack = raw.max_stack;
     raw.table.as_slice()
 }

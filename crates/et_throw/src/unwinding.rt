@@ -9,14 +9,14 @@ ghost use Rattle.et_event.specs.Answered.{EventAnswers};
 ghost use Rattle.et_event.specs.Event.{event};
 ghost use Rattle.et_event.specs.Sites.{running_method as method_in};
 ghost use Rattle.et_event.specs.Sound.{IsSoundFor};
-ghost use Rattle.et_event.specs.Throw.{by_handler, handler_of, unwound, unwinds};
+ghost use Rattle.et_event.specs.Throw.{by_handler, handler_of, unwound};
 ghost use Rattle.et_event.specs.Monitors.{lock_in as lock_in_frame};
 ghost use Rattle.et_event.specs.Locks.{locks_of, HasSome};
 ghost use Rattle.et_event.specs.Places.{Runs};
 ghost use Rattle.et_event.specs.Interfaces.{KnowsInterfaces};
 ghost use Rattle.et_event.specs.Moments.{moment};
 ghost use Rattle.et_throw.specs.Leaving.{MayLeave};
-ghost use Rattle.et_throw.specs.Unwinding.{Unwinds, UnwindsThrown, leaving_if_owned, method_left};
+ghost use Rattle.et_throw.specs.Unwinding.{UnwindsThrown, leaving_if_owned, method_left};
 
 use crate::catching::catch_event;
 use crate::failing::{Initializer, Thrown, fail_event};
@@ -139,40 +139,6 @@ fn class_of<L: Ledger>(machine: &Machine, exception: ObjectId, visits: &mut Step
     machine.heap.class_of(exception, visits)
 }
 
-/// The turn in which this exception is pending, by what the topmost frame is for.
-fn unwind_event<L: Ledger>(
-    program: &Program,
-    machine: &mut Machine,
-    thread: ThreadId,
-    exception: ObjectId,
-    out: &mut Lines,
-    visits: &mut Steps<L>,
-) -> Result<EventEnd, NoMemory>
-    requires unwinds { Unwinds program.now machine.old thread exception }
-    requires interfaces { KnowsInterfaces program.now }
-    ensures ok { IfOk result
-        (λ end. EventAnswers (unwinds (moment program.now machine.old thread) exception
-        (top machine.old.guest thread).stage) end machine.old machine.new out.old out.new) }
-    ensures err { OnErr result (machine.new.guest ≡ machine.old.guest) }
-    ensures visits { visits.new ≤ visits.old + 4 }
-{
-    let class = class_of(machine, exception, visits);
-    let thrown = Thrown { exception, class };
-    match machine.stage(thread) {
-        Stage::Plain => unwind_method(program, machine, thread, None, thrown, out, visits),
-        Stage::Before(class) => {
-            let initializer = Initializer {
-                class,
-                entered: false,
-            };
-            fail_event(program, machine, thread, initializer, thrown, out, visits)
-        }
-        Stage::Clinit(class) => {
-            unwind_method(program, machine, thread, Some(class), thrown, out, visits)
-        }
-    }
-}
-
 /// The event of a thread whose turn is to unwind the exception that is pending (JVMS 2.10, and 5.5 for initializers): a
 /// handler of the topmost frame is entered, or the frame is dropped, its monitor left once where the thread owns it, and the
 /// class of an initializer has failed. It answers what the table of events says: `Done`, and then the machine keeps the next
@@ -200,5 +166,19 @@ pub(crate) fn unwinding_event<L: Ledger>(
     let Some(exception) = machine.pending(thread) else {
         return Ok(ill_typed(machine, thread));
     };
-    unwind_event(program, machine, thread, exception, out, visits)
+    let class = class_of(machine, exception, visits);
+    let thrown = Thrown { exception, class };
+    match machine.stage(thread) {
+        Stage::Plain => unwind_method(program, machine, thread, None, thrown, out, visits),
+        Stage::Before(class) => {
+            let initializer = Initializer {
+                class,
+                entered: false,
+            };
+            fail_event(program, machine, thread, initializer, thrown, out, visits)
+        }
+        Stage::Clinit(class) => {
+            unwind_method(program, machine, thread, Some(class), thrown, out, visits)
+        }
+    }
 }
