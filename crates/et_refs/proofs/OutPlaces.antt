@@ -23,17 +23,17 @@ use Rattle.et_event.specs.Sites.{Site, site_of}
 use Rattle.et_event.proofs.Deferrals.{answered, native_exactly}
 use Rattle.et_event.proofs.OutTurns.{out_at_turn}
 use Rattle.et_event.proofs.Answering.{if_ok}
-use Rattle.et_event.specs.Places.{IsPlace, site_at}
+use Rattle.et_event.specs.Places.{IsPlace}
 use Rattle.et_event.specs.declared.places.Place.{Place}
 use Rattle.et_refs.specs.Rows.{is_get_static}
 use Rattle.et_refs.proofs.Over.{no_out}
 
-pub out_at_place : (p : Linked) (m : MachineState) (t : ℕ) (place : Place) → turn_of (thread_at m.guest t) ≡ Instruction → IsPlace p (top m.guest t) place → out_turn p (kept_of m) t ≡ out_at (moment p m t) (site_at place) place.row
+pub out_at_place : (p : Linked) (m : MachineState) (t : ℕ) (place : Place) → turn_of (thread_at m.guest t) ≡ Instruction → IsPlace p (top m.guest t) place → out_turn p (kept_of m) t ≡ out_at (moment p m t) place.site place.row
 out_at_place p m t place turn is =
     let e : Moment = moment p m t in
     out_at_turn p (kept_of m) t Instruction turn
     ∙ (ap (λ (d : Result (Instr × ℕ) CodeFault). out_by e d) is.decoded
-    ∙ (ap (λ (r : Option Row). option_and_then (out_at e (site_of p (current_frame e) (place.instr, place.next))) r) is.row
+    ∙ (ap (λ (r : Option Row). option_and_then (out_at e (site_of p (current_frame e) (place.site.instr, place.site.next))) r) is.row
     ∙ ap (λ (at : Site). out_at e at place.row) (sym is.site)))
 
 -- THE METHOD THAT IS ANSWERED there, by whether System.out is read
@@ -53,9 +53,9 @@ is_by : (o : Option OutRead) (b : Bool) → b ≡ is_some o → IsSome o → b �
 is_by None b is some = cc
 is_by (Some x) b is some = is
 
-module _ (p : Linked) (m : MachineState) (t : ℕ) (place : Place) (row : Row) (left : Bool) (turn : turn_of (thread_at m.guest t) ≡ Instruction) (here : IsPlace p (top m.guest t) place) (at_row : place.row ≡ row) (is : left ≡ is_some (out_at (moment p m t) (site_at place) row)) where
+module _ (p : Linked) (m : MachineState) (t : ℕ) (place : Place) (row : Row) (left : Bool) (turn : turn_of (thread_at m.guest t) ≡ Instruction) (here : IsPlace p (top m.guest t) place) (at_row : place.row ≡ row) (is : left ≡ is_some (out_at (moment p m t) place.site row)) where
   told : left ≡ is_some (out_turn p (kept_of m) t)
-  told = is ∙ ap is_some (ap (out_at (moment p m t) (site_at place)) (sym at_row) ∙ sym (out_at_place p m t place turn here))
+  told = is ∙ ap is_some (ap (out_at (moment p m t) place.site) (sym at_row) ∙ sym (out_at_place p m t place turn here))
 
   pub not_left : left ≡ false → out_method p (kept_of m) t ≡ None
   not_left at_false = none_by (unwrap_or (top m.guest t).method 0) (out_turn p (kept_of m) t) left told at_false
@@ -89,7 +89,7 @@ row_read e at rows.Throw h = cc
 row_read e at (rows.Monitor r) h = cc
 
 pub read_row : (p : Linked) (m : MachineState) (t : ℕ) (place : Place) → turn_of (thread_at m.guest t) ≡ Instruction → IsPlace p (top m.guest t) place → IsSome (out_turn p (kept_of m) t) → place.row ≡ rows.Heap heap_rows.GetStatic
-read_row p m t place turn here some = row_read (moment p m t) (site_at place) place.row (subst (λ (o : Option OutRead). IsSome o) (out_at_place p m t place turn here) some)
+read_row p m t place turn here some = row_read (moment p m t) place.site place.row (subst (λ (o : Option OutRead). IsSome o) (out_at_place p m t place turn here) some)
 
 -- WHAT A CALL ANSWERS that leaves the reading of System.out to another
 module _ {E : Type 0} (p : Linked) (m : MachineState) (t : ℕ) (o : Outcome Kept) (r : Result EventEnd E) (m' : MachineState) (out out' : List Record) where
@@ -124,8 +124,8 @@ static_row heap_rows.CheckCast h = cc
 static_row heap_rows.InstanceOf h = cc
 
 module _ (p : Linked) (m : MachineState) (t : ℕ) (place : Place) (r : HeapRow) (turn : turn_of (thread_at m.guest t) ≡ Instruction) (here : IsPlace p (top m.guest t) place) (row : place.row ≡ rows.Heap r) (other : is_get_static r ≡ false) where
-  is : false ≡ is_some (out_at (moment p m t) (site_at place) (rows.Heap r))
-  is = other_row (moment p m t) (site_at place) r other
+  is : false ≡ is_some (out_at (moment p m t) place.site (rows.Heap r))
+  is = other_row (moment p m t) place.site r other
 
   pub none_left : out_method p (kept_of m) t ≡ None
   none_left = not_left p m t place (rows.Heap r) false turn here row is refl

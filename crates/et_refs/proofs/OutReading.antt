@@ -20,7 +20,7 @@ use Rattle.et_event.specs.Kinds.{or_zero}
 use Rattle.et_event.specs.Moments.{Moment, begins, current_frame, ends_event, moment}
 use Rattle.et_event.specs.Out.{OutRead, field_read, out_at, out_made, out_of, out_read, out_row, out_turn}
 use Rattle.et_event.specs.Sites.{Site, site_member}
-use Rattle.et_event.specs.Places.{IsPlace, site_at}
+use Rattle.et_event.specs.Places.{IsPlace}
 use Rattle.et_event.specs.declared.places.Place.{Place}
 use Rattle.et_refs.specs.declared.refusals.Refusal.{Refusal}
 use Rattle.et_refs.specs.declared.slots.static_fields.StaticRead.{StaticRead}
@@ -45,7 +45,7 @@ module _ (p : Linked) (m : MachineState) (t : ℕ) (place : Place) (turn : turn_
   e = moment p m t
 
   abbrev at : Site
-  at = site_at place
+  at = place.site
 
   at_row : out_turn p (kept_of m) t ≡ out_at e at (Heap GetStatic)
   at_row = out_at_place p m t place turn here ∙ ap (λ (r : Row). out_at e at r) row

@@ -8,7 +8,7 @@ use Rattle.et_state.specs.Words.{HasFrame, top}
 use Rattle.et_event.specs.declared.places.Place.{Place}
 use Rattle.et_event.specs.Beginning.{BeginsEvent}
 use Rattle.et_event.specs.InitializationOrder.{IsInOrder}
-use Rattle.et_event.specs.Places.{IsPlace, site_at}
+use Rattle.et_event.specs.Places.{IsPlace}
 use Rattle.et_event.specs.Programs.{HasInitializers, MakesSound}
 use Rattle.et_event.specs.Sites.{natural_of}
 use Rattle.et_event.specs.Sound.{IsSoundFor}
@@ -40,6 +40,6 @@ pub record BeginsAccess (p : Linked) (m : MachineState) (t : ℕ) (x : Wanted) :
 -- the instruction at a place, where a thread stands, has an index into the pool of its class
 pub record MayRefer (p : Linked) (m : MachineState) (t : ℕ) (place : Place) : Type 0 where
   pub frame : HasFrame m.guest t
-  pub class : place.class < length p.classes
-  pub index : natural_of place.instr.first < 2 ^ 16
-  pub pool : (site_at place).pool ≡ pool_of_class p place.class
+  pub class : place.site.class < length p.classes
+  pub index : natural_of place.site.instr.first < 2 ^ 16
+  pub pool : place.site.pool ≡ pool_of_class p place.site.class

@@ -14,7 +14,6 @@ ghost use Rattle.et_event.specs.Heap.{new_array_of, new_array as base_type_array
 ghost use Rattle.et_event.specs.Moments.{Moment, moment, current_frame};
 ghost use Rattle.et_event.specs.Sites.{Site};
 ghost use Rattle.et_event.specs.Sound.{IsSoundFor};
-ghost use Rattle.et_event.specs.Places.{site_at};
 ghost use Rattle.et_refs.specs.Changes.{MayMake, new_array_outcome};
 ghost use Rattle.et_program.specs.Members.{base_array};
 ghost use Rattle.et_refs.specs.Asked.{MayRefer};
@@ -82,12 +81,12 @@ pub(crate) fn new_array(
     requires frame { HasFrame machine.now.guest thread }
     requires elements { AreElementsWithin program.now }
     ensures is { ComesTo base_type_array
-        (moment program.now machine.now thread) (site_at place.now) result new_array_outcome }
+        (moment program.now machine.now thread) place.now.site result new_array_outcome }
     ensures may { IfOk result (λ x. MayMake (top machine.now.guest thread)) }
 {
     operands_fit(machine, thread);
     let elements = take_int(machine, thread, 0)?;
-    let array = array_of_base(program, natural(place.instr.first));
+    let array = array_of_base(program, natural(place.site.instr().first));
     sized(array, elements)
 }
 
@@ -101,7 +100,7 @@ pub(crate) fn new_reference_array(
     requires refers { MayRefer program.now machine.now thread place.now }
     requires sound { IsSoundFor program.now (kept_of machine.now) }
     ensures is { ComesTo reference_array
-        (moment program.now machine.now thread) (site_at place.now) result new_array_outcome }
+        (moment program.now machine.now thread) place.now.site result new_array_outcome }
     ensures may { IfOk result (λ x. MayMake (top machine.now.guest thread)) }
 {
     operands_fit(machine, thread);

@@ -16,7 +16,6 @@ ghost use Rattle.et_state.specs.Outcome.{state_after};
 ghost use Rattle.et_state.specs.State.{kept_of};
 ghost use Rattle.et_state.specs.Threads.{most_frames, turn_of};
 ghost use Rattle.et_state.specs.Words.{HasFrame, thread_at, top};
-ghost use Rattle.et_event.specs.Places.{site_at};
 ghost use Rattle.et_refs.specs.Asked.{BeginsAt};
 ghost use Rattle.et_refs.specs.LiftedChanges.{is_lifted_row, landed_done};
 
@@ -79,7 +78,7 @@ fn static_read_event(
     requires row { place.now.row ≡ row_kinds.Heap heap_rows.GetStatic }
     ensures { IfOk result (λ end.
         DefersOrAnswers (out_method program.now (kept_of machine.old) thread)
-        (get_static (moment program.now machine.old thread) (site_at place.now))
+        (get_static (moment program.now machine.old thread) place.now.site)
         end machine.old machine.new out.old out.new) }
 {
     let read = match read_field(program, machine, thread, place) {
@@ -124,16 +123,16 @@ fn lifted_event<L: Ledger>(
     requires row { place.now.row ≡ row_kinds.Heap row }
     requires lifted { is_lifted_row row ≡ true }
     ensures event { IfOk result (λ end. EventAnswers
-        (heap_event (moment program.now machine.old thread) (site_at place.now) row)
+        (heap_event (moment program.now machine.old thread) place.now.site row)
         end machine.old machine.new out.old out.new) }
     ensures visits { visits.new ≤ visits.old + 6 }
 {
     let mut running = machine.lift(thread);
-    let index = index_of(place);
-    let class = place.class;
+    let index = index_of(&place.site);
+    let class = place.site.class();
     match lifted_change(program, &machine.heap, &running, class, index, row, visits) {
         Ok(LiftedChange::Put(x)) => {
-            exchange(&mut running, x, place.next);
+            exchange(&mut running, x, place.site.next());
             Ok(land_done(machine, thread, running))
         }
         Ok(LiftedChange::Store(x)) => {
@@ -141,7 +140,13 @@ fn lifted_event<L: Ledger>(
                 machine.land(thread, running);
                 return write_slot(program, machine, thread, place, x, out, visits);
             }
-            store(&mut machine.heap, &mut running, x, place.next, visits);
+            store(
+                &mut machine.heap,
+                &mut running,
+                x,
+                place.site.next(),
+                visits,
+            );
             Ok(land_done(machine, thread, running))
         }
         Err(refusal) => {
@@ -168,14 +173,14 @@ fn heap_row_event<L: Ledger>(
     requires family { family_of_row (Some place.now.row) ≡ families.Refs }
     ensures event { IfOk result (λ end.
         DefersOrAnswers (out_method program.now (kept_of machine.old) thread)
-        (does (moment program.now machine.old thread) (site_at place.now) place.now.row)
+        (does (moment program.now machine.old thread) place.now.site place.now.row)
         end machine.old machine.new out.old out.new) }
     ensures native { IfOk result (λ end. (method : ℕ) → (end ≡ EventEnd.Native method)
         ↔ (out_method program.now (kept_of machine.old) thread ≡ Some method)) }
     ensures deferred { IsSome (out_turn program.now (kept_of machine.old) thread) →
         visits.new ≡ visits.old }
     ensures visits { visits.new ≤ visits.old + 6 + (length (state_after (kept_of machine.old)
-        (does (moment program.now machine.old thread) (site_at place.now) place.now.row)).heap
+        (does (moment program.now machine.old thread) place.now.site place.now.row)).heap
         - length machine.old.heap) }
 {
     let row = heap_row(place);

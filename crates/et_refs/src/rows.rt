@@ -6,7 +6,6 @@ ghost use Rattle.et_event.specs.Moments.{Moment, moment};
 ghost use Rattle.et_event.specs.Programs.{AreElementsWithin, HasSlots};
 ghost use Rattle.et_event.specs.Sites.{Site};
 ghost use Rattle.et_event.specs.Sound.{IsSoundFor};
-ghost use Rattle.et_event.specs.Places.{site_at};
 ghost use Rattle.et_program.specs.Entries.{Linked};
 ghost use Rattle.et_refs.specs.Asked.{MayRefer};
 ghost use Rattle.et_refs.specs.Accesses.{MayWant, wanted_outcome};
@@ -107,7 +106,7 @@ pub fn plan_of<L: Ledger>(
     requires other { is_get_static row ≡ false }
     requires not_lifted { is_lifted_row row ≡ false }
     ensures is { ComesTo (λ e at. heap_event e at row)
-        (moment program.now machine.now thread) (site_at place.now) result plan_outcome }
+        (moment program.now machine.now thread) place.now.site result plan_outcome }
     ensures may { IfOk result
         (λ x. MayDo program.now machine.now.heap (top machine.now.guest thread) row x) }
     ensures visits { visits.new ≤ visits.old + 1 }

@@ -85,7 +85,14 @@ fn read_event(
     };
     match referent(machine.static_slot(read.read.slot)) {
         Some(_) => ready_event(program, machine, thread, place, &read.wanted(), out),
-        None => made_event(program, machine, thread, place.next, read.read.slot, out),
+        None => made_event(
+            program,
+            machine,
+            thread,
+            place.site.next(),
+            read.read.slot,
+            out,
+        ),
     }
 }
 

@@ -12,7 +12,6 @@ ghost use Rattle.et_event.specs.Answered.{EventAnswers};
 ghost use Rattle.et_event.specs.Heap.{new_multi_array};
 ghost use Rattle.et_event.specs.Moments.{moment};
 ghost use Rattle.et_event.specs.Sites.{natural_of};
-ghost use Rattle.et_event.specs.Places.{site_at};
 ghost use Rattle.et_refs.specs.Refusals.{outcome_of};
 ghost use Rattle.et_refs.specs.Asked.{BeginsAt, MayStep};
 ghost use Rattle.et_refs.specs.Events.{new_arrays_outcome, with_checked_class};
@@ -46,9 +45,9 @@ fn operands_are_few(machine: &Machine, thread: ThreadId)
 
 /// How many dimensions `multianewarray` makes.
 fn dimensions(place: &Place<'_>) -> u32
-    ensures { result ≡ natural_of place.now.instr.second }
+    ensures { result ≡ natural_of place.now.site.instr.second }
 {
-    natural(place.instr.second)
+    natural(place.site.instr().second)
 }
 
 /// The class that an instruction names, over arrays of which arrays of these lengths may be made; a
@@ -118,9 +117,9 @@ pub fn multi_array_event<L: Ledger>(
     requires turn { turn_of (thread_at machine.old.guest thread) ≡ turns.Instruction }
     requires row { place.now.row ≡ row_kinds.Heap heap_rows.NewMultiArray }
     ensures ok { IfOk result (λ end. EventAnswers (new_multi_array (moment program.now
-        machine.old thread) (site_at place.now)) end machine.old machine.new out.old out.new) }
+        machine.old thread) place.now.site) end machine.old machine.new out.old out.new) }
     ensures visits { visits.new ≤ visits.old + (length (state_after (kept_of machine.old)
-        (new_multi_array (moment program.now machine.old thread) (site_at place.now))).heap
+        (new_multi_array (moment program.now machine.old thread) place.now.site)).heap
         - length machine.old.heap) }
 {
     let named = match class_named(place) {
@@ -136,7 +135,7 @@ pub fn multi_array_event<L: Ledger>(
             let arrays = NewArrays {
                 class,
                 lengths: &lengths,
-                next: place.next,
+                next: place.site.next(),
             };
             add_arrays(alloc, program, machine, thread, &arrays, out, visits)
         }

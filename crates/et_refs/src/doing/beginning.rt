@@ -7,7 +7,6 @@ ghost use Rattle.et_event.specs.Sound.{IsSoundFor};
 ghost use Rattle.et_state.specs.State.{kept_of};
 ghost use Rattle.et_event.specs.Initialization.{quietly_done};
 ghost use Rattle.et_event.specs.Moments.{moment, begins, fits_heap};
-ghost use Rattle.et_event.specs.Places.{site_at};
 ghost use Rattle.et_initialize.specs.Under.{base};
 ghost use Rattle.et_refs.specs.Asked.{BeginsAccess};
 ghost use Rattle.et_refs.specs.Accesses.{objects_in, slots_accessed, access_outcome, wanted_outcome};
@@ -52,7 +51,7 @@ pub(crate) fn ready_event(
 ) -> Result<EventEnd, NoMemory>
     requires access { BeginsAccess program.now machine.old thread wanted.now }
     ensures { IfOk result (λ end. EventAnswers
-        (access_outcome (moment program.now machine.old thread) (site_at place.now) wanted.now
+        (access_outcome (moment program.now machine.old thread) place.now.site wanted.now
         (begins (moment program.now machine.old thread)))
         end machine.old machine.new out.old out.new) }
 {
@@ -60,7 +59,7 @@ pub(crate) fn ready_event(
         return Ok(EventEnd::ObjectLimit);
     }
     machine.begin_event();
-    carry_out(program, machine, thread, place.next, wanted, out)?;
+    carry_out(program, machine, thread, place.site.next(), wanted, out)?;
     Ok(EventEnd::Done)
 }
 
@@ -101,7 +100,7 @@ fn quiet_event(
 ) -> Result<EventEnd, NoMemory>
     requires access { BeginsAccess program.now machine.old thread wanted.now }
     ensures { IfOk result (λ end. EventAnswers
-        (access_outcome (moment program.now machine.old thread) (site_at place.now) wanted.now
+        (access_outcome (moment program.now machine.old thread) place.now.site wanted.now
         (quietly_done (moment program.now machine.old thread) wanted.now.class (begins
         (moment program.now machine.old thread)))) end machine.old machine.new out.old out.new) }
 {
@@ -111,7 +110,7 @@ fn quiet_event(
         return Ok(EventEnd::ObjectLimit);
     }
     begin_quietly(program, machine, thread, wanted, out)?;
-    carry_out(program, machine, thread, place.next, wanted, out)?;
+    carry_out(program, machine, thread, place.site.next(), wanted, out)?;
     Ok(EventEnd::Done)
 }
 
@@ -129,7 +128,7 @@ pub(crate) fn access_event(
 ) -> Result<EventEnd, NoMemory>
     requires access { BeginsAccess program.now machine.old thread wanted.now }
     ensures { IfOk result (λ end. EventAnswers
-        (wanted_outcome (moment program.now machine.old thread) (site_at place.now) wanted.now)
+        (wanted_outcome (moment program.now machine.old thread) place.now.site wanted.now)
         end machine.old machine.new out.old out.new) }
 {
     match need_of(program, machine, thread, wanted.class) {

@@ -11,7 +11,6 @@ ghost use Rattle.et_state.specs.Moves.{Led};
 ghost use Rattle.et_event.specs.Answered.{EventAnswers};
 ghost use Rattle.et_event.specs.Checks.{entries_of};
 ghost use Rattle.et_event.specs.Moments.{moment};
-ghost use Rattle.et_event.specs.Places.{site_at};
 ghost use Rattle.et_refs.specs.Changes.{change_outcome, store_outcome, new_array_outcome, MayExchange, MayStore, MayMake, MayChange};
 
 use crate::slots::{SlotAt, slot_value};
@@ -146,7 +145,7 @@ pub(crate) fn write_slot<L: Ledger>(
     requires step { MayStep machine.old thread }
     requires may { MayStore machine.old.heap (top machine.old.guest thread) x }
     ensures ok { IfOk result (λ end. EventAnswers
-        (store_outcome (moment program.now machine.old thread) (site_at place.now) x)
+        (store_outcome (moment program.now machine.old thread) place.now.site x)
         end machine.old machine.new out.old out.new) }
     ensures err { OnErr result (machine.new ≡ machine.old) }
     ensures visits { visits.new ≤ visits.old + 2 }
@@ -158,7 +157,7 @@ pub(crate) fn write_slot<L: Ledger>(
     let old = slot_value(&machine.heap, &at, visits);
     let event = machine.clock() + 1;
     tell_update(out, event, thread, Some(x.object), x.slot, old, x.value)?;
-    set_slot(machine, thread, place.next, x, visits);
+    set_slot(machine, thread, place.site.next(), x, visits);
     Ok(EventEnd::Done)
 }
 
@@ -175,7 +174,7 @@ fn add_array(
     requires step { MayStep machine.old thread }
     requires may { MayMake (top machine.old.guest thread) }
     ensures ok { IfOk result (λ end. EventAnswers
-        (new_array_outcome (moment program.now machine.old thread) (site_at place.now) x)
+        (new_array_outcome (moment program.now machine.old thread) place.now.site x)
         end machine.old machine.new out.old out.new) }
     ensures err { OnErr result (machine.new.guest ≡ machine.old.guest) }
 {
@@ -183,7 +182,7 @@ fn add_array(
         return Ok(EventEnd::ObjectLimit);
     };
     machine.begin_event();
-    replace_top(machine, thread, 1, Value::Ref(array), place.next);
+    replace_top(machine, thread, 1, Value::Ref(array), place.site.next());
     Ok(EventEnd::Done)
 }
 
@@ -200,13 +199,13 @@ pub(crate) fn carry_out(
     requires step { MayStep machine.old thread }
     requires may { MayChange machine.old.heap (top machine.old.guest thread) change }
     ensures ok { IfOk result (λ end. EventAnswers
-        (change_outcome (moment program.now machine.old thread) (site_at place.now) change)
+        (change_outcome (moment program.now machine.old thread) place.now.site change)
         end machine.old machine.new out.old out.new) }
     ensures err { OnErr result (machine.new.guest ≡ machine.old.guest) }
 {
     match change {
         Change::Put(x) => {
-            put_value(machine, thread, place.next, x);
+            put_value(machine, thread, place.site.next(), x);
             Ok(EventEnd::Done)
         }
         Change::Make(x) => add_array(program, machine, thread, place, x, out),

@@ -7,7 +7,6 @@ ghost use Rattle.et_event.specs.Checks.{ill_typed_unless as ill_unless};
 ghost use Rattle.et_event.specs.Heap.{is_out as is_field_out, put_static, with_static_field};
 ghost use Rattle.et_event.specs.Moments.{Moment, moment};
 ghost use Rattle.et_event.specs.Sound.{IsSoundFor};
-ghost use Rattle.et_event.specs.Places.{site_at};
 ghost use Rattle.et_refs.specs.Asked.{MayRefer};
 ghost use Rattle.et_refs.specs.NamedFields.{IsAnswered, IsFieldOf, MeansField};
 ghost use Rattle.et_refs.specs.Refusals.{ComesTo, outcome_of};
@@ -103,13 +102,13 @@ pub(crate) fn read_field(
     requires program { HasSlots program.now }
     requires refers { MayRefer program.now machine.now thread place.now }
     ensures is { (go : StaticReadOf → Outcome Kept) →
-        with_static_field (moment program.now machine.now thread) (site_at place.now)
+        with_static_field (moment program.now machine.now thread) place.now.site
         (λ m f. go (read_of program.now m.descriptor f))
         ≡ outcome_of (moment program.now machine.now thread) result go }
     ensures may { IfOk result
         (λ x. MayWant program.now (top machine.now.guest thread) (wanted_by x)) }
 {
-    let named = match field_named(program, place.class, index_of(place)) {
+    let named = match field_named(program, place.site.class(), index_of(&place.site)) {
         Ok(named) => named,
         Err(refusal) => return Err(refusal),
     };
@@ -145,10 +144,10 @@ pub(crate) fn write_field(
     requires refers { MayRefer program.now machine.now thread place.now }
     requires sound { IsSoundFor program.now (kept_of machine.now) }
     ensures is { ComesTo put_static
-        (moment program.now machine.now thread) (site_at place.now) result wanted_outcome }
+        (moment program.now machine.now thread) place.now.site result wanted_outcome }
     ensures may { IfOk result (λ x. MayWant program.now (top machine.now.guest thread) x) }
 {
-    let named = match field_named(program, place.class, index_of(place)) {
+    let named = match field_named(program, place.site.class(), index_of(&place.site)) {
         Ok(named) => named,
         Err(refusal) => return Err(refusal),
     };

@@ -15,7 +15,6 @@ ghost use Rattle.et_event.specs.Heap.{with_class, truth as truth_of};
 ghost use Rattle.et_event.specs.Moments.{Moment, moment};
 ghost use Rattle.et_event.specs.Sites.{Site, class_operand as operand_class, natural_of};
 ghost use Rattle.et_event.specs.Sound.{IsSoundFor};
-ghost use Rattle.et_event.specs.Places.{site_at};
 ghost use Rattle.et_refs.specs.Asked.{MayRefer};
 ghost use Rattle.et_refs.specs.Changes.{IsNamedReference, MayExchange, exchange_outcome, put_outcome};
 ghost use Rattle.et_refs.specs.NamedClasses.{IsNamedAt};
@@ -56,19 +55,19 @@ pub(crate) struct NamedClass<'a> {
 
 /// The class that an instruction has as its operand.
 pub(crate) fn class_named<'a>(place: &Place<'a>) -> Result<NamedClass<'a>, Refusal>
-    requires { natural_of place.now.instr.first < 2 ^ 16 }
+    requires { natural_of place.now.site.instr.first < 2 ^ 16 }
     ensures is { (e : Moment) (go : List ℕ → Outcome Kept) → with_class e
-        (operand_class (site_at place.now)) go ≡ outcome_of e result (λ x. go x.name.now) }
-    ensures named { (p : Linked) → place.now.class < length p.classes →
-        (site_at place.now).pool ≡ pool_of_class p place.now.class →
+        (operand_class place.now.site) go ≡ outcome_of e result (λ x. go x.name.now) }
+    ensures named { (p : Linked) → place.now.site.class < length p.classes →
+        place.now.site.pool ≡ pool_of_class p place.now.site.class →
         IfOk result (λ x. IsNamedAt p x) }
-    ensures operand { IfOk result (λ x. Some x.name.now ≡ operand_class (site_at place.now)) }
+    ensures operand { IfOk result (λ x. Some x.name.now ≡ operand_class place.now.site) }
 {
-    match class_operand(place) {
+    match class_operand(&place.site) {
         Some(name) => Ok(NamedClass {
             name,
-            class: place.class,
-            index: index_of(place),
+            class: place.site.class(),
+            index: index_of(&place.site),
         }),
         None => Err(Refusal::IllTyped),
     }
@@ -169,7 +168,7 @@ pub(crate) fn type_test<L: Ledger>(
     requires refers { MayRefer program.now machine.now thread place.now }
     requires sound { IsSoundFor program.now (kept_of machine.now) }
     ensures is { ComesTo (type_testing test)
-        (moment program.now machine.now thread) (site_at place.now) result exchange_outcome }
+        (moment program.now machine.now thread) place.now.site result exchange_outcome }
     ensures may { IfOk result
         (λ x. MayExchange machine.now.heap (top machine.now.guest thread) x) }
     ensures visits { visits.new ≤ visits.old + 1 }

@@ -2,7 +2,6 @@
 ghost use Rattle.std.specs.Prelude.{◌≡◌, ◌<◌, length, IfOk};
 ghost use Rattle.et_state.specs.Words.{top};
 ghost use Rattle.et_event.specs.Heap.{may_be_made as may_make, new_instance};
-ghost use Rattle.et_event.specs.Places.{site_at};
 ghost use Rattle.et_event.specs.Moments.{moment};
 ghost use Rattle.et_refs.specs.Asked.{MayRefer};
 ghost use Rattle.et_refs.specs.Refusals.{ComesTo};
@@ -37,7 +36,7 @@ pub(crate) fn new_object(
 ) -> Result<Wanted, Refusal>
     requires refers { MayRefer program.now machine.now thread place.now }
     ensures is { ComesTo new_instance
-        (moment program.now machine.now thread) (site_at place.now) result wanted_outcome }
+        (moment program.now machine.now thread) place.now.site result wanted_outcome }
     ensures may { IfOk result (λ x. MayWant program.now (top machine.now.guest thread) x) }
 {
     let named = match class_named(place) {

@@ -3,7 +3,6 @@ use Rattle.std.specs.Int.{w32}
 use Rattle.et_state.specs.State.{kept_of}
 use Rattle.et_state.specs.Words.{top}
 use Rattle.et_event.specs.Heap.{new_array_of}
-use Rattle.et_event.specs.Places.{site_at}
 use Rattle.et_event.specs.Moments.{moment}
 use Rattle.et_refs.specs.Changes.{new_array_outcome}
 use Rattle.et_refs.proofs.Chains.{refusing, makes_named, makes_resolved, makes, whatever}
@@ -12,13 +11,13 @@ use Rattle.et_refs.proofs.arrays.new_reference_array.Goals as goal
 pub returns-in-Err-clause-is : goal.returns-in-Err-clause-is
 returns-in-Err-clause-is c =
     let e = moment c.args.program.now c.args.machine.now c.args.thread in
-    let at = site_at c.args.place.now in
+    let at = c.args.place.now.site in
     c.in-Err.ensures.is e (makes_named e at)
 
 pub returns-in_err-elements-clause-is : goal.returns-in_err-elements-clause-is
 returns-in_err-elements-clause-is c =
     let e = moment c.args.program.now c.args.machine.now c.args.thread in
-    let at = site_at c.args.place.now in
+    let at = c.args.place.now.site in
     let name = c.in-Ok.named.name.now in
     let same : c.from_residual.result ≡ Err c.in_err-elements.field-0.0 = search rules in
     refusing e _ _ c.in_err-elements.field-0.0 (new_array_outcome e at) (c.in-Ok.ensures.is e (makes_named e at) ∙ c.in_err-elements.ensures.is e (makes_resolved e at name)) same
@@ -26,7 +25,7 @@ returns-in_err-elements-clause-is c =
 pub returns-in_err-class-clause-is : goal.returns-in_err-class-clause-is
 returns-in_err-class-clause-is c =
     let e = moment c.args.program.now c.args.machine.now c.args.thread in
-    let at = site_at c.args.place.now in
+    let at = c.args.place.now.site in
     let name = c.in-Ok.named.name.now in
     let n = c.in_ok-elements.elements in
     let below = drop 1 (top c.args.machine.now.guest c.args.thread).operands in
@@ -37,7 +36,7 @@ returns-in_err-class-clause-is c =
 pub returns-clause-is : goal.returns-clause-is
 returns-clause-is c =
     let e = moment c.args.program.now c.args.machine.now c.args.thread in
-    let at = site_at c.args.place.now in
+    let at = c.args.place.now.site in
     let name = c.in-Ok.named.name.now in
     let n = c.in_ok-elements.elements in
     let below = drop 1 (top c.args.machine.now.guest c.args.thread).operands in

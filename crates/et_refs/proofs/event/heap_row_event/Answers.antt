@@ -13,7 +13,6 @@ use Rattle.et_event.specs.Out.{out_method, out_turn}
 use Rattle.et_event.specs.declared.rows.HeapRow.{HeapRow}
 use Rattle.et_event.specs.declared.rows.Row.{Row}
 use Rattle.et_event.specs.declared.rows.Row.TheVariants.{Heap}
-use Rattle.et_event.specs.Places.{site_at}
 use Rattle.et_event.proofs.Answering.{if_ok}
 use Rattle.et_event.proofs.SiteAnswers.{place_pool}
 use Rattle.et_refs.specs.Rows.{is_get_static, plan_outcome}
@@ -42,7 +41,7 @@ returns-then-is_static_read-clause-event g c =
     let p = c.args.program.now in
     let m = c.args.machine.now in
     let e = moment p m c.args.thread in
-    let at = site_at c.args.place.now in
+    let at = c.args.place.now.site in
     let same : does e at c.args.place.now.row ≡ get_static e at = ap (λ (r : Row). does e at r) (static_read_event-requires-clause-row g c.before) in
     if_ok c.static_read_event.result
     (λ end a. subst (λ (o : Outcome Kept). DefersOrAnswers (out_method p (kept_of m) c.args.thread) o end m c.static_read_event.new.machine c.args.out.now c.static_read_event.new.out) (sym same) a)
@@ -52,7 +51,7 @@ pub returns-then-is_static_read-clause-native : goal.returns-then-is_static_read
 returns-then-is_static_read-clause-native g c =
     let p = c.args.program.now in
     let m = c.args.machine.now in
-    native_where_out p m c.args.thread (does (moment p m c.args.thread) (site_at c.args.place.now) c.args.place.now.row) c.static_read_event.result c.static_read_event.new.machine c.args.out.now c.static_read_event.new.out (returns-then-is_static_read-clause-event g c)
+    native_where_out p m c.args.thread (does (moment p m c.args.thread) c.args.place.now.site c.args.place.now.row) c.static_read_event.result c.static_read_event.new.machine c.args.out.now c.static_read_event.new.out (returns-then-is_static_read-clause-event g c)
 
 -- THE OTHER ROWS leave nothing to another call
 
@@ -65,10 +64,10 @@ module _ (g : Over) (c : After-is_lifted g) where
 
   -- what the table says of the row
   abbrev told : Outcome Kept
-  told = does (moment c.args.program.now m c.args.thread) (site_at c.args.place.now) c.args.place.now.row
+  told = does (moment c.args.program.now m c.args.thread) c.args.place.now.site c.args.place.now.row
 
-  row_is : told ≡ heap_event (moment c.args.program.now m c.args.thread) (site_at c.args.place.now) c.heap_row-row.result
-  row_is = ap (λ (r : Row). does (moment c.args.program.now m c.args.thread) (site_at c.args.place.now) r) c.heap_row-row.ensures
+  row_is : told ≡ heap_event (moment c.args.program.now m c.args.thread) c.args.place.now.site c.heap_row-row.result
+  row_is = ap (λ (r : Row). does (moment c.args.program.now m c.args.thread) c.args.place.now.site r) c.heap_row-row.ensures
 
   other : is_get_static c.heap_row-row.result ≡ false
   other = search rules
@@ -111,7 +110,7 @@ pub returns-in-Ok-Access-clause-event : goal.returns-in-Ok-Access-clause-event
 returns-in-Ok-Access-clause-event g c =
     let at = (goal.at.returns-in-Ok-Access-clause-event g c).After-is_lifted in
     let e = moment c.args.program.now c.args.machine.now c.args.thread in
-    answered g at c.access_event.result c.access_event.new.machine c.access_event.new.out (answers_as _ _ c.access_event.result _ c.access_event.new.machine _ c.access_event.new.out (row_is g at ∙ (c.in-Ok-Access.ensures.is ∙ ap (λ (x : Plan). plan_outcome e (site_at c.args.place.now) x) c.in-Ok-Access.field-0-is)) c.access_event.ensures)
+    answered g at c.access_event.result c.access_event.new.machine c.access_event.new.out (answers_as _ _ c.access_event.result _ c.access_event.new.machine _ c.access_event.new.out (row_is g at ∙ (c.in-Ok-Access.ensures.is ∙ ap (λ (x : Plan). plan_outcome e c.args.place.now.site x) c.in-Ok-Access.field-0-is)) c.access_event.ensures)
 
 pub returns-in-Ok-Access-clause-native : goal.returns-in-Ok-Access-clause-native
 returns-in-Ok-Access-clause-native g c = native g (goal.at.returns-in-Ok-Access-clause-native g c).After-is_lifted c.access_event.result c.access_event.new.machine c.access_event.new.out (returns-in-Ok-Access-clause-event g c)
@@ -133,7 +132,7 @@ returns-in-Ok-Arrays-clause-deferred g c = λ some. absurd (no_read g (goal.at.r
 pub returns-in-Err-clause-event : goal.returns-in-Err-clause-event
 returns-in-Err-clause-event g c =
     let at = (goal.at.returns-in-Err-clause-event g c).After-is_lifted in
-    answered g at c.refuse.result c.refuse.new.machine c.refuse.new.out (search rules)
+    answered g at c.refuse.result c.refuse.new.machine c.refuse.new.out (answers_as _ _ c.refuse.result _ c.refuse.new.machine _ c.refuse.new.out (row_is g at ∙ c.in-Err.ensures.is) c.refuse.ensures.ok)
 
 pub returns-in-Err-clause-native : goal.returns-in-Err-clause-native
 returns-in-Err-clause-native g c = native g (goal.at.returns-in-Err-clause-native g c).After-is_lifted c.refuse.result c.refuse.new.machine c.refuse.new.out (returns-in-Err-clause-event g c)

@@ -2,7 +2,6 @@ use Rattle.std.proofs.Common.{◌≡◌, ◌<◌, List, Result, ℕ, length, sym
 use Rattle.std.specs.Prelude.{Ok, IfOk}
 use Rattle.et_heap.specs.Objects.{Objects}
 use Rattle.et_state.specs.declared.ends.EventEnd.{EventEnd}
-use Rattle.et_state.specs.declared.ends.EventEnd.TheVariants as ends
 use Rattle.et_state.specs.Outcome.{Outcome}
 use Rattle.et_state.specs.Running.{RunningState}
 use Rattle.et_state.specs.State.{Kept, MachineState}
@@ -12,7 +11,7 @@ use Rattle.et_state.specs.Words.{begun, losing, top}
 use Rattle.et_event.specs.Answered.{EventAnswers}
 use Rattle.et_event.specs.Heap.{heap_event}
 use Rattle.et_event.specs.Moments.{Moment, moment}
-use Rattle.et_event.specs.Places.{is_frame, site_at}
+use Rattle.et_event.specs.Places.{is_frame}
 use Rattle.et_event.specs.Sites.{Site, pool_of_class}
 use Rattle.et_event.proofs.SiteAnswers.{place_pool}
 use Rattle.et_ops.proofs.Lifting.{landed, lifted}
@@ -50,14 +49,14 @@ module _ (g : Over) (c : After-lifted_change g) where
   e = moment c.args.program.now m c.args.thread
 
   abbrev at : Site
-  at = site_at c.args.place.now
+  at = c.args.place.now.site
 
   seen : c.machine.inside.heap ≡ m.heap
   seen = ap (λ (n : MachineState). n.heap) (c.machine.view_is ∙ c.lift-running.ensures.new)
 
   -- the site is the one over the pool of its class
-  pool : at.pool ≡ pool_of_class c.args.program.now c.args.place.now.class
-  pool = place_pool c.args.program.now _ c.args.place.now c.requires.at.place
+  pool : at.pool ≡ pool_of_class c.args.program.now c.class-class.result
+  pool = place_pool c.args.program.now _ c.args.place.now c.requires.at.place ∙ ap (pool_of_class c.args.program.now) (sym c.class-class.ensures)
 
   -- what the table says is what the checks come to
   told : heap_event e at c.args.row ≡ outcome_of e c.lifted_change.result (lifted_outcome e at)
@@ -106,7 +105,7 @@ returns-in-Ok-Put-clause-event g c =
     let is : c.lifted_change.result ≡ Ok y = c.in-Ok-Put.is ∙ ap (λ (z : LiftedChange). Ok z) c.in-Ok-Put.field-0-is in
     let landing : c.land_done.new.machine ≡ landed (losing (begun (lifted m t)) r'.lost) t r' = c.land_done.ensures.machine ∙ ap (λ (n : MachineState). landed_done t r' n) c.lift-running.ensures.new in
     answers_done _ _ c.land_done.result m c.land_done.new.machine c.args.out.now c.land_done.ensures.done (told_as g over (Ok y) is)
-    (read_answers m t c.lift-running.result c.in-Ok-Put.x c.args.place.now.next c.requires.at.begins.sound.held c.requires.at.frame c.lift-running.ensures.frame c.lift-running.ensures.below (may g over y is) c.args.program.now (site_at c.args.place.now) r' c.land_done.new.machine c.args.out.now refl c.exchange.ensures landing)
+    (read_answers m t c.lift-running.result c.in-Ok-Put.x c.next.result c.requires.at.begins.sound.held c.requires.at.frame c.lift-running.ensures.frame c.lift-running.ensures.below (may g over y is) c.args.program.now c.args.place.now.site r' c.land_done.new.machine c.args.out.now (sym c.next.ensures) c.exchange.ensures landing)
 
 -- A NUMBER is written
 
@@ -127,8 +126,8 @@ returns-else-not-is_number-clause-event g c =
     c.land_done-in-Ok-Store.ensures.machine
     ∙ (ap (λ (n : MachineState). landed_done t r' (record n { heap = c.store.new.heap })) (c.machine.view_is ∙ c.lift-running.ensures.new) ∙ ap (λ (h : Objects). landed_done t r' (record (lifted m t) { heap = h })) stored) in
     answers_done _ _ c.land_done-in-Ok-Store.result m c.land_done-in-Ok-Store.new.machine c.args.out.now c.land_done-in-Ok-Store.ensures.done (told_as g over (Ok (change.Store x)) is)
-    (store_answers m t c.lift-running.result x c.args.place.now.next c.requires.at.begins.sound.held c.requires.at.frame c.lift-running.ensures.frame c.lift-running.ensures.below (may g over (change.Store x) is) (sym c.is_number.ensures ∙ c.if-not-is_number.false)
-    c.args.program.now (site_at c.args.place.now) r' c.land_done-in-Ok-Store.new.machine c.args.out.now refl c.store.ensures.frame landing)
+    (store_answers m t c.lift-running.result x c.next-in-Ok-Store.result c.requires.at.begins.sound.held c.requires.at.frame c.lift-running.ensures.frame c.lift-running.ensures.below (may g over (change.Store x) is) (sym c.is_number.ensures ∙ c.if-not-is_number.false)
+    c.args.program.now c.args.place.now.site r' c.land_done-in-Ok-Store.new.machine c.args.out.now (sym c.next-in-Ok-Store.ensures) c.store.ensures.frame landing)
 
 -- A REFERENCE is written
 
@@ -151,7 +150,7 @@ returns-then-not-is_number-clause-event g c =
     let over = (goal.at.returns-then-not-is_number-clause-event g c).After-lifted_change in
     let x = c.in-Ok-Store.x in
     let is : c.lifted_change.result ≡ Ok (change.Store x) = c.in-Ok-Store.is ∙ ap (λ (z : LiftedChange). Ok z) c.in-Ok-Store.field-0-is in
-    answered_back g over c.land.new.self c.write_slot.new.machine (λ (d : Moment). store_outcome d (site_at c.args.place.now) x) c.write_slot.result c.write_slot.new.out c.land.ensures (told_as g over (Ok (change.Store x)) is) c.write_slot.ensures.ok
+    answered_back g over c.land.new.self c.write_slot.new.machine (λ (d : Moment). store_outcome d c.args.place.now.site x) c.write_slot.result c.write_slot.new.out c.land.ensures (told_as g over (Ok (change.Store x)) is) c.write_slot.ensures.ok
 
 -- NOTHING is done
 

@@ -11,7 +11,6 @@ use Rattle.et_event.specs.Out.{out_at, out_method}
 use Rattle.et_event.specs.Sites.{Site}
 use Rattle.et_event.specs.declared.rows.HeapRow.TheVariants.{GetStatic}
 use Rattle.et_event.specs.declared.rows.Row.TheVariants.{Heap}
-use Rattle.et_event.specs.Places.{site_at}
 use Rattle.et_refs.specs.Accesses.{wanted_outcome}
 use Rattle.et_refs.specs.Refusals.{refusal_outcome}
 use Rattle.et_refs.specs.StaticReads.{wanted_by}
@@ -31,7 +30,7 @@ module _ (c : After-read_field) where
   e = moment c.args.program.now m c.args.thread
 
   abbrev at : Site
-  at = site_at c.args.place.now
+  at = c.args.place.now.site
 
   abbrev left : Option ℕ
   left = out_method c.args.program.now (kept_of m) c.args.thread

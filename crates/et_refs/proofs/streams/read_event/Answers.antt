@@ -1,4 +1,4 @@
-use Rattle.std.proofs.Common.{refl, sym, ◌∙◌, ap, subst}
+use Rattle.std.proofs.Common.{sym, ◌∙◌, ap, subst}
 use Rattle.std.specs.Prelude.{Result, is_some}
 use Rattle.et_heap.specs.Objects.{referent_of}
 use Rattle.et_state.specs.Outcome.{Outcome}
@@ -6,7 +6,6 @@ use Rattle.et_state.specs.State.{Kept, kept_of}
 use Rattle.et_event.specs.Answered.{EventAnswers}
 use Rattle.et_event.specs.Moments.{begins, moment}
 use Rattle.et_event.proofs.OutTurns.{out_instructs}
-use Rattle.et_event.specs.Places.{site_at}
 use Rattle.et_event.proofs.Answering.{if_ok}
 use Rattle.et_refs.specs.Accesses.{access_outcome}
 use Rattle.et_refs.specs.StaticReads.{out_slot}
@@ -29,7 +28,7 @@ returns-in-Some c =
     let p = c.args.program.now in
     let m = c.args.machine.now in
     let t = c.args.thread in
-    let at = site_at c.args.place.now in
+    let at = c.args.place.now.site in
     if_ok c.ready_event.result
     (λ end a x read.
     let there = ap is_some (ap referent_of (sym c.static_slot.ensures) ∙ (sym c.referent.ensures ∙ c.in-Some.is)) in
@@ -42,10 +41,10 @@ returns-in-None c =
     let p = c.args.program.now in
     let m = c.args.machine.now in
     let t = c.args.thread in
-    let at = site_at c.args.place.now in
+    let at = c.args.place.now.site in
     if_ok c.made_event.result
     (λ end a x read.
     let missing = ap referent_of (sym c.static_slot.ensures) ∙ (sym c.referent.ensures ∙ c.in-None.is) in
     let same = read_made p m t c.args.place.now (out_instructs p (kept_of m) t c.requires.turn) c.requires.at.place c.requires.row c.in-Ok.read c.in-Ok.ensures.is x read missing in
-    subst (λ (o : Outcome Kept). EventAnswers o end m c.made_event.new.machine c.args.out.now c.made_event.new.out) (sym same) (a at refl))
+    subst (λ (o : Outcome Kept). EventAnswers o end m c.made_event.new.machine c.args.out.now c.made_event.new.out) (sym same) (a at (sym c.next.ensures)))
     c.made_event.ensures

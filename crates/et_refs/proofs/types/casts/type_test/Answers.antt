@@ -1,6 +1,5 @@
 use Rattle.std.proofs.Common.{rules, ◌≡◌, Err, drop, ◌∙◌, arith, lit≤}
 use Rattle.et_state.specs.Words.{top}
-use Rattle.et_event.specs.Places.{site_at}
 use Rattle.et_event.specs.Moments.{moment}
 use Rattle.et_refs.specs.Changes.{exchange_outcome}
 use Rattle.et_refs.proofs.Chains.{refusing, test_names, tests_named, tests_reference}
@@ -10,20 +9,20 @@ use Rattle.et_refs.proofs.types.casts.type_test.Goals as goal
 pub returns-in-Err-clause-is : goal.returns-in-Err-clause-is
 returns-in-Err-clause-is g c =
     let e = moment c.args.program.now c.args.machine.now c.args.thread in
-    let at = site_at c.args.place.now in
+    let at = c.args.place.now.site in
     test_names c.args.test e at ∙ c.in-Err.ensures.is e (tests_named c.args.test e at)
 
 pub returns-in_err-reference-clause-is : goal.returns-in_err-reference-clause-is
 returns-in_err-reference-clause-is g c =
     let e = moment c.args.program.now c.args.machine.now c.args.thread in
-    let at = site_at c.args.place.now in
+    let at = c.args.place.now.site in
     let same : c.from_residual.result ≡ Err c.in_err-reference.field-0.0 = search rules in
     refusing e _ _ c.in_err-reference.field-0.0 (exchange_outcome e at) (test_names c.args.test e at ∙ (c.in-Ok.ensures.is e (tests_named c.args.test e at) ∙ c.in_err-reference.ensures.is e (tests_reference c.args.test e at c.in-Ok.named.name.now))) same
 
 pub returns-in_err-value-clause-is : goal.returns-in_err-value-clause-is
 returns-in_err-value-clause-is g c =
     let e = moment c.args.program.now c.args.machine.now c.args.thread in
-    let at = site_at c.args.place.now in
+    let at = c.args.place.now.site in
     let below = drop 1 (top c.args.machine.now.guest c.args.thread).operands in
     let same : c.from_residual-in_err-value.result ≡ Err c.in_err-value.field-0.0 = search rules in
     refusing e _ _ c.in_err-value.field-0.0 (exchange_outcome e at)
@@ -32,7 +31,7 @@ returns-in_err-value-clause-is g c =
 pub returns-clause-is : goal.returns-clause-is
 returns-clause-is g c =
     let e = moment c.args.program.now c.args.machine.now c.args.thread in
-    let at = site_at c.args.place.now in
+    let at = c.args.place.now.site in
     let below = drop 1 (top c.args.machine.now.guest c.args.thread).operands in
     test_names c.args.test e at ∙ (c.in-Ok.ensures.is e (tests_named c.args.test e at) ∙ (c.in_ok-reference.ensures.is e (tests_reference c.args.test e at c.in-Ok.named.name.now) ∙ c.in_ok-value.ensures.is at below))
 

@@ -3,7 +3,6 @@ use Rattle.et_state.specs.State.{kept_of}
 use Rattle.et_event.specs.declared.errors.GuestError.TheVariants.{InstantiationError}
 use Rattle.et_event.specs.Checks.{throws_unless}
 use Rattle.et_event.specs.Moments.{moment, begins}
-use Rattle.et_event.specs.Places.{site_at}
 use Rattle.et_refs.proofs.Chains.{refusing}
 use Rattle.et_refs.specs.Accesses.{wanted_outcome}
 use Rattle.et_refs.proofs.ClassChains.{made_of, makes_class, makes_named, makes_fitting}
@@ -12,7 +11,7 @@ use Rattle.et_refs.proofs.types.instances.new_object.Goals as goal
 pub returns-in_err-class-clause-is : goal.returns-in_err-class-clause-is
 returns-in_err-class-clause-is c =
     let e = moment c.args.program.now c.args.machine.now c.args.thread in
-    let at = site_at c.args.place.now in
+    let at = c.args.place.now.site in
     let name = c.in-Ok.named.name.now in
     let same : c.from_residual-in_err-class.result ≡ Err c.in_err-class.field-0.0 = search rules in
     refusing e _ _ c.in_err-class.field-0.0 (wanted_outcome e at)
@@ -21,7 +20,7 @@ returns-in_err-class-clause-is c =
 pub returns-in_err-throws_unless-clause-is : goal.returns-in_err-throws_unless-clause-is
 returns-in_err-throws_unless-clause-is c =
     let e = moment c.args.program.now c.args.machine.now c.args.thread in
-    let at = site_at c.args.place.now in
+    let at = c.args.place.now.site in
     let name = c.in-Ok.named.name.now in
     let class = c.in_ok-class.class in
     let same : c.from_residual-in_err-throws_unless.result ≡ Err c.in_err-throws_unless.field-0.0 = search rules in
@@ -32,7 +31,7 @@ returns-in_err-throws_unless-clause-is c =
 pub returns-clause-is : goal.returns-clause-is
 returns-clause-is c =
     let e = moment c.args.program.now c.args.machine.now c.args.thread in
-    let at = site_at c.args.place.now in
+    let at = c.args.place.now.site in
     let name = c.in-Ok.named.name.now in
     let class = c.in_ok-class.class in
     c.in-Ok.ensures.is e (makes_fitting e at) ∙ (c.in_ok-width_fits.ensures.is e (makes_named e at name) ∙ (c.in_ok-class.ensures.is (kept_of c.args.machine.now) c.args.thread (makes_class e at)
