@@ -19,7 +19,7 @@ use Rattle.et_event.specs.declared.rows.Row.{Row}
 use Rattle.et_event.specs.Families.{row_at}
 use Rattle.et_event.specs.Moments.{Moment, current_frame, moment}
 use Rattle.et_event.specs.Sites.{Site, decoded_at, site_of}
-use Rattle.et_event.specs.Places.{IsPlace, site_at}
+use Rattle.et_event.specs.Places.{IsPlace}
 use Rattle.et_event.specs.declared.places.Place.{Place}
 use Rattle.et_event.specs.Selected.{deferred_at, deferred_by, deferred_call, deferred_in}
 
@@ -30,12 +30,12 @@ unfolding deferred_call
 at_turn p s t turn is = ap (λ (x : Turn). deferred_in (record { program = p; before = s; thread = t }) x) is
 
 pub at_place : (p : Linked) (m : MachineState) (t : ℕ) (place : Place) → turn_of (thread_at m.guest t) ≡ Instruction → IsPlace p (top m.guest t) place
-    → deferred_call p (kept_of m) t ≡ deferred_at (moment p m t) (site_at place) place.row
+    → deferred_call p (kept_of m) t ≡ deferred_at (moment p m t) place.site place.row
 at_place p m t place turn is =
     let e : Moment = moment p m t in
     at_turn p (kept_of m) t Instruction turn
     ∙ (ap (λ (d : Result (Instr × ℕ) CodeFault). deferred_by e d) is.decoded
-    ∙ (ap (λ (r : Option Row). option_and_then (deferred_at e (site_of p (current_frame e) (place.instr, place.next))) r) is.row
+    ∙ (ap (λ (r : Option Row). option_and_then (deferred_at e (site_of p (current_frame e) (place.site.instr, place.site.next))) r) is.row
     ∙ ap (λ (at : Site). deferred_at e at place.row) (sym is.site)))
 
 no_row : (e : Moment) (d : Result (Instr × ℕ) CodeFault) → row_at d ≡ None → deferred_by e d ≡ None

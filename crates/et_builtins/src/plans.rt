@@ -4,7 +4,7 @@ ghost use Rattle.std.specs.Result.{result_ok};
 ghost use Rattle.et_state.specs.Words.{HasFrame, top};
 ghost use Rattle.et_event.specs.declared.rows.CallKind.TheVariants as kinds;
 ghost use Rattle.et_state.specs.State.{Kept, kept_of};
-ghost use Rattle.et_event.specs.Places.{IsPlace, site_at};
+ghost use Rattle.et_event.specs.Places.{IsPlace};
 ghost use Rattle.et_program.specs.BuiltIns.{is_deferred as is_deferred_in};
 ghost use Rattle.et_program.specs.Entries.{is_static, method_at};
 ghost use Rattle.et_program.specs.Members.{kept};
@@ -27,7 +27,7 @@ use crate::arguments::{fitting_call, receiver};
 use crate::classes::fits_resolved;
 use et_base::{ClassId, MethodId, Steps, ThreadId};
 use et_class::flags::{STATIC, has};
-use et_event::{CallKind, GuestError, Place, class_called, index_of};
+use et_event::{CallKind, GuestError, Place, Site, class_called, index_of};
 use et_program::{BuiltInClass, Element, LinkError, NamedMethod, Program};
 use et_state::{ClassState, Machine};
 use std::sync::ledger::Ledger;
@@ -277,16 +277,16 @@ fn resolved_plan<L: Ledger>(
 }
 
 /// The method that an instruction names, as it was resolved when the program was linked (JVMS 5.4.3.3, 5.4.3.4).
-fn method_named(program: &Program, place: &Place<'_>) -> Result<NamedMethod, LinkError>
-    requires class { place.now.class < length program.now.classes }
-    requires index { natural_of place.now.instr.first < 2 ^ 16 }
-    requires pool { (site_at place.now).pool ≡ pool_of_class program.now place.now.class }
-    requires member { IsSome (site_member (site_at place.now)) }
-    ensures value { (m : Member) → site_member (site_at place.now) ≡ Some m → result
-        ≡ method_of_member program.now (is_of_interface (site_at place.now)) m }
+fn method_named(program: &Program, site: &Site<'_>) -> Result<NamedMethod, LinkError>
+    requires class { site.now.class < length program.now.classes }
+    requires index { natural_of site.now.instr.first < 2 ^ 16 }
+    requires pool { site.now.pool ≡ pool_of_class program.now site.now.class }
+    requires member { IsSome (site_member site.now) }
+    ensures value { (m : Member) → site_member site.now ≡ Some m → result
+        ≡ method_of_member program.now (is_of_interface site.now) m }
     ensures within { IfOk result (IsNamedWithin program.now) }
 {
-    match program.method_at_index(place.class, index_of(place)) {
+    match program.method_at_index(site.class(), index_of(site)) {
         Some(answer) => answer,
         None => unreachable!(),
     }
@@ -294,26 +294,26 @@ fn method_named(program: &Program, place: &Place<'_>) -> Result<NamedMethod, Lin
 
 /// The class and the method that an instruction names, as they were resolved when the program was linked, or the error that
 /// is thrown.
-fn resolve(program: &Program, place: &Place<'_>) -> Result<(ClassId, MethodId), GuestError>
-    requires class { place.now.class < length program.now.classes }
-    requires index { natural_of place.now.instr.first < 2 ^ 16 }
-    requires pool { (site_at place.now).pool ≡ pool_of_class program.now place.now.class }
-    requires member { IsSome (site_member (site_at place.now)) }
+fn resolve(program: &Program, site: &Site<'_>) -> Result<(ClassId, MethodId), GuestError>
+    requires class { site.now.class < length program.now.classes }
+    requires index { natural_of site.now.instr.first < 2 ^ 16 }
+    requires pool { site.now.pool ≡ pool_of_class program.now site.now.class }
+    requires member { IsSome (site_member site.now) }
     ensures value { (e : Moment) (m : Member) (go : ℕ → ℕ → Outcome Kept) →
-        e.program ≡ program.now → site_member (site_at place.now) ≡ Some m →
+        e.program ≡ program.now → site_member site.now ≡ Some m →
         resolved e (begins e) (resolve_class e.program m.owner) (λ owner. resolved e (begins e)
-        (resolve_method e.program owner (is_of_interface (site_at place.now)) m.name m.descriptor)
+        (resolve_method e.program owner (is_of_interface site.now) m.name m.descriptor)
         (go owner)) ≡ resolving e result go }
-    ensures found { (m : Member) (go : ℕ → ℕ → Option ℕ) → site_member (site_at place.now)
+    ensures found { (m : Member) (go : ℕ → ℕ → Option ℕ) → site_member site.now
         ≡ Some m →
-        with_resolved program.now (is_of_interface (site_at place.now)) m go
+        with_resolved program.now (is_of_interface site.now) m go
         ≡ option_and_then (λ x. go x.0 x.1) (result_ok result) }
     ensures within { IfOk result
         (λ x. (x.0 < length program.now.classes) × (x.1 < length program.now.methods)) }
-    ensures same { (m : Member) → site_member (site_at place.now) ≡ Some m →
+    ensures same { (m : Member) → site_member site.now ≡ Some m →
         IfOk result (λ x. (method_at program.now x.1).descriptor ≡ m.descriptor) }
 {
-    match method_named(program, place) {
+    match method_named(program, site) {
         Ok(found) => Ok((found.class, found.method)),
         Err(error) => Err(GuestError::of(error)),
     }
@@ -330,29 +330,30 @@ pub fn invoke_plan<L: Ledger>(
 ) -> CallPlan
     requires frame { HasFrame machine.now.guest thread }
     requires sound { IsSoundFor program.now (kept_of machine.now) }
-    requires class { place.now.class < length program.now.classes }
-    requires index { natural_of place.now.instr.first < 2 ^ 16 }
+    requires class { place.now.site.class < length program.now.classes }
+    requires index { natural_of place.now.site.instr.first < 2 ^ 16 }
     requires place { IsPlace program.now (top machine.now.guest thread) place.now }
-    ensures plan { invoke (moment program.now machine.now thread) (site_at place.now) kind
-        ≡ call_planned (moment program.now machine.now thread) (site_at place.now) result }
+    ensures plan { invoke (moment program.now machine.now thread) place.now.site kind
+        ≡ call_planned (moment program.now machine.now thread) place.now.site result }
     ensures deferred { kept (is_deferred_in program.now) (method_entered result)
         ≡ kept (is_deferred_in program.now)
-        (selected_method (moment program.now machine.now thread) (site_at place.now) kind) }
+        (selected_method (moment program.now machine.now thread) place.now.site kind) }
     ensures within { IsCallPlan (moment program.now machine.now thread) result }
-    ensures passes { IsPassing (moment program.now machine.now thread) (site_at place.now) kind
+    ensures passes { IsPassing (moment program.now machine.now thread) place.now.site kind
         result }
     ensures visits { visits.new ≤ visits.old + 2 }
 {
-    let Some(shape) = program.call_shape(place.class, index_of(place)) else {
+    let class = place.site.class();
+    let Some(shape) = program.call_shape(class, index_of(&place.site)) else {
         return CallPlan::IllTyped;
     };
     let Some(count) = fitting_call(machine, thread, is_static_call(kind), shape) else {
         return CallPlan::IllTyped;
     };
-    match resolve(program, place) {
+    match resolve(program, &place.site) {
         Ok(found) => {
             let callee = Callee {
-                current: place.class,
+                current: class,
                 named: found.0,
                 method: found.1,
                 count,
