@@ -50,7 +50,7 @@ use Rattle.et_builtins.specs.Arguments.{arguments_in}
 use Rattle.et_calls.specs.declared.new_frames.Entered.{Entered}
 use Rattle.et_calls.specs.declared.new_frames.Passed.{Passed}
 use Rattle.et_calls.specs.declared.new_frames.Passed.TheVariants.{Operands, Object}
-use Rattle.et_calls.specs.Entering.{ArePassedTo, IsEntered, arguments_passed, entering_event, fitting_event, passed_by, passing, prepared_for, pushed_by, pushed_event}
+use Rattle.et_calls.specs.Entering.{ArePassedTo, IsEntered, arguments_passed, entering_event, passed_by, passing, prepared_for, pushed_by, pushed_event}
 use Rattle.et_calls.specs.Fresh.{IsFresh}
 use Rattle.et_calls.proofs.Fresh.{fresh_on}
 use Rattle.et_calls.proofs.Passed.{over_same, passed_held, passed_on, passed_thread, receiver_held, slot_in, taken_started}
@@ -298,6 +298,10 @@ pub full_frame : (p : Linked) (t : ℕ) (x : Entered) (m : MachineState) → IsE
 full_frame p t x m is le = record { thread = passed_thread m.guest t x.passed is.passed; frame = omega (arith, le) }
 
 -- WHETHER THE MONITOR MAY BE ENTERED
+
+-- the event where it may
+abbrev pub fitting_event : Moment → Entered → Outcome Kept
+fitting_event e x = frame_fits e (prepared_for e x) (pushed_event e x)
 
 code_is : (p : Linked) (t : ℕ) (x : Entered) (m : MachineState) (lock : Option Lock) (b : Bool) → lock ≡ lock_for (method_at p x.method) (receiver_of p x.method (arguments_passed (top m.guest t) x.passed)) → HasSome m lock
     → may_enter_some_at t lock m ≡ b → entering_event (moment p m t) x ≡ waits_unless (moment p m t) b (fitting_event (moment p m t) x)

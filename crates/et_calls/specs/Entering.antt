@@ -1,22 +1,16 @@
 -- A method is entered (JVMS 2.6, 2.11.8, 2.11.10): where its arguments stand, and what its event comes to.
-use Rattle.std.specs.Prelude.{◌≡◌, ℕ, ◌<◌, ◌≤◌, not, true, List, [], length, All, option_to_list}
+use Rattle.std.specs.Prelude.{◌≡◌, ℕ, ◌<◌, ◌≤◌, true, List, [], length, All, option_to_list}
 use Rattle.std.specs.List.{list_all}
 use Rattle.et_base.specs.declared.value.Value.{Value}
-use Rattle.et_class.specs.Names.{has}
-use Rattle.et_class.specs.declared.flags.TheConstants.{NATIVE}
 use Rattle.et_state.specs.Threads.{FrameState, as_entered, entered_by, popped}
 use Rattle.et_state.specs.State.{GuestState, Kept, MachineState}
 use Rattle.et_state.specs.Words.{HasFrame, thread_at, top, steps_top, steps_thread}
 use Rattle.et_state.specs.Outcome.{Outcome}
 use Rattle.et_program.specs.Entries.{Linked, method_at}
-use Rattle.et_event.specs.declared.errors.GuestError.TheVariants.{UnsatisfiedLinkError}
-use Rattle.et_event.specs.BuiltIns.{built_in_event}
-use Rattle.et_event.specs.Calls.{arguments_of, entering_frame, entry_arguments, taking}
-use Rattle.et_event.specs.Checks.{frame_fits, throws_unless}
+use Rattle.et_event.specs.Calls.{entering_frame, entry_arguments, taking}
 use Rattle.et_event.specs.Frames.{enters_code, frame_entered}
 use Rattle.et_event.specs.Initialization.{is_ready, prepared}
 use Rattle.et_event.specs.Moments.{Doing, Moment, begins, ends_event, current_frame, moment}
-use Rattle.et_event.specs.Sites.{Site}
 use Rattle.et_builtins.specs.Arguments.{arguments_in}
 use Rattle.et_calls.specs.declared.new_frames.Entered.{Entered}
 use Rattle.et_calls.specs.declared.new_frames.Passed.{Passed}
@@ -66,16 +60,6 @@ prepared_for e x = prepared e x.classes.now (begins e)
 abbrev pub pushed_event : Moment → Entered → Outcome Kept
 pushed_event e x = ends_event (frame_entered e x.method x.code.now (arguments_passed (current_frame e) x.passed) (passing e x.passed (prepared_for e x)))
 
--- .. if the thread has room for it
-abbrev pub fitting_event : Moment → Entered → Outcome Kept
-fitting_event e x = frame_fits e (prepared_for e x) (pushed_event e x)
-
--- .. and if the thread may enter the monitor of the method
+-- .. if the thread may enter the monitor of the method, and has room for a frame
 abbrev pub entering_event : Moment → Entered → Outcome Kept
 entering_event e x = enters_code e (prepared_for e x) (passing e x.passed) x.method (arguments_passed (current_frame e) x.passed) x.code.now
-
--- the event of a method without code: a native one throws, and another one is built in or abstract
-abbrev pub codeless_call : Moment → Site → ℕ → ℕ → Outcome Kept
-codeless_call e at method count =
-    throws_unless e (begins e) UnsatisfiedLinkError (not (has (method_at e.program method).flags NATIVE))
-    (built_in_event e at (begins e) (arguments_of e count) (method_at e.program method))

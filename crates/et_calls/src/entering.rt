@@ -7,7 +7,7 @@ ghost use Rattle.et_event.specs.Answered.{EventAnswers};
 ghost use Rattle.et_event.specs.Moments.{fits_heap, moment};
 ghost use Rattle.et_event.specs.Locks.{entering_some, locks_of};
 ghost use Rattle.et_calls.specs.Asked.{MayEnter, MayPush};
-ghost use Rattle.et_calls.specs.Entering.{arguments_passed, entering_event, fitting_event, prepared_for, pushed_by, pushed_event};
+ghost use Rattle.et_calls.specs.Entering.{arguments_passed, entering_event, prepared_for, pushed_by, pushed_event};
 
 use crate::new_frames::{
     Entered, Passed, new_head, number_of, passed_count, put_frame, receiver_of,
@@ -94,34 +94,8 @@ fn classes_fit(
     prepared_fit(alloc, program, machine, entered.classes, 0, 0)
 }
 
-/// The event of a method whose monitor the thread may enter: it is entered, or StackOverflowError is thrown where the thread
-/// has 1,024 frames.
-fn fitting_frame_event<L: Ledger>(
-    alloc: Global,
-    program: &Program,
-    machine: &mut Machine,
-    thread: ThreadId,
-    entered: &Entered<'_>,
-    out: &mut Lines,
-    visits: &mut Steps<L>,
-) -> Result<EventEnd, NoMemory>
-    requires enters { MayEnter program.now machine.old thread entered.now }
-    ensures ok { IfOk result (λ end. EventAnswers (fitting_event (moment
-        program.now machine.old thread) entered.now) end machine.old machine.new out.old out.new) }
-    ensures visits { visits.new ≤ visits.old + 2 }
-{
-    if machine.frames(thread) >= MOST_FRAMES {
-        let error = GuestError::StackOverflowError;
-        return throw_after(alloc, program, machine, thread, entered.classes, error, out);
-    }
-    if !classes_fit(alloc, program, machine, thread, entered)? {
-        return Ok(EventEnd::ObjectLimit);
-    }
-    push_event(alloc, program, machine, thread, entered, out, visits)
-}
-
-/// The event in which a thread enters a method with code, or waits for its monitor (JVMS 2.6, 2.11.8, 2.11.10). After
-/// `NoMemory` the event may be half done.
+/// The event in which a thread enters a method with code, or waits for its monitor (JVMS 2.6, 2.11.8, 2.11.10); where the
+/// thread has 1,024 frames, StackOverflowError is thrown. After `NoMemory` the event may be half done.
 pub(crate) fn enter_code<L: Ledger>(
     alloc: Global,
     program: &Program,
@@ -140,5 +114,12 @@ pub(crate) fn enter_code<L: Ledger>(
     if !may_enter_some(machine, thread, &lock, visits) {
         return Ok(wait_event(machine));
     }
-    fitting_frame_event(alloc, program, machine, thread, entered, out, visits)
+    if machine.frames(thread) >= MOST_FRAMES {
+        let error = GuestError::StackOverflowError;
+        return throw_after(alloc, program, machine, thread, entered.classes, error, out);
+    }
+    if !classes_fit(alloc, program, machine, thread, entered)? {
+        return Ok(EventEnd::ObjectLimit);
+    }
+    push_event(alloc, program, machine, thread, entered, out, visits)
 }

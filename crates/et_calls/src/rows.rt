@@ -17,45 +17,17 @@ ghost use Rattle.et_event.specs.Selected.{deferred_at};
 ghost use Rattle.et_event.specs.Answered.{DefersOrAnswers};
 ghost use Rattle.et_calls.specs.Asked.{MayInvoke};
 ghost use Rattle.et_builtins.specs.Plans.{IsCallPlan, call_planned as event_of};
-ghost use Rattle.et_builtins.specs.declared.plans.CallPlan.TheVariants as plans;
 ghost use Rattle.et_event.specs.InitializationOrder.{IsInOrder};
 
-use crate::called::{enter_after, enter_event};
+use crate::called::{enter_event, initialize_event};
 use crate::returns::return_event;
 use et_base::{NoMemory, Steps, ThreadId};
 use et_builtins::{Call, CallPlan, deferred_method, invoke_plan};
 use et_event::{CallRow, Place, Row, ill_typed, throw_error, wait_event};
-use et_initialize::{Need, begin_class_event, need_of};
 use et_program::Program;
 use et_state::{EventEnd, Lines, Machine};
 use std::alloc::Global;
 use std::sync::ledger::Ledger;
-
-/// The event of a call of a static method whose class is untouched: a quiet class becomes done and the method is called, and
-/// another one begins.
-fn initialize_event<L: Ledger>(
-    alloc: Global,
-    program: &Program,
-    machine: &mut Machine,
-    thread: ThreadId,
-    call: Call,
-    out: &mut Lines,
-    visits: &mut Steps<L>,
-) -> Result<EventEnd, NoMemory>
-    requires invoke { MayInvoke program.now machine.old thread }
-    requires plan { IsCallPlan
-        (moment program.now machine.old thread) (plans.Initializes call.method call.count) }
-    ensures ok { IfOk result
-        (λ end. (at : Site) → EventAnswers (event_of (moment program.now machine.old thread) at
-        (plans.Initializes call.method call.count)) end machine.old machine.new out.old out.new) }
-    ensures visits { visits.new ≤ visits.old + 3 }
-{
-    let class = program.method(call.method).class;
-    match need_of(program, machine, thread, class) {
-        Need::Quiet => enter_after(alloc, program, machine, thread, call, out, visits),
-        _ => begin_class_event(alloc, program, machine, thread, class, out),
-    }
-}
 
 /// What an invoke comes to, and the pc behind it.
 #[derive(Clone, Copy)]
