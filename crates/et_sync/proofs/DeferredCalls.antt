@@ -11,7 +11,7 @@ use Rattle.et_state.specs.State.{Kept, MachineState, kept_of}
 use Rattle.et_state.specs.Words.{thread_at, top}
 use Rattle.et_event.specs.declared.families.Family.TheVariants.{Sync}
 use Rattle.et_event.specs.declared.rows.CallKind.{CallKind}
-use Rattle.et_event.specs.declared.rows.CallRow.TheVariants.{Invoke, Return}
+use Rattle.et_event.specs.declared.rows.CallRow.TheVariants.{Invoke}
 use Rattle.et_event.specs.declared.rows.Row.{Row}
 use Rattle.et_event.specs.declared.rows.Row.TheVariants as row
 use Rattle.et_event.specs.BuiltIns.{built_in_event}
@@ -43,43 +43,6 @@ at_row p m t place turn is family h =
       | inr some ↦ inr (subst (λ (r : Option ℕ). IsSome r) (at_place p m t place turn is) some)
     ]
 
-invoked : (e : Moment) (at : Site) (kind : CallKind) → IsRow e at (row.Call (Invoke kind)) → IsSome (deferred_at e at (row.Call (Invoke kind)))
-invoked e at kind (inl sync) = cc
-invoked e at kind (inr some) = some
-
-pub invoke_defers : (e : Moment) (at : Site) (r : Row) (kind : CallKind) → r ≡ row.Call (Invoke kind) → IsRow e at r → IsSome (deferred_at e at (row.Call (Invoke kind)))
-invoke_defers e at r kind named h = invoked e at kind (subst (λ (q : Row). IsRow e at q) named h)
-
--- .. is one of a monitor or an invoke
-abbrev pub IsOther : Row → Type 0
-IsOther (row.Frame r) = Unit {0}
-IsOther row.PoolConstant = Unit {0}
-IsOther (row.Divide n o) = Unit {0}
-IsOther (row.Heap r) = Unit {0}
-IsOther (row.Call (Return kind)) = Unit {0}
-IsOther (row.Call (Invoke kind)) = ⊥
-IsOther row.Throw = Unit {0}
-IsOther (row.Monitor r) = ⊥
-
-none_other : (e : Moment) (at : Site) (r : Row) → IsOther r → IsRow e at r → ⊥
-none_other e at (row.Frame r) other (inl sync) = cc
-none_other e at (row.Frame r) other (inr some) = cc
-none_other e at row.PoolConstant other (inl sync) = cc
-none_other e at row.PoolConstant other (inr some) = cc
-none_other e at (row.Divide n o) other (inl sync) = cc
-none_other e at (row.Divide n o) other (inr some) = cc
-none_other e at (row.Heap r) other (inl sync) = cc
-none_other e at (row.Heap r) other (inr some) = cc
-none_other e at (row.Call (Return kind)) other (inl sync) = cc
-none_other e at (row.Call (Return kind)) other (inr some) = cc
-none_other e at (row.Call (Invoke kind)) other h = other
-none_other e at row.Throw other (inl sync) = cc
-none_other e at row.Throw other (inr some) = cc
-none_other e at (row.Monitor r) other h = other
-
-pub other_row : (e : Moment) (at : Site) (r q : Row) → r ≡ q → IsOther q → IsRow e at r → ⊥
-other_row e at r q named other h = none_other e at q other (subst (λ (x : Row). IsRow e at x) named h)
-
 -- A TURN THAT IS NO INSTRUCTION
 
 pub no_entry : (p : Linked) (s : Kept) (t : ℕ) (turn : Turn) → turn_of (thread_at s.guest t) ≡ turn → (family_of_turn turn (row_at (decoded_at p (top s.guest t))) ≡ Sync → ⊥) → deferred_call p s t ≡ None
@@ -100,10 +63,6 @@ no_other p s t turn here (inr (inr is)) h = no_entry p s t Initialize (sym here 
 
 abbrev pub Entering : Moment → Site → CallKind → CallPlan → Type 0
 Entering e at kind plan = kept (is_deferred e.program) (method_entered plan) ≡ kept (is_deferred e.program) (selected_method e at kind)
-
-pub nothing_entered : (e : Moment) (at : Site) (kind : CallKind) (plan : CallPlan) → Entering e at kind plan → IsSome (deferred_at e at (row.Call (Invoke kind))) → method_entered plan ≡ None → ⊥
-nothing_entered e at kind plan enters some none =
-    none_deferred (deferred_at e at (row.Call (Invoke kind))) (sym enters ∙ ap (λ (r : Option ℕ). kept (is_deferred e.program) r) none) some
 
 entered_deferred : (e : Moment) (at : Site) (kind : CallKind) (plan : CallPlan) (method count : ℕ) → Entering e at kind plan → IsSome (deferred_at e at (row.Call (Invoke kind))) → plan ≡ Enters method count → is_deferred e.program method ≡ true
 entered_deferred e at kind plan method count enters some named =

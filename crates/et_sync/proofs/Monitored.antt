@@ -1,5 +1,5 @@
 -- `monitorenter` and `monitorexit`.
-use Rattle.std.proofs.Common.{◌≡◌, ℕ, ◌<◌, ◌≤◌, ◌^◌, Bool, true, false, List, [], ◌∷◌, length, get_or, drop, Some, None, refl, sym, ◌∙◌, ap, subst, Contains, append-nil, arith}
+use Rattle.std.proofs.Common.{◌≡◌, ℕ, ◌+◌, ◌<◌, ◌≤◌, ◌^◌, Bool, true, false, List, [], ◌∷◌, length, get_or, drop, Some, None, refl, sym, ◌∙◌, ap, subst, Contains, append-nil, arith}
 use Rattle.std.specs.Prelude.{Result, Ok, Err, IfOk}
 use Rattle.std.proofs.lemmas.List.{length-set}
 use Rattle.et_base.specs.declared.value.Value.{Value}
@@ -36,7 +36,7 @@ use Rattle.et_event.proofs.Keeping.{monitor_on_way}
 use Rattle.et_event.proofs.There.{few_times}
 use Rattle.et_event.specs.Tops.{entry_reference}
 use Rattle.et_event.proofs.Answering.{ill_typed_answers, ill_typed_end}
-use Rattle.et_sync.specs.Monitoring.{gone_on, once_more}
+use Rattle.et_sync.specs.Monitoring.{gone_past, taken}
 
 -- THE REFERENCE ON TOP
 
@@ -80,6 +80,14 @@ object_few p m o sound held = few_times p m (Some (OfObject o)) sound held
 
 -- THE STEP
 
+-- the state in which a frame has gone on, and a monitor has changed
+abbrev pub gone_on : (Monitor → Monitor) → MachineState → ℕ → ℕ → ℕ → Kept
+gone_on change m t o next =
+    record { heap = with_object_at m.heap o (with_monitor (change (object_at m.heap o).monitor) (object_at m.heap o)); guest = with_top (ticked m.guest) t (record (top m.guest t) { pc = next; operands = drop 1 (top m.guest t).operands }) }
+
+abbrev pub once_more : ℕ → Monitor → Monitor
+once_more t y = record { owner = Some t; count = y.count + 1 }
+
 -- an event that changed the topmost frame, and then writes the monitor of an object
 monitored_led : (change : Monitor → Monitor) (m : MachineState) (t : ℕ) (f : FrameState) (l : List ℕ) (m₁ m₂ : MachineState) (o : ℕ) → IsSound (kept_of m) → HasFrame m.guest t → IsHeld m.heap o → Did (kept_of m) (begun m) t f l m₁
     → m₂ ≡ with_monitor_at (OfObject o) (change (monitor_at m₁ (OfObject o))) m₁
@@ -94,24 +102,18 @@ monitored_led change m t f l m₁ m₂ o sound has held d e =
     (ap (λ (n : MachineState). length n.heap) is ∙ length-set m.heap o (Some (with_monitor (change (object_at m.heap o).monitor) (object_at m.heap o)))) (ap (λ (n : MachineState). kept_of n) is)
 
 -- the reference is taken, the pc goes on, and the monitor is written
-pub changed_led : (change : Monitor → Monitor) (m : MachineState) (t o next : ℕ) (m₁ m₂ m₃ m₄ : MachineState) → IsSound (kept_of m) → HasFrame m.guest t → IsHeld m.heap o → 0 < length (top m.guest t).operands → m₁ ≡ begun m
-    → m₂ ≡ steps_top m₁ t (popped 1 (top m₁.guest t)) (refs_of_value (operand_of (top m₁.guest t) 0)) → m₃ ≡ steps_top m₂ t (at_pc next (top m₂.guest t)) []
-    → m₄ ≡ with_monitor_at (OfObject o) (change (monitor_at m₃ (OfObject o))) m₃
-    → Led (kept_of m) (gone_on change m t o next) m₄
-changed_led change m t o next m₁ m₂ m₃ m₄ sound has held some e₁ e₂ e₃ e₄ =
+pub changed_led : (change : Monitor → Monitor) (m : MachineState) (t o next : ℕ) (m₁ m₂ : MachineState) → IsSound (kept_of m) → HasFrame m.guest t → IsHeld m.heap o → 0 < length (top m.guest t).operands → m₁ ≡ gone_past t next m
+    → m₂ ≡ with_monitor_at (OfObject o) (change (monitor_at m₁ (OfObject o))) m₁
+    → Led (kept_of m) (gone_on change m t o next) m₂
+changed_led change m t o next m₁ m₂ sound has held some e₁ e₂ =
     let s : Kept = kept_of m in
     let b : MachineState = begun m in
     let f : FrameState = top m.guest t in
     let framed : HasFrame b.guest t = record { thread = has.thread; frame = has.frame } in
-    let d₁ = did_begin s m t m₁ has e₁ in
-    let d₂ = did_pop s b t f [] m₁ m₂ framed d₁ e₂ some (λ q c. operand_there m (kept_of b) t 0 has some q c) in
-    let d₃ = did_set_pc s b t (popped 1 f) _ m₂ m₃ next framed d₂ e₃ in
-    monitored_led change m t (at_pc next (popped 1 f)) _ m₃ m₄ o sound has held d₃ e₄
-
-pub heap_same : (m : MachineState) (t next : ℕ) (m₁ m₂ m₃ : MachineState) → m₁ ≡ begun m
-    → m₂ ≡ steps_top m₁ t (popped 1 (top m₁.guest t)) (refs_of_value (operand_of (top m₁.guest t) 0)) → m₃ ≡ steps_top m₂ t (at_pc next (top m₂.guest t)) []
-    → m₃.heap ≡ m.heap
-heap_same m t next m₁ m₂ m₃ e₁ e₂ e₃ = ap (λ (n : MachineState). n.heap) e₃ ∙ (ap (λ (n : MachineState). n.heap) e₂ ∙ ap (λ (n : MachineState). n.heap) e₁)
+    let d₁ = did_begin s m t b has refl in
+    let d₂ = did_pop s b t f [] b (taken t m) framed d₁ refl some (λ q c. operand_there m (kept_of b) t 0 has some q c) in
+    let d₃ = did_set_pc s b t (popped 1 f) _ (taken t m) m₁ next framed d₂ e₁ in
+    monitored_led change m t (at_pc next (popped 1 f)) _ m₁ m₂ o sound has held d₃ e₂
 
 -- WHAT IT ANSWERS
 
@@ -151,13 +153,6 @@ exited_answers p t o next m m' at out same e owned led =
     let here : Led (kept_of m) (gone_on left_once m t o at.next) m' = subst (λ (k : ℕ). Led (kept_of m) (gone_on left_once m t o k) m') (sym same) led in
     subst (λ (z : Outcome Kept). EventAnswers z ends.Done m m' out out) (sym (exits_it p m t at (Some o) e))
     (subst (λ (b : Bool). EventAnswers (throws_unless x (begins x) IllegalMonitorStateException b (goes (left (OfObject o) (leaving_values x at (drop 1 (top m.guest t).operands) (begins x))))) ends.Done m m' out out) (sym owned) (here, sym (append-nil out)))
-
-pub unowned_answers : {E : Type 0} (p : Linked) (t o : ℕ) (m m' : MachineState) (at : Site) (out out' : List Record) (r : Result EventEnd E) → entry_reference (operand_of (top m.guest t) 0) ≡ Some (Some o) → owns_at t (OfObject o) m ≡ false
-    → IfOk r (λ end. EventAnswers (throws (moment p m t) IllegalMonitorStateException (begins (moment p m t))) end m m' out out') → IfOk r (λ end. EventAnswers (monitor_event (moment p m t) at Exit) end m m' out out')
-unowned_answers p t o m m' at out out' r e owned h =
-    let x : Moment = moment p m t in
-    subst (λ (z : Outcome Kept). IfOk r (λ end. EventAnswers z end m m' out out')) (sym (exits_it p m t at (Some o) e))
-    (subst (λ (b : Bool). IfOk r (λ end. EventAnswers (throws_unless x (begins x) IllegalMonitorStateException b (goes (left (OfObject o) (leaving_values x at (drop 1 (top m.guest t).operands) (begins x))))) end m m' out out')) (sym owned) h)
 
 pub null_answers : {E : Type 0} (p : Linked) (t : ℕ) (row : MonitorRow) (m m' : MachineState) (at : Site) (out out' : List Record) (r : Result EventEnd E) → entry_reference (operand_of (top m.guest t) 0) ≡ Some None
     → IfOk r (λ end. EventAnswers (throws (moment p m t) NullPointerException (begins (moment p m t))) end m m' out out') → IfOk r (λ end. EventAnswers (monitor_event (moment p m t) at row) end m m' out out')

@@ -60,30 +60,6 @@ fn place_event<L: Ledger>(
     }
 }
 
-/// The event of a thread whose turn is `monitorenter` or `monitorexit`, or a call of a deferred method.
-fn instruction_event<L: Ledger>(
-    program: &Program,
-    machine: &mut Machine,
-    thread: ThreadId,
-    out: &mut Lines,
-    visits: &mut Steps<L>,
-) -> Result<EventEnd, NoMemory>
-    requires begins { BeginsEvent program.now machine.old thread }
-    requires instruction { turn_of (thread_at machine.old.guest thread) ≡ turns.Instruction }
-    requires turn { (family_of program.now (kept_of machine.old) thread ≡ families.Sync)
-        ⊎ IsSome (deferred_call program.now (kept_of machine.old) thread) }
-    ensures event { IfOk result (λ end. EventAnswers (event program.now
-        (kept_of machine.old) thread) end machine.old machine.new out.old out.new) }
-    ensures visits { visits.new ≤ visits.old + 5 }
-    ensures err { family_of program.now (kept_of machine.old) thread ≡ families.Sync →
-        OnErr result (machine.new.guest ≡ machine.old.guest) }
-{
-    match place_of(program, machine, thread) {
-        Some(place) => place_event(program, machine, thread, &place, out, visits),
-        None => Ok(ill_typed(machine, thread)),
-    }
-}
-
 /// The event of a thread whose turn is `monitorenter` or `monitorexit` (JVMS 2.11.10, 6.5), to end (JVMS 2.5.1, 2.5.2), or a
 /// call of a built-in method without code of Thread, Reference, WeakReference or ReferenceQueue, for which `calls_event`
 /// answers `Native`. It answers what the table of events says: `Done`, and then the machine keeps the next state, to which a
@@ -111,7 +87,10 @@ pub fn sync_event<L: Ledger>(
 {
     match machine.turn(thread) {
         Turn::EndThread => Ok(end_event(machine, thread)),
-        Turn::Instruction => instruction_event(program, machine, thread, out, visits),
+        Turn::Instruction => match place_of(program, machine, thread) {
+            Some(place) => place_event(program, machine, thread, &place, out, visits),
+            None => Ok(ill_typed(machine, thread)),
+        },
         Turn::Unwind | Turn::Entry | Turn::Initialize => unreachable!(),
     }
 }

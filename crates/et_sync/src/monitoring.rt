@@ -1,18 +1,15 @@
 //! `monitorenter` and `monitorexit`.
-ghost use Rattle.std.specs.Prelude.{◌≡◌, ◌+◌, ◌<◌, ◌≤◌, ◌^◌, List, Some, IfOk, OnErr};
-ghost use Rattle.et_heap.specs.Objects.{object_at};
+ghost use Rattle.std.specs.Prelude.{◌≡◌, ◌+◌, ◌<◌, ◌≤◌, ◌^◌, List, IfOk, OnErr, length};
 ghost use Rattle.et_state.specs.State.{kept_of};
 ghost use Rattle.et_state.specs.Words.{HasFrame, top};
-ghost use Rattle.et_state.specs.Moves.{Led};
 ghost use Rattle.et_state.specs.declared.records.Record.{Record};
 ghost use Rattle.et_event.specs.Answered.{EventAnswers};
-ghost use Rattle.et_event.specs.Monitors.{left_once};
 ghost use Rattle.et_event.specs.Sites.{Site};
 ghost use Rattle.et_event.specs.Sound.{IsSoundFor};
 ghost use Rattle.et_event.specs.Sync.{monitor_event};
 ghost use Rattle.et_event.specs.declared.rows.MonitorRow.TheVariants as rows;
 ghost use Rattle.et_event.specs.Moments.{moment};
-ghost use Rattle.et_sync.specs.Monitoring.{MayLock, MayPass, gone_on, once_more};
+ghost use Rattle.et_sync.specs.Monitoring.{MayLock, gone_past};
 
 use et_base::{NoMemory, ObjectId, Steps, ThreadId};
 use et_event::{
@@ -23,43 +20,16 @@ use et_program::Program;
 use et_state::{EventEnd, Lines, Machine};
 use std::sync::ledger::Ledger;
 
-/// The event in which a thread enters the monitor of the object on top of its operands once more.
-fn enter_object<L: Ledger>(
-    machine: &mut Machine,
-    thread: ThreadId,
-    object: ObjectId,
-    next: u32,
-    visits: &mut Steps<L>,
-)
-    requires passes { MayPass machine.old thread object }
-    requires count { (object_at machine.old.heap object).monitor.count ≤ 2 ^ 40 }
-    ensures led { Led (kept_of machine.old)
-        (gone_on (once_more thread) machine.old thread object next) machine.new }
-    ensures visits { visits.new ≤ visits.old + 2 }
+/// An event begins, in which the operand on top is taken and the frame goes on at the pc `next`.
+fn begin_past(machine: &mut Machine, thread: ThreadId, next: u32)
+    requires frame { HasFrame machine.old.guest thread }
+    requires clock { machine.old.guest.clock < 2 ^ 40 }
+    requires operand { 0 < length (top machine.old.guest thread).operands }
+    ensures { machine.new ≡ gone_past thread next machine.old }
 {
     machine.begin_event();
     machine.pop(thread);
     machine.set_pc(thread, next);
-    enter_monitor(machine, thread, &Lock::OfObject(object), visits);
-}
-
-/// The event in which a thread leaves the monitor of the object on top of its operands once.
-fn exit_object<L: Ledger>(
-    machine: &mut Machine,
-    thread: ThreadId,
-    object: ObjectId,
-    next: u32,
-    visits: &mut Steps<L>,
-)
-    requires passes { MayPass machine.old thread object }
-    ensures led { Led (kept_of machine.old)
-        (gone_on left_once machine.old thread object next) machine.new }
-    ensures visits { visits.new ≤ visits.old + 2 }
-{
-    machine.begin_event();
-    machine.pop(thread);
-    machine.set_pc(thread, next);
-    leave_monitor(machine, &Lock::OfObject(object), visits);
 }
 
 /// `monitorenter` of an object, which waits for another owner.
@@ -78,10 +48,12 @@ fn monitorenter<L: Ledger>(
         result machine.old machine.new out out }
     ensures visits { visits.new ≤ visits.old + 3 }
 {
-    if !may_enter(machine, thread, &Lock::OfObject(object), visits) {
+    let lock = Lock::OfObject(object);
+    if !may_enter(machine, thread, &lock, visits) {
         return wait_event(machine);
     }
-    enter_object(machine, thread, object, next, visits);
+    begin_past(machine, thread, next);
+    enter_monitor(machine, thread, &lock, visits);
     EventEnd::Done
 }
 
@@ -103,7 +75,8 @@ fn monitorexit<L: Ledger>(
     ensures err { OnErr result (machine.new.guest ≡ machine.old.guest) }
     ensures visits { visits.new ≤ visits.old + 3 }
 {
-    if !owns(machine, thread, &Lock::OfObject(object), visits) {
+    let lock = Lock::OfObject(object);
+    if !owns(machine, thread, &lock, visits) {
         return throw_error(
             program,
             machine,
@@ -112,7 +85,8 @@ fn monitorexit<L: Ledger>(
             out,
         );
     }
-    exit_object(machine, thread, object, next, visits);
+    begin_past(machine, thread, next);
+    leave_monitor(machine, &lock, visits);
     Ok(EventEnd::Done)
 }
 
