@@ -56,14 +56,8 @@ pub fn throw_after(
         end machine.old machine.new out.old out.new) }
 {
     let class = class_called(program, error.class());
-    if !prepared_fit(
-        alloc,
-        program,
-        machine,
-        classes,
-        1,
-        slots_of(program, class),
-    )? {
+    let slots = slots_of(program, class);
+    if !prepared_fit(alloc, program, machine, classes, 1, slots)? {
         return Ok(EventEnd::ObjectLimit);
     }
     begin_prepared(program, machine, thread, classes, out)?;
