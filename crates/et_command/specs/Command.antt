@@ -7,6 +7,8 @@ use Rattle.et_state.specs.declared.options.Schedule.TheVariants.{Quantum, Words}
 use Rattle.et_convert.specs.Conversions.{version_format}
 use Rattle.et_command.specs.declared.command.Models.{Models}
 use Rattle.et_command.specs.declared.command.Generations.{Generations}
+use Rattle.et_command.specs.declared.command.Output.{Output}
+use Rattle.et_command.specs.declared.command.Output.TheVariants as output
 use Rattle.et_command.specs.Words.{Given, Split, split}
 use Rattle.et_command.specs.Numbers.{number_within, numbers}
 
@@ -62,18 +64,24 @@ options_of version options =
     (number_or 1000000000 0 (2 ^ 40) (option_value (codes "limit") options)))
     (number_or 0 0 (2 ^ 40) (option_value (codes "flush") options))
 
-abbrev pub trace_options : List Given → Option Options
-trace_options options =
-    if are_options (codes "flush" ∷ codes "limit" ∷ codes "format" ∷ codes "quantum" ∷ codes "words" ∷ []) options
-    then options_of (number_or 1 1 2 (option_value (codes "format") options)) options
-    else None
+-- the options that `trace` and `run` have
+abbrev pub option_names : Output → List (List ℕ)
+option_names output.Trace = codes "flush" ∷ codes "limit" ∷ codes "format" ∷ codes "quantum" ∷ codes "words" ∷ []
+option_names output.Prints = codes "flush" ∷ codes "limit" ∷ codes "quantum" ∷ codes "words" ∷ []
 
 -- what is printed has one format
+abbrev pub format_version : Output → List Given → Option ℕ
+format_version output.Trace options = number_or 1 1 2 (option_value (codes "format") options)
+format_version output.Prints options = Some 1
+
+abbrev pub output_options : Output → List Given → Option Options
+output_options out options = if are_options (option_names out) options then options_of (format_version out options) options else None
+
+abbrev pub trace_options : List Given → Option Options
+trace_options options = output_options output.Trace options
+
 abbrev pub run_options : List Given → Option Options
-run_options options =
-    if are_options (codes "flush" ∷ codes "limit" ∷ codes "quantum" ∷ codes "words" ∷ []) options
-    then options_of (Some 1) options
-    else None
+run_options options = output_options output.Prints options
 
 -- a capacity in bytes, where the option is there
 abbrev pub capacity : Option (List ℕ) → Option (Option ℕ)
@@ -126,11 +134,19 @@ some_paths paths = if length paths == 0 then None else Some paths
 abbrev pub plain_paths : Split → Option (List (List ℕ))
 plain_paths s = if length s.options == 0 then some_paths s.operands else None
 
+-- a program that runs, by what is written out of it
+abbrev pub runs : Output → Options → List (List ℕ) → Asked
+runs output.Trace options paths = Trace options paths
+runs output.Prints options paths = Run options paths
+
+abbrev pub program : Output → Split → Option Asked
+program out s = option_and_then (λ paths. option_map (λ options. runs out options paths) (output_options out s.options)) (some_paths s.operands)
+
 abbrev pub trace : Split → Option Asked
-trace s = option_and_then (λ paths. option_map (λ options. Trace options paths) (trace_options s.options)) (some_paths s.operands)
+trace s = program output.Trace s
 
 abbrev pub run : Split → Option Asked
-run s = option_and_then (λ paths. option_map (λ options. Run options paths) (run_options s.options)) (some_paths s.operands)
+run s = program output.Prints s
 
 abbrev pub replay : Split → Option Asked
 replay s = option_and_then (λ path. option_map (λ models. Replay models path) (replay_options s.options)) (only_path s.operands)

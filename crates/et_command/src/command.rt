@@ -133,31 +133,65 @@ fn options_of(
     }))
 }
 
-/// The options of `trace`.
-fn trace_options(alloc: Global, given: &[Given<'_>]) -> Result<Option<Options>, NoMemory>
-    ensures options { IfOk result (λ options. options ≡ command.trace_options given.now) }
-    ensures range { IfOk result (λ options. IfSome options AreOptions) }
-{
-    if !are_options(
-        &[b"flush", b"limit", b"format", b"quantum", b"words"],
-        given,
-    ) {
-        return Ok(None);
-    }
-    let version = number_or(1, 1, 2, value_of(b"format", given));
-    let options = options_of(alloc, version, given)?;
-    Ok(options)
+/// What is written out of a program that runs: its trace, by `trace`, or what it prints, by `run`.
+#[derive(Clone, Copy)]
+enum Output {
+    Trace,
+    Prints,
 }
 
-/// The options of `run`.
-fn run_options(alloc: Global, given: &[Given<'_>]) -> Result<Option<Options>, NoMemory>
-    ensures options { IfOk result (λ options. options ≡ command.run_options given.now) }
+impl Output {
+    ghost use Rattle.std.specs.Prelude.{◌≡◌, map};
+    ghost use Rattle.et_command.specs.Command as command;
+
+    /// The names of the options.
+    fn option_names(self) -> &'static [&'static [u8]]
+        ensures { map (λ name. name.now) result.now ≡ command.option_names self }
+    {
+        match self {
+            Output::Trace => &[b"flush", b"limit", b"format", b"quantum", b"words"],
+            Output::Prints => &[b"flush", b"limit", b"quantum", b"words"],
+        }
+    }
+
+    /// The version of the format, of which what is printed has one.
+    fn format_version(self, given: &[Given<'_>]) -> Option<u64>
+        ensures { result ≡ command.format_version self given.now }
+    {
+        match self {
+            Output::Trace => number_or(1, 1, 2, value_of(b"format", given)),
+            Output::Prints => Some(1),
+        }
+    }
+
+    /// The command.
+    fn runs<'a>(self, options: Options, paths: &'a [String]) -> Command<'a>
+        requires range { AreOptions options }
+        requires some { 0 < length paths.now }
+        ensures asked { asked_by result ≡ command.runs self options (map string_bytes paths.now) }
+        ensures range { AreInRange result }
+    {
+        match self {
+            Output::Trace => Command::Trace { options, paths },
+            Output::Prints => Command::Run { options, paths },
+        }
+    }
+}
+
+/// The options of a program that runs.
+fn output_options(
+    alloc: Global,
+    output: Output,
+    given: &[Given<'_>],
+) -> Result<Option<Options>, NoMemory>
+    ensures options { IfOk result
+        (λ options. options ≡ command.output_options output given.now) }
     ensures range { IfOk result (λ options. IfSome options AreOptions) }
 {
-    if !are_options(&[b"flush", b"limit", b"quantum", b"words"], given) {
+    if !are_options(output.option_names(), given) {
         return Ok(None);
     }
-    let options = options_of(alloc, Some(1), given)?;
+    let options = options_of(alloc, output.format_version(given), given)?;
     Ok(options)
 }
 
@@ -232,34 +266,21 @@ fn plain_paths<'a>(parts: &Split<'a>) -> Option<&'a [String]>
     }
 }
 
-/// The command `trace`.
-fn trace<'a>(alloc: Global, parts: &Split<'a>) -> Result<Option<Command<'a>>, NoMemory>
+/// The command of a program that runs.
+fn program<'a>(
+    alloc: Global,
+    output: Output,
+    parts: &Split<'a>,
+) -> Result<Option<Command<'a>>, NoMemory>
     ensures asked { IfOk result
-        (λ asked. option_map asked_by asked ≡ command.trace (split_of parts.now)) }
+        (λ asked. option_map asked_by asked ≡ command.program output (split_of parts.now)) }
     ensures range { IfOk result (λ asked. IfSome asked AreInRange) }
 {
     if parts.operands.is_empty() {
         return Ok(None);
     }
-    let paths = parts.operands;
-    match trace_options(alloc, &parts.options)? {
-        Some(options) => Ok(Some(Command::Trace { options, paths })),
-        None => Ok(None),
-    }
-}
-
-/// The command `run`.
-fn run<'a>(alloc: Global, parts: &Split<'a>) -> Result<Option<Command<'a>>, NoMemory>
-    ensures asked { IfOk result
-        (λ asked. option_map asked_by asked ≡ command.run (split_of parts.now)) }
-    ensures range { IfOk result (λ asked. IfSome asked AreInRange) }
-{
-    if parts.operands.is_empty() {
-        return Ok(None);
-    }
-    let paths = parts.operands;
-    match run_options(alloc, &parts.options)? {
-        Some(options) => Ok(Some(Command::Run { options, paths })),
+    match output_options(alloc, output, &parts.options)? {
+        Some(options) => Ok(Some(output.runs(options, parts.operands))),
         None => Ok(None),
     }
 }
@@ -311,8 +332,8 @@ fn asked<'a>(alloc: Global, name: &str, parts: &Split<'a>) -> Result<Option<Comm
     ensures range { IfOk result (λ asked. IfSome asked AreInRange) }
 {
     match name {
-        "trace" => trace(alloc, parts),
-        "run" => run(alloc, parts),
+        "trace" => program(alloc, Output::Trace, parts),
+        "run" => program(alloc, Output::Prints, parts),
         "asm" => Ok(plain_path(parts).map(Command::Assemble)),
         "verify" => Ok(plain_paths(parts).map(Command::Verify)),
         "replay" => Ok(replay(parts)),
