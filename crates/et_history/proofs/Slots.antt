@@ -13,7 +13,6 @@ use Rattle.et_heap.proofs.HeapLists.{at_gone}
 use Rattle.et_program.specs.Entries.{Linked}
 use Rattle.et_state.specs.Enqueuing.{flushed_heap}
 use Rattle.et_state.specs.History.{is_flush_point, left_by, records_at}
-use Rattle.et_state.specs.History as history
 use Rattle.et_state.specs.Outcome.{Outcome, records_of, state_after}
 use Rattle.et_state.specs.Outcome as outcome
 use Rattle.et_state.specs.Roots.{graph, graph_of}

@@ -5,3 +5,4 @@ pub mod Changing
 pub mod Telling
 pub mod Writes
 pub mod Steps
+pub mod EachEvent

@@ -5,15 +5,13 @@ ghost use Rattle.et_event.specs.declared.rows.Row.{Row};
 ghost use Rattle.et_event.specs.Event.{does, event};
 ghost use Rattle.et_event.specs.Moments.{Moment};
 ghost use Rattle.et_event.specs.Sites.{Site};
-ghost use Rattle.et_event.specs.Sound.{IsSoundFor};
-ghost use Rattle.et_state.specs.State.{Kept};
-ghost use Rattle.et_state.specs.Words.{IsUnended};
 ghost use Rattle.et_program.specs.Entries.{Linked, method_at, is_static};
 ghost use Rattle.et_program.specs.Resolution.{resolve_method, select, select_special};
 ghost use Rattle.et_history.specs.soundness.Outcomes.{KeepsSound};
 ghost use Rattle.et_history.specs.soundness.Methods.{IsMethod, IsInstanceMethod};
 ghost use Rattle.et_history.specs.soundness.Places.{IsAtRow};
 ghost use Rattle.et_event.specs.Runnable.{IsRunnable};
+ghost use Rattle.et_history.specs.steps.EachEvent.{OfEachEvent};
 
 // METHODS
 
@@ -44,6 +42,5 @@ pub fn rows_keep_sound()
 /// Each event of a thread that has not ended leads from a sound state to a sound one: an instruction, a step of an unwinding or
 /// of an initializer, an entry, and the end of a thread.
 pub fn events_keep_sound()
-    ensures { (p : Linked) (s : Kept) (t : ℕ) → IsSoundFor p s →
-        s.guest.clock < 2 ^ 40 → IsUnended s.guest t → IsRunnable p → KeepsSound p (event p s t) }
+    ensures { OfEachEvent (λ p s t. s.guest.clock < 2 ^ 40 → KeepsSound p (event p s t)) }
 {}

@@ -14,13 +14,12 @@ use Rattle.et_state.specs.Texts.{Texts}
 use Rattle.et_state.specs.Threads.{FrameState, turn_of, with_top_of}
 use Rattle.et_state.specs.Words.{IsUnended, thread_at, ticked, top, with_top}
 use Rattle.et_state.proofs.Unended.{unended_kept}
-use Rattle.et_event.specs.Runnable.{IsRunnable}
 use Rattle.et_event.specs.Selected.{TextCall}
-use Rattle.et_event.specs.Sound.{IsSoundFor}
 use Rattle.et_event.specs.SoundTexts.{HasSoundTexts}
 use Rattle.et_event.specs.TextRows.{said_in}
 use Rattle.et_event.specs.Told.{event_with_texts, said_by}
 use Rattle.et_history.specs.steps.Changing.{LeadsToSound}
+use Rattle.et_history.specs.steps.EachEvent.{OfEachEvent}
 use Rattle.et_history.specs.texts.Texts.{LeadsToSoundTexts}
 use Rattle.et_history.specs.Settings.{IsSoundRun, unended_threads}
 use Rattle.et_loop.specs.Kept.{IsStepTo}
@@ -36,7 +35,7 @@ use Rattle.et_run.proofs.Stretching.{quiet_marks}
 -- SO MANY OF THEM, from a sound state
 
 abbrev pub TextsStaySound : Type 0
-TextsStaySound = (p : Linked) (s : Kept) (t : ℕ) → IsSoundFor p s → HasSoundTexts p s → IsUnended s.guest t → IsRunnable p → LeadsToSoundTexts p (event_with_texts p s t)
+TextsStaySound = OfEachEvent (λ p s t. HasSoundTexts p s → LeadsToSoundTexts p (event_with_texts p s t))
 
 module _ (p : Linked) (s : Kept) (t : ℕ) (old : List ℕ) (sound_now : IsSoundRun p s) (thread : IsUnended s.guest t) (turn : turn_of (thread_at s.guest t) ≡ Instruction)
     (leads_sound : EventsLeadToSound) (texts_sound : TextsStaySound) where
@@ -110,8 +109,8 @@ module _ (p : Linked) (s : Kept) (t : ℕ) (old : List ℕ) (sound_now : IsSound
           sound = record {
             tabled = sound_now.tabled;
             runnable = sound_now.runnable;
-            state = subst (λ (o : Outcome Kept). LeadsToSound p o) leads_there (leads_sound p (after s t k heap f) t c.sound.state early here_unended sound_now.runnable);
-            texts = subst (λ (o : Outcome Kept). LeadsToSoundTexts p o) leads_there (texts_sound p (after s t k heap f) t c.sound.state c.sound.texts here_unended sound_now.runnable);
+            state = subst (λ (o : Outcome Kept). LeadsToSound p o) leads_there (leads_sound p (after s t k heap f) t c.sound.state here_unended sound_now.runnable early);
+            texts = subst (λ (o : Outcome Kept). LeadsToSoundTexts p o) leads_there (texts_sound p (after s t k heap f) t c.sound.state here_unended sound_now.runnable c.sound.texts);
           };
         }
 

@@ -20,6 +20,7 @@ use Rattle.et_event.specs.Told.{event_with_texts, keeping}
 use Rattle.et_event.proofs.Told.{of-table}
 use Rattle.et_event.proofs.Running.{has_frame_there}
 use Rattle.et_history.specs.steps.Changing.{LeadsToSound}
+use Rattle.et_history.specs.steps.EachEvent.{OfEachEvent}
 use Rattle.et_refs.specs.Steps.{Instructs, IsStepOver}
 use Rattle.et_run.specs.Lifted.{AreStampedSteps, IsStampedStep}
 use Rattle.et_run.proofs.FrameKept.{Stays}
@@ -40,7 +41,7 @@ turn_stays x f turn same =
 
 -- events lead from sound states to sound ones
 abbrev pub EventsLeadToSound : Type 0
-EventsLeadToSound = (p : Linked) (s : Kept) (t : ℕ) → IsSoundFor p s → s.guest.clock < 2 ^ 40 → IsUnended s.guest t → IsRunnable p → LeadsToSound p (event_with_texts p s t)
+EventsLeadToSound = OfEachEvent (λ p s t. s.guest.clock < 2 ^ 40 → LeadsToSound p (event_with_texts p s t))
 
 -- the state after k of them
 abbrev pub after : Kept → ℕ → ℕ → Objects → FrameState → Kept
@@ -100,7 +101,7 @@ module _ (p : Linked) (s : Kept) (t : ℕ) (old : List ℕ) (sound_first : IsSou
   one_further k heap heap' f f' between new early x stamped = record {
     stays = stays_on (top s.guest t) f f' x.stays stamped.step.stays;
     sound = subst (λ (o : Outcome Kept). LeadsToSound p o) (leads_now s t thread turn k heap f x.stays p heap' f' stamped.lost stamped.step)
-        (leads_sound p (after s t k heap f) t x.sound early (unended_now s t thread turn k heap f x.stays) runnable);
+        (leads_sound p (after s t k heap f) t x.sound (unended_now s t thread turn k heap f x.stays) runnable early);
     made = stamped.step.made ∙ x.made;
   }
 

@@ -227,8 +227,8 @@ module _ (p : Linked) (s : Kept) (t : ℕ) (sound_now : IsSoundRun p s) (thread 
     sound = record {
       tabled = sound_now.tabled;
       runnable = sound_now.runnable;
-      state = subst (λ (o : Outcome Kept). LeadsToSound p o) (leads_now k) (leads_sound p (after s k) t c.sound.state early unended sound_now.runnable);
-      texts = subst (λ (o : Outcome Kept). LeadsToSoundTexts p o) (leads_now k) (texts_sound p (after s k) t c.sound.state c.sound.texts unended sound_now.runnable);
+      state = subst (λ (o : Outcome Kept). LeadsToSound p o) (leads_now k) (leads_sound p (after s k) t c.sound.state unended sound_now.runnable early);
+      texts = subst (λ (o : Outcome Kept). LeadsToSoundTexts p o) (leads_now k) (texts_sound p (after s k) t c.sound.state unended sound_now.runnable c.sound.texts);
     };
   }
     where

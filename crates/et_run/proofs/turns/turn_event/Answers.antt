@@ -104,7 +104,7 @@ returns-in-Native-clause-sound g c =
     let s : Kept = state_of c.args.running.now in
     on_ok c.strings_event.result _ _ (text_answers g c) (λ end h.
     leads_after (IsSoundFor p) (event_with_texts p s c.args.thread) end c.args.running.now.machine c.strings_event.new.machine c.args.running.now.texts c.strings_event.new.texts c.args.out.now.records c.strings_event.new.out.records c.requires.sound
-    (c.events_lead_to_sound_states.ensures p s c.args.thread c.requires.sound c.requires.clock (unended_with c.args.running.now.machine.guest c.args.running.now.texts c.args.thread c.requires.thread) c.requires.program) h)
+    (c.events_lead_to_sound_states.ensures p s c.args.thread c.requires.sound (unended_with c.args.running.now.machine.guest c.args.running.now.texts c.args.thread c.requires.thread) c.requires.program c.requires.clock) h)
 
 pub returns-in-Native-clause-sound_texts : goal.returns-in-Native-clause-sound_texts
 returns-in-Native-clause-sound_texts g c =
@@ -112,7 +112,7 @@ returns-in-Native-clause-sound_texts g c =
     let s : Kept = state_of c.args.running.now in
     on_ok c.strings_event.result _ _ (text_answers g c) (λ end h.
     leads_after (HasSoundTexts p) (event_with_texts p s c.args.thread) end c.args.running.now.machine c.strings_event.new.machine c.args.running.now.texts c.strings_event.new.texts c.args.out.now.records c.strings_event.new.out.records c.requires.texts
-    (c.texts_stay_sound.ensures p s c.args.thread c.requires.sound c.requires.texts (unended_with c.args.running.now.machine.guest c.args.running.now.texts c.args.thread c.requires.thread) c.requires.program) h)
+    (c.texts_stay_sound.ensures p s c.args.thread c.requires.sound (unended_with c.args.running.now.machine.guest c.args.running.now.texts c.args.thread c.requires.thread) c.requires.program c.requires.texts) h)
 
 -- what the table answers
 
@@ -151,11 +151,11 @@ returns-in_default-clause-sound g c =
     let p = c.args.program.now in
     let s : Kept = state_of c.args.running.now in
     leads_after (IsSoundFor p) (event_with_texts p s c.args.thread) c.in_ok-end.end c.args.running.now.machine c.event_by_family.new.machine c.args.running.now.texts c.args.running.now.texts c.args.out.now.records c.event_by_family.new.out c.requires.sound
-    (c.events_lead_to_sound_states.ensures p s c.args.thread c.requires.sound c.requires.clock (unended_with c.args.running.now.machine.guest c.args.running.now.texts c.args.thread c.requires.thread) c.requires.program) (table_answers g c)
+    (c.events_lead_to_sound_states.ensures p s c.args.thread c.requires.sound (unended_with c.args.running.now.machine.guest c.args.running.now.texts c.args.thread c.requires.thread) c.requires.program c.requires.clock) (table_answers g c)
 
 pub returns-in_default-clause-sound_texts : goal.returns-in_default-clause-sound_texts
 returns-in_default-clause-sound_texts g c =
     let p = c.args.program.now in
     let s : Kept = state_of c.args.running.now in
     leads_after (HasSoundTexts p) (event_with_texts p s c.args.thread) c.in_ok-end.end c.args.running.now.machine c.event_by_family.new.machine c.args.running.now.texts c.args.running.now.texts c.args.out.now.records c.event_by_family.new.out c.requires.texts
-    (c.texts_stay_sound.ensures p s c.args.thread c.requires.sound c.requires.texts (unended_with c.args.running.now.machine.guest c.args.running.now.texts c.args.thread c.requires.thread) c.requires.program) (table_answers g c)
+    (c.texts_stay_sound.ensures p s c.args.thread c.requires.sound (unended_with c.args.running.now.machine.guest c.args.running.now.texts c.args.thread c.requires.thread) c.requires.program c.requires.texts) (table_answers g c)
