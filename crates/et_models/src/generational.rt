@@ -20,11 +20,7 @@ impl Generational {
         ensures kind { ⟦<Generational as HeapModel>⟧.kind_of result ≡ Kind.Generational }
     {
         Generational {
-            policy: Policy {
-                kind: Kind::Generational,
-                first: 0,
-                second: 0,
-            },
+            policy: Policy::none(Kind::Generational),
             heap: Generations::begin(alloc),
         }
     }
@@ -58,13 +54,9 @@ impl HeapModel for Generational {
     }
 
     fn feed(&mut self, item: &Item) -> Fed {
-        let Ok(()) = self.heap.take(item) else {
-            return Fed::NoMemory;
-        };
-        if self.heap.totals.exhausted.is_some() {
-            Fed::Exhausted
-        } else {
-            Fed::Ok
+        match self.heap.take(item) {
+            Ok(()) => self.heap.totals.answer(),
+            Err(NoMemory) => Fed::NoMemory,
         }
     }
 

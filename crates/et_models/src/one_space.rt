@@ -97,11 +97,7 @@ impl<C: Collected + Drop> OneSpace<C> {
         ensures kind { ⟦<OneSpace<C> as HeapModel>⟧.kind_of result ≡ C.own_kind }
     {
         OneSpace {
-            policy: Policy {
-                kind: C::kind(),
-                first: 0,
-                second: 0,
-            },
+            policy: Policy::none(C::kind()),
             space: Space::begin(alloc),
             collected: PhantomData,
         }
@@ -151,11 +147,7 @@ impl<C: Collected + Drop> HeapModel for OneSpace<C> {
         ensures no_memory { result ≢ Fed.NoMemory }
     {
         self.space.feed(item);
-        if self.space.totals.exhausted.is_some() {
-            Fed::Exhausted
-        } else {
-            Fed::Ok
-        }
+        self.space.totals.answer()
     }
 
     fn report(&self) -> Report {

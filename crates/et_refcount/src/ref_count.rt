@@ -21,11 +21,7 @@ impl RefCount {
         ensures kind { ⟦<RefCount as HeapModel>⟧.kind_of result ≡ Kind.RefCount }
     {
         RefCount {
-            policy: Policy {
-                kind: Kind::RefCount,
-                first: 0,
-                second: 0,
-            },
+            policy: Policy::none(Kind::RefCount),
             counts: Counts::begin(alloc),
         }
     }
@@ -59,13 +55,9 @@ impl HeapModel for RefCount {
     }
 
     fn feed(&mut self, item: &Item) -> Fed {
-        let Ok(()) = self.counts.take(item) else {
-            return Fed::NoMemory;
-        };
-        if self.counts.totals.exhausted.is_some() {
-            Fed::Exhausted
-        } else {
-            Fed::Ok
+        match self.counts.take(item) {
+            Ok(()) => self.counts.totals.answer(),
+            Err(NoMemory) => Fed::NoMemory,
         }
     }
 

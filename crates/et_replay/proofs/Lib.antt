@@ -1,3 +1,4 @@
+pub mod Answering
 pub mod Adding
 pub mod ByKey
 pub mod Comes

@@ -1,5 +1,5 @@
 //! Models of the heap: policies, reports, and what each model keeps to.
-ghost use Rattle.std.specs.Prelude.{◌≡◌, ◌≤◌, ℕ, Bool, List, [], ◌∷◌, OnOk};
+ghost use Rattle.std.specs.Prelude.{◌≡◌, ◌≤◌, if◌then◌else◌, is_some, ℕ, Bool, List, [], ◌∷◌, OnOk};
 ghost use Rattle.et_graph.specs.Graph.{Graph, Decides};
 ghost use Rattle.et_replay.specs.Feeding.{MayCome, HasItemRoom, OnTaken, TellsExhausted};
 ghost use Rattle.et_replay.specs.Tally.{empty_heap, totals_of, tally, is_exhausted};
@@ -33,6 +33,19 @@ pub struct Policy {
     pub second: u64,
 }
 
+impl Policy {
+    /// The policy of a model of this kind that was given none yet.
+    pub fn none(kind: Kind) -> Policy
+        ensures { result ≡ record { kind = kind; first = 0; second = 0 } }
+    {
+        Policy {
+            kind,
+            first: 0,
+            second: 0,
+        }
+    }
+}
+
 /// The running totals of a heap. Each is 0 where the policy doesn't count it.
 #[derive(Clone, Copy, Debug, PartialEq, Eq)]
 pub struct Totals {
@@ -63,6 +76,17 @@ impl Totals {
             freed: 0,
             peak: 0,
             exhausted: None,
+        }
+    }
+
+    /// What a model with these totals answers to an item that it took.
+    pub fn answer(&self) -> Fed
+        ensures { result ≡ (if is_some self.now.exhausted then Fed.Exhausted else Fed.Ok) }
+    {
+        if self.exhausted.is_some() {
+            Fed::Exhausted
+        } else {
+            Fed::Ok
         }
     }
 }
