@@ -6,7 +6,7 @@ use Rattle.std.specs.List.{flat_map}
 use Rattle.std.proofs.lemmas.List.{append-nil, flat_map_more, reverse-append, reverse-reverse}
 use Rattle.std.proofs.lemmas.Grind.{flat_map-append}
 use Rattle.et_base.specs.declared.line.TraceLine.{TraceLine}
-use Rattle.et_base.specs.declared.line.TraceLine.TheVariants.{Header, Class, Method, Alloc, Update, Enter, Exit, Unwind, Flush, Death, Finish}
+use Rattle.et_base.specs.declared.line.TraceLine.TheVariants.{Header}
 use Rattle.et_text.specs.Fields.{numbers_of, width_of, line_bytes}
 use Rattle.et_text.specs.Rules.{has_ended, next_fault, AreFine, IsGood}
 use Rattle.et_text.proofs.Versions.{begins, one_header}
@@ -44,16 +44,7 @@ line_packed line = refl
 
 no_header : (line x : TraceLine) (past : List TraceLine) → next_fault (x ∷ past) line ≡ None → written_record line ≡ packing line
 no_header (Header v interval) x past e = absurd (one_header x past v interval e)
-no_header (Class number name) x past e = refl
-no_header (Method number class name descriptor) x past e = refl
-no_header (Alloc event thread object class size len) x past e = refl
-no_header (Update event thread object slot old new) x past e = refl
-no_header (Enter event thread method receiver) x past e = refl
-no_header (Exit event thread method) x past e = refl
-no_header (Unwind event thread method exception) x past e = refl
-no_header (Flush event deaths) x past e = refl
-no_header (Death object time) x past e = refl
-no_header (Finish event how) x past e = refl
+no_header line x past e = refl
 
 header_written : (v interval : ℕ) → flat_map written_record (Header v interval ∷ []) ≡ pack (Header v interval ∷ [])
 header_written v interval = refl

@@ -38,7 +38,7 @@ fn pack_number(bytes: &mut [u8], start: usize, number: u64, width: Width) -> usi
     }
 }
 
-/// A record, without a line's text.
+/// The record of a line: numbers in so many bytes as they are wide, and names behind their lengths.
 struct Packed;
 
 impl FieldWriter for Packed {
@@ -48,7 +48,7 @@ impl FieldWriter for Packed {
 
     ghost can_name = { IsShort };
 
-    /// They are packed in an array, and are appended at once.
+    /// The letter and the numbers are packed in an array, which is appended at once.
     fn put_numbers(
         buffer: &mut Vec<u8>,
         letter: u8,
