@@ -4,7 +4,7 @@ ghost use Rattle.et_state.specs.declared.stage.Turn.TheVariants as turns;
 ghost use Rattle.et_state.specs.Threads.{turn_of};
 ghost use Rattle.et_state.specs.State.{kept_of};
 ghost use Rattle.et_state.specs.Words.{thread_at, top};
-ghost use Rattle.et_event.specs.Places.{IsPlace, site_at};
+ghost use Rattle.et_event.specs.Places.{IsPlace};
 ghost use Rattle.et_event.specs.declared.families.Family.TheVariants as families;
 ghost use Rattle.et_event.specs.Answered.{EventAnswers};
 ghost use Rattle.et_event.specs.Event.{does};
@@ -100,21 +100,21 @@ pub fn call_event<L: Ledger>(
     requires place { IsPlace program.now (top machine.old.guest thread) place.now }
     requires family { family_of_row (Some place.now.row) ≡ families.Calls }
     ensures ok { IfOk result (λ end. DefersOrAnswers
-        (deferred_at (moment program.now machine.old thread) (site_at place.now) place.now.row)
-        (does (moment program.now machine.old thread) (site_at place.now) place.now.row)
+        (deferred_at (moment program.now machine.old thread) place.now.site place.now.row)
+        (does (moment program.now machine.old thread) place.now.site place.now.row)
         end machine.old machine.new out.old out.new) }
     ensures within { IfOk result (λ end. (method : ℕ) → end ≡ EventEnd.Native method →
         method < length program.now.methods) }
     ensures visits { visits.new ≤ visits.old + 5 }
     ensures deferred { IsSome
-        (deferred_at (moment program.now machine.old thread) (site_at place.now) place.now.row)
+        (deferred_at (moment program.now machine.old thread) place.now.site place.now.row)
         → visits.new ≤ visits.old + 2 }
 {
     match place.row {
         Row::Call(CallRow::Invoke(kind)) => {
             let planned = Planned {
                 plan: invoke_plan(program, machine, thread, place, kind, visits),
-                next: place.next,
+                next: place.site.next(),
             };
             if let Some(method) = deferred_method(program, planned.plan) {
                 return Ok(EventEnd::Native { method });
