@@ -20,7 +20,7 @@ use Rattle.et_event.specs.Families.{family_of, family_of_row, family_of_turn, ro
 use Rattle.et_event.specs.Moments.{Moment, begins, current_frame, moment}
 use Rattle.et_event.specs.Sites.{Site, decoded_at}
 use Rattle.et_event.proofs.FamilyTurns.{family_at}
-use Rattle.et_event.specs.Places.{IsPlace, site_at}
+use Rattle.et_event.specs.Places.{IsPlace}
 use Rattle.et_event.specs.declared.places.Place.{Place}
 use Rattle.et_event.specs.Selected.{deferred_at, deferred_call, selected_method}
 use Rattle.et_builtins.specs.Plans.{method_entered, call_planned}
@@ -36,7 +36,7 @@ abbrev pub IsRow : Moment → Site → Row → Type 0
 IsRow e at r = (family_of_row (Some r) ≡ Sync) ⊎ IsSome (deferred_at e at r)
 
 pub at_row : (p : Linked) (m : MachineState) (t : ℕ) (place : Place) → turn_of (thread_at m.guest t) ≡ Instruction → IsPlace p (top m.guest t) place → family_of p (kept_of m) t ≡ family_of_row (Some place.row)
-    → (family_of p (kept_of m) t ≡ Sync) ⊎ IsSome (deferred_call p (kept_of m) t) → IsRow (moment p m t) (site_at place) place.row
+    → (family_of p (kept_of m) t ≡ Sync) ⊎ IsSome (deferred_call p (kept_of m) t) → IsRow (moment p m t) place.site place.row
 at_row p m t place turn is family h =
     elim h [
       | inl sync ↦ inl (sym family ∙ sync)

@@ -7,7 +7,7 @@ ghost use Rattle.et_event.specs.Answered.{EventAnswers};
 ghost use Rattle.et_event.specs.Beginning.{BeginsEvent};
 ghost use Rattle.et_event.specs.Calls.{invoke};
 ghost use Rattle.et_event.specs.Moments.{moment};
-ghost use Rattle.et_event.specs.Places.{IsPlace, site_at};
+ghost use Rattle.et_event.specs.Places.{IsPlace};
 ghost use Rattle.et_event.specs.Selected.{deferred_at};
 
 use et_base::{NoMemory, Steps, ThreadId};
@@ -33,9 +33,9 @@ pub(crate) fn deferred_event<L: Ledger>(
     requires place { IsPlace program.now (top machine.old.guest thread) place.now }
     requires row { place.now.row ≡ rows.Call (calls.Invoke kind) }
     requires deferred { IsSome (deferred_at (moment program.now machine.old thread)
-        (site_at place.now) (rows.Call (calls.Invoke kind))) }
+        place.now.site (rows.Call (calls.Invoke kind))) }
     ensures event { IfOk result (λ end. EventAnswers (invoke (moment program.now machine.old thread)
-        (site_at place.now) kind) end machine.old machine.new out.old out.new) }
+        place.now.site kind) end machine.old machine.new out.old out.new) }
     ensures visits { visits.new ≤ visits.old + 5 }
 {
     match invoke_plan(program, machine, thread, place, kind, visits) {
@@ -43,7 +43,7 @@ pub(crate) fn deferred_event<L: Ledger>(
             let call = Call {
                 method,
                 count,
-                next: place.next,
+                next: place.site.next(),
             };
             built_in_method_event(program, machine, thread, call, out, visits)
         }

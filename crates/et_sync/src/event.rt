@@ -10,7 +10,7 @@ ghost use Rattle.et_event.specs.Beginning.{BeginsEvent};
 ghost use Rattle.et_event.specs.Event.{does, event};
 ghost use Rattle.et_event.specs.Families.{family_of, family_of_row};
 ghost use Rattle.et_event.specs.Moments.{moment};
-ghost use Rattle.et_event.specs.Places.{IsPlace, site_at};
+ghost use Rattle.et_event.specs.Places.{IsPlace};
 ghost use Rattle.et_event.specs.Selected.{deferred_at, deferred_call};
 
 use crate::deferred::deferred_event;
@@ -37,16 +37,24 @@ fn place_event<L: Ledger>(
     requires place { IsPlace program.now (top machine.old.guest thread) place.now }
     requires turn { (family_of_row (Some place.now.row) ≡ families.Sync)
         ⊎ IsSome (deferred_at (moment program.now machine.old thread)
-        (site_at place.now) place.now.row) }
+        place.now.site place.now.row) }
     ensures event { IfOk result (λ end. EventAnswers (does (moment program.now machine.old thread)
-        (site_at place.now) place.now.row) end machine.old machine.new out.old out.new) }
+        place.now.site place.now.row) end machine.old machine.new out.old out.new) }
     ensures visits { visits.new ≤ visits.old + 5 }
     ensures err { family_of_row (Some place.now.row) ≡ families.Sync →
         OnErr result (machine.new.guest ≡ machine.old.guest) }
 {
     match place.row {
         Row::Monitor(row) => {
-            monitor_row_event(program, machine, thread, row, place.next, out, visits)
+            monitor_row_event(
+                program,
+                machine,
+                thread,
+                row,
+                place.site.next(),
+                out,
+                visits,
+            )
         }
         Row::Call(CallRow::Invoke(kind)) => {
             deferred_event(program, machine, thread, place, kind, out, visits)
