@@ -2,8 +2,7 @@
 ghost use Rattle.std.specs.Prelude.{◌≡◌, ◌+◌, ◌≤◌, ◌⊎◌, Some, IfOk, IsSome, OnErr};
 ghost use Rattle.et_state.specs.declared.stage.Turn.TheVariants as turns;
 ghost use Rattle.et_state.specs.State.{kept_of};
-ghost use Rattle.et_state.specs.Threads.{turn_of};
-ghost use Rattle.et_state.specs.Words.{HasFrame, thread_at, top};
+ghost use Rattle.et_state.specs.Words.{HasFrame, top};
 ghost use Rattle.et_event.specs.declared.families.Family.TheVariants as families;
 ghost use Rattle.et_event.specs.Answered.{EventAnswers};
 ghost use Rattle.et_event.specs.Beginning.{BeginsEvent};

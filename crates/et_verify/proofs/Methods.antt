@@ -1,11 +1,8 @@
 -- Where the code of a method leads, by what is found and tested at a place.
-use Rattle.std.proofs.Common.{◌≡◌, ℕ, ℤ, ◌+◌, ◌^◌, ◌<◌, ◌&&◌, Bool, true, false, cond, ltb, length, drop, List, [], ◌∷◌, ◌++◌, Option, Some, None, refl, sym, ◌∙◌, ap, subst, Contains}
+use Rattle.std.proofs.Common.{◌≡◌, ℕ, ℤ, ◌&&◌, Bool, true, false, List, [], ◌∷◌, ◌++◌, Option, Some, None, refl, sym, ◌∙◌, ap, subst, Contains}
 use Rattle.std.proofs.lemmas.Bool.{false≢true}
 use Rattle.std.specs.Prelude.{if◌then◌else◌, filter, map, Ok, IfSome}
 use Rattle.std.proofs.lemmas.List.{append-nil}
-use Rattle.std.specs.Int.{Width, w8, w16, byte_len, from_be_bytes}
-use Rattle.et_base.specs.Numbers.{AreBytes, number_at}
-use Rattle.et_base.proofs.Spelling.{IsWide, wide8, wide16, AreBytes-drop}
 use Rattle.et_code.specs.declared.body.TableRow.{TableRow}
 use Rattle.std.specs.List.{list_all}
 use Rattle.et_class.specs.Entries.{Item}
@@ -15,13 +12,10 @@ use Rattle.et_code.specs.Decoding.{instruction_at}
 use Rattle.et_code.specs.Rules.{flag, offsets}
 use Rattle.et_code.specs.Starts.{is_start}
 use Rattle.et_program.specs.Entries.{Linked, method_at}
-use Rattle.et_event.specs.Sites.{Site, pool_of_class, target, natural_of}
-use Rattle.et_event.proofs.Constants.{index_small}
+use Rattle.et_event.specs.Sites.{Site, pool_of_class, target}
 use Rattle.et_event.specs.Table.{row_of}
 use Rattle.et_event.specs.declared.rows.Row.{Row}
 use Rattle.et_event.specs.Sound.{returned_of}
-use Rattle.et_event.specs.Places.{site_at, is_frame}
-use Rattle.et_event.specs.declared.places.Place.{Place}
 use Rattle.et_flow.specs.declared.search.Lead.{Lead}
 use Rattle.et_flow.specs.Flows.{some_place}
 use Rattle.et_flow.specs.Types.{TypesOf}
@@ -30,7 +24,7 @@ use Rattle.et_flow.specs.Types.{caught}
 use Rattle.et_verify.specs.Leads.{site_in, covers, may_catch, goes_past, next_places, handlers_at}
 use Rattle.et_verify.specs.Typings.{are_starts, has_room, led, leads_by_row, leads_by, leads_in}
 use Rattle.et_verify.specs.declared.decoded.Decoded.{Decoded}
-use Rattle.et_verify.specs.Methods.{IsPlaceIn, MethodOf, StandsAt, types_after_it, IsAnswered, IsStepped}
+use Rattle.et_verify.specs.Methods.{MethodOf, StandsAt, types_after_it, IsAnswered, IsStepped}
 
 pub not_start : (p : Linked) (m : ℕ) (body : Body) (pc : ℕ) (ts : TypesOf) → is_start body.code pc ≡ false → leads_in p m body pc ts ≡ None
 not_start p m body pc ts e = ap (λ (b : Bool). if b then leads_by p m body pc ts (instruction_at body.code pc) else None) e
@@ -42,18 +36,7 @@ no_place p m body pc ts e = by (is_start body.code pc)
     by true = e
     by false = refl
 
--- A PLACE
-
-number_small : (w : Width) → IsWide w → (code : List ℕ) (at : ℕ) → AreBytes code → IfSome (number_at w code at) (λ x. x.0 < 256 ^ byte_len w)
-number_small w wide code at bytes = by (ltb (length code) (at + byte_len w))
-  where
-    by : (b : Bool) → IfSome (cond {A = Option (ℕ × ℕ)} b None (Some (from_be_bytes w (drop at code), at + byte_len w))) (λ x. x.0 < 256 ^ byte_len w)
-    by true = tt
-    by false = wide.fits (drop at code) (AreBytes-drop at code bytes)
-
--- an index into the pool has 16 bits
-pub small_index : (code : List ℕ) (pc : ℕ) (x : Instr × ℕ) → AreBytes code → instruction_at code pc ≡ Ok x → (r : Row) → row_of x.0.opcode ≡ Some r → is_frame r ≡ false → natural_of x.0.first < 2 ^ 16
-small_index code pc x bytes = index_small code pc x (number_small w8 wide8 code (pc + 1) bytes) (number_small w16 wide16 code (pc + 1) bytes)
+-- A SITE
 
 pub site_here : (p : Linked) (m : ℕ) (body : Body) (x : Instr × ℕ) (code : List ℕ) (pool : List (Option Item)) (class : ℕ) → code ≡ body.code → pool ≡ pool_of_class p (method_at p m).class → class ≡ (method_at p m).class
     → record { instr = x.0; next = x.1; code = code; pool = pool; class = class } ≡ site_in p m body x
@@ -61,9 +44,6 @@ site_here p m body x code pool class same_code same_pool same_class =
     ap (λ (bytes : List ℕ). let at : Site = record { instr = x.0; next = x.1; code = bytes; pool = pool; class = class } in at) same_code
     ∙ (ap (λ (items : List (Option Item)). let at : Site = record { instr = x.0; next = x.1; code = body.code; pool = items; class = class } in at) same_pool
     ∙ ap (λ (k : ℕ). let at : Site = record { instr = x.0; next = x.1; code = body.code; pool = pool_of_class p (method_at p m).class; class = k } in at) same_class)
-
-pub pool_here : (p : Linked) (m : ℕ) (body : Body) (pc : ℕ) (place : Place) → IsPlaceIn p m body pc place → (site_at place).pool ≡ pool_of_class p (method_at p m).class
-pool_here p m body pc place h = ap (λ (at : Site). at.pool) h.site
 
 -- WHERE AN INSTRUCTION stands that has a row
 module _ (p : Linked) (m : ℕ) (body : Body) (pc : ℕ) (ts : TypesOf) (decoded : Instr × ℕ) (row : Row) (at : instruction_at body.code pc ≡ Ok decoded) (does : row_of decoded.0.opcode ≡ Some row) where

@@ -9,11 +9,9 @@ use Rattle.et_program.specs.Entries.{Linked, method_at}
 use Rattle.et_program.specs.declared.info.MethodInfo.{MethodInfo}
 use Rattle.et_pool.specs.declared.operand.Returned.{Returned}
 use Rattle.et_pool.specs.Operands.{return_of}
-use Rattle.et_event.specs.Sites.{natural_of, pool_of_class}
+use Rattle.et_event.specs.Sites.{pool_of_class}
 use Rattle.et_event.specs.Sound.{returned_of}
 use Rattle.et_event.specs.Table.{row_of}
-use Rattle.et_event.specs.Places.{site_at, is_frame}
-use Rattle.et_event.specs.declared.places.Place.{Place}
 use Rattle.et_flow.specs.declared.search.Lead.{Lead}
 use Rattle.et_flow.specs.Flows.{some_place}
 use Rattle.et_flow.specs.Types.{TypesOf}
@@ -28,16 +26,6 @@ pub record StandsAt (code : List ℕ) (pc : ℕ) (x : Decoded) : Type 0 where
   pub decoded : instruction_at code pc ≡ Ok (x.instr, x.next)
   pub row : row_of x.instr.opcode ≡ Some x.row
   pub fits : Fits code pc x.instr x.next
-
--- an instruction that has a row stands at pc of the code of a method, and this is its place
-pub record IsPlaceIn (p : Linked) (m : ℕ) (body : Body) (pc : ℕ) (place : Place) : Type 0 where
-  pub decoded : instruction_at body.code pc ≡ Ok (place.instr, place.next)
-  pub row : row_of place.instr.opcode ≡ Some place.row
-  pub site : site_at place ≡ site_in p m body (place.instr, place.next)
-  pub class : place.class ≡ (method_at p m).class
-  pub code : place.code.now ≡ body.code
-  pub fits : Fits body.code pc place.instr place.next
-  pub index : is_frame place.row ≡ false → natural_of place.instr.first < 2 ^ 16
 
 -- a method of a program, and its code
 pub record MethodOf : Type 0 where

@@ -2,7 +2,6 @@
 ghost use Rattle.std.specs.Prelude.{◌≡◌, ◌<◌, ◌^◌, [], ◌∷◌, true, false, Some, None, IfOk};
 ghost use Rattle.et_event.specs.Calls.{is_static_call as calls_static};
 ghost use Rattle.et_event.specs.Sites.{natural_of, pool_of_class};
-ghost use Rattle.et_event.specs.Places.{site_at};
 ghost use Rattle.et_verify.specs.Calling.{arguments_taken, call_taken, called};
 ghost use Rattle.et_verify.specs.Effects.{call_effect};
 ghost use Rattle.et_verify.specs.Steps.{moved_where};
@@ -10,7 +9,7 @@ ghost use Rattle.et_verify.specs.Steps.{moved_where};
 use crate::effects::kind_given;
 use crate::operands::{give_some, take};
 use et_base::NoMemory;
-use et_event::{CallKind, Operand, Place, index_of};
+use et_event::{CallKind, Operand, Site, index_of};
 use et_flow::Types;
 use et_pool::CallShape;
 use et_program::Program;
@@ -90,19 +89,19 @@ fn step_shape(types: &mut Types, shape: &CallShape, is_static: bool) -> Result<b
 pub(crate) fn step_call(
     types: &mut Types,
     program: &Program,
-    place: &Place<'_>,
+    site: &Site<'_>,
     kind: CallKind,
 ) -> Result<bool, NoMemory>
-    requires index { natural_of place.now.instr.first < 2 ^ 16 }
-    requires pool { (site_at place.now).pool ≡ pool_of_class program.now place.now.class }
+    requires index { natural_of site.now.instr.first < 2 ^ 16 }
+    requires pool { site.now.pool ≡ pool_of_class program.now site.now.class }
     ensures done { IfOk result (λ b. b ≡ true → moved_where
-        (call_effect (site_at place.now) (calls_static kind)) types.old.operands
+        (call_effect site.now (calls_static kind)) types.old.operands
         ≡ Some types.new.operands) }
     ensures refused { IfOk result (λ b. b ≡ false → moved_where
-        (call_effect (site_at place.now) (calls_static kind)) types.old.operands ≡ None) }
+        (call_effect site.now (calls_static kind)) types.old.operands ≡ None) }
     ensures locals { IfOk result (λ b. types.new.locals ≡ types.old.locals) }
 {
-    let Some(shape) = program.call_shape(place.class, index_of(place)) else {
+    let Some(shape) = program.call_shape(site.class(), index_of(site)) else {
         return Ok(false);
     };
     let done = step_shape(types, shape, is_static_call(kind))?;

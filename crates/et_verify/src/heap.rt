@@ -3,7 +3,6 @@ ghost use Rattle.std.specs.Prelude.{◌≡◌, ◌<◌, ◌^◌, List, ◌∷◌
 ghost use Rattle.et_event.specs.PoolOperands.Operand.TheVariants as kinds;
 ghost use Rattle.et_event.specs.Sites.{natural_of, constant_at, pool_index};
 ghost use Rattle.et_event.specs.declared.rows.HeapRow.TheVariants as heap;
-ghost use Rattle.et_event.specs.Places.{site_at};
 ghost use Rattle.et_verify.specs.Effects.{constant_effect, field_read, field_type as type_of_field, field_written, heap_effect, kind_of_constant, naming_class as where_class, NamesWithin};
 ghost use Rattle.et_verify.specs.Named.{descriptor_in as descriptor_of};
 ghost use Rattle.et_verify.specs.Steps.{below_taken, moved_by, moved_where};
@@ -14,7 +13,7 @@ use crate::effects::{
 };
 use crate::operands::{exchange, give, take};
 use et_base::NoMemory;
-use et_event::{HeapRow, Operand, Place, class_operand, index_of};
+use et_event::{HeapRow, Operand, Site, class_operand, index_of};
 use et_flow::Types;
 use et_pool::{Pool, kind_of};
 use et_program::Program;
@@ -31,27 +30,27 @@ fn descriptor_in(pool: &Pool, index: u16) -> Option<&[u8]>
 
 /// The descriptor of the member that an instruction names, whatever its owner and its name.
 #[inline]
-fn descriptor_at<'a>(place: &Place<'a>) -> Option<&'a [u8]>
-    requires { natural_of place.now.instr.first < 2 ^ 16 }
+fn descriptor_at<'a>(site: &Site<'a>) -> Option<&'a [u8]>
+    requires { natural_of site.now.instr.first < 2 ^ 16 }
     ensures { option_map (λ s. s.now) result
-        ≡ descriptor_of (site_at place.now).pool (pool_index (site_at place.now)) }
+        ≡ descriptor_of site.now.pool (pool_index site.now) }
 {
-    match place.pool {
-        Some(pool) => descriptor_in(pool, index_of(place)),
+    match site.pool() {
+        Some(pool) => descriptor_in(pool, index_of(site)),
         None => None,
     }
 }
 
 /// The type of the field that an instruction names; `None` where it names none. Whether its text is one was found out as the
 /// program was linked.
-fn field_type<'a>(program: &Program, place: &Place<'a>) -> Option<&'a [u8]>
-    requires { NamesWithin program.now (site_at place.now) }
-    ensures { option_map (λ s. s.now) result ≡ type_of_field (site_at place.now) }
+fn field_type<'a>(program: &Program, site: &Site<'a>) -> Option<&'a [u8]>
+    requires { NamesWithin program.now site.now }
+    ensures { option_map (λ s. s.now) result ≡ type_of_field site.now }
 {
-    if !program.is_field_at_index(place.class, index_of(place)) {
+    if !program.is_field_at_index(site.class(), index_of(site)) {
         return None;
     }
-    descriptor_at(place)
+    descriptor_at(site)
 }
 
 /// Takes operands of kinds, the topmost first, and gives what a field holds. `false` where no field is named, or the operands
@@ -60,18 +59,18 @@ fn field_type<'a>(program: &Program, place: &Place<'a>) -> Option<&'a [u8]>
 fn read_field(
     types: &mut Types,
     program: &Program,
-    place: &Place<'_>,
+    site: &Site<'_>,
     taken: &[Operand],
 ) -> Result<bool, NoMemory>
-    requires { NamesWithin program.now (site_at place.now) }
+    requires { NamesWithin program.now site.now }
     ensures done { IfOk result (λ b. b ≡ true → moved_where
-        (field_read (site_at place.now) taken.now) types.old.operands
+        (field_read site.now taken.now) types.old.operands
         ≡ Some types.new.operands) }
     ensures refused { IfOk result (λ b. b ≡ false → moved_where
-        (field_read (site_at place.now) taken.now) types.old.operands ≡ None) }
+        (field_read site.now taken.now) types.old.operands ≡ None) }
     ensures locals { IfOk result (λ b. types.new.locals ≡ types.old.locals) }
 {
-    let Some(descriptor) = field_type(program, place) else {
+    let Some(descriptor) = field_type(program, site) else {
         return Ok(false);
     };
     let done = exchange(types, taken, Some(kind_of_result(descriptor)))?;
@@ -83,18 +82,18 @@ fn read_field(
 fn write_field(
     types: &mut Types,
     program: &Program,
-    place: &Place<'_>,
+    site: &Site<'_>,
     is_static: bool,
 ) -> Result<bool, NoMemory>
-    requires { NamesWithin program.now (site_at place.now) }
+    requires { NamesWithin program.now site.now }
     ensures done { IfOk result (λ b. b ≡ true → moved_where
-        (field_written (site_at place.now) is_static) types.old.operands
+        (field_written site.now is_static) types.old.operands
         ≡ Some types.new.operands) }
     ensures refused { IfOk result (λ b. b ≡ false → moved_where
-        (field_written (site_at place.now) is_static) types.old.operands ≡ None) }
+        (field_written site.now is_static) types.old.operands ≡ None) }
     ensures locals { IfOk result (λ b. types.new.locals ≡ types.old.locals) }
 {
-    let Some(descriptor) = field_type(program, place) else {
+    let Some(descriptor) = field_type(program, site) else {
         return Ok(false);
     };
     let Some(kind) = kind_of(descriptor) else {
@@ -113,19 +112,19 @@ fn write_field(
 /// aren't there.
 fn step_class(
     types: &mut Types,
-    place: &Place<'_>,
+    site: &Site<'_>,
     taken: &[Operand],
     given: Operand,
 ) -> Result<bool, NoMemory>
-    requires { natural_of place.now.instr.first < 2 ^ 16 }
-    ensures done { IfOk result (λ b. b ≡ true → moved_where (where_class (site_at place.now)
+    requires { natural_of site.now.instr.first < 2 ^ 16 }
+    ensures done { IfOk result (λ b. b ≡ true → moved_where (where_class site.now
         (record { taken = taken.now; given = Some given })) types.old.operands
         ≡ Some types.new.operands) }
-    ensures refused { IfOk result (λ b. b ≡ false → moved_where (where_class (site_at place.now)
+    ensures refused { IfOk result (λ b. b ≡ false → moved_where (where_class site.now
         (record { taken = taken.now; given = Some given })) types.old.operands ≡ None) }
     ensures locals { IfOk result (λ b. types.new.locals ≡ types.old.locals) }
 {
-    if class_operand(place).is_none() {
+    if class_operand(site).is_none() {
         return Ok(false);
     }
     let done = exchange(types, taken, Some(given))?;
@@ -149,19 +148,19 @@ fn take_ints(types: &mut Types, count: usize) -> bool
 }
 
 /// `multianewarray`: the lengths, and the array. `false` where the instruction names no class, or the lengths aren't there.
-fn step_multi(types: &mut Types, place: &Place<'_>) -> Result<bool, NoMemory>
-    requires { natural_of place.now.instr.first < 2 ^ 16 }
+fn step_multi(types: &mut Types, site: &Site<'_>) -> Result<bool, NoMemory>
+    requires { natural_of site.now.instr.first < 2 ^ 16 }
     ensures done { IfOk result (λ b. b ≡ true → moved_where
-        (heap_effect (site_at place.now) heap.NewMultiArray) types.old.operands
+        (heap_effect site.now heap.NewMultiArray) types.old.operands
         ≡ Some types.new.operands) }
     ensures refused { IfOk result (λ b. b ≡ false → moved_where
-        (heap_effect (site_at place.now) heap.NewMultiArray) types.old.operands ≡ None) }
+        (heap_effect site.now heap.NewMultiArray) types.old.operands ≡ None) }
     ensures locals { IfOk result (λ b. types.new.locals ≡ types.old.locals) }
 {
-    if class_operand(place).is_none() {
+    if class_operand(site).is_none() {
         return Ok(false);
     }
-    let dimensions = usize::try_from(place.instr.second).unwrap_or(0);
+    let dimensions = usize::try_from(site.instr().second).unwrap_or(0);
     if !take_ints(types, dimensions) {
         return Ok(false);
     }
@@ -174,34 +173,34 @@ fn step_multi(types: &mut Types, place: &Place<'_>) -> Result<bool, NoMemory>
 pub(crate) fn step_heap(
     types: &mut Types,
     program: &Program,
-    place: &Place<'_>,
+    site: &Site<'_>,
     row: HeapRow,
 ) -> Result<bool, NoMemory>
-    requires { NamesWithin program.now (site_at place.now) }
+    requires { NamesWithin program.now site.now }
     ensures done { IfOk result (λ b. b ≡ true → moved_where
-        (heap_effect (site_at place.now) row) types.old.operands ≡ Some types.new.operands) }
+        (heap_effect site.now row) types.old.operands ≡ Some types.new.operands) }
     ensures refused { IfOk result (λ b. b ≡ false → moved_where
-        (heap_effect (site_at place.now) row) types.old.operands ≡ None) }
+        (heap_effect site.now row) types.old.operands ≡ None) }
     ensures locals { IfOk result (λ b. types.new.locals ≡ types.old.locals) }
 {
     let done = match row {
-        HeapRow::GetStatic => read_field(types, program, place, &NONE)?,
-        HeapRow::PutStatic => write_field(types, program, place, true)?,
-        HeapRow::GetField => read_field(types, program, place, &REFERENCE)?,
-        HeapRow::PutField => write_field(types, program, place, false)?,
+        HeapRow::GetStatic => read_field(types, program, site, &NONE)?,
+        HeapRow::PutStatic => write_field(types, program, site, true)?,
+        HeapRow::GetField => read_field(types, program, site, &REFERENCE)?,
+        HeapRow::PutField => write_field(types, program, site, false)?,
         HeapRow::LoadElement(elements) => {
             exchange(types, &INT_ON_REFERENCE, Some(kind_of_elements(elements)))?
         }
         HeapRow::StoreElement(elements) => {
             exchange(types, into_array(kind_of_elements(elements)), None)?
         }
-        HeapRow::New => step_class(types, place, &NONE, Operand::Reference)?,
+        HeapRow::New => step_class(types, site, &NONE, Operand::Reference)?,
         HeapRow::NewArray => exchange(types, &INT, Some(Operand::Reference))?,
-        HeapRow::NewReferenceArray => step_class(types, place, &INT, Operand::Reference)?,
-        HeapRow::NewMultiArray => step_multi(types, place)?,
+        HeapRow::NewReferenceArray => step_class(types, site, &INT, Operand::Reference)?,
+        HeapRow::NewMultiArray => step_multi(types, site)?,
         HeapRow::ArrayLength => exchange(types, &REFERENCE, Some(Operand::Int))?,
-        HeapRow::CheckCast => step_class(types, place, &REFERENCE, Operand::Reference)?,
-        HeapRow::InstanceOf => step_class(types, place, &REFERENCE, Operand::Int)?,
+        HeapRow::CheckCast => step_class(types, site, &REFERENCE, Operand::Reference)?,
+        HeapRow::InstanceOf => step_class(types, site, &REFERENCE, Operand::Int)?,
     };
     Ok(done)
 }
@@ -222,27 +221,27 @@ fn constant_kind(pool: &Pool, index: u16) -> Option<Operand>
 }
 
 /// The kind of the constant that an instruction loads; `None` where it names none.
-fn loaded_kind(place: &Place<'_>) -> Option<Operand>
-    requires { natural_of place.now.instr.first < 2 ^ 16 }
+fn loaded_kind(site: &Site<'_>) -> Option<Operand>
+    requires { natural_of site.now.instr.first < 2 ^ 16 }
     ensures { result ≡ option_map kind_of_constant
-        (constant_at (site_at place.now).pool (natural_of place.now.instr.first)) }
+        (constant_at site.now.pool (natural_of site.now.instr.first)) }
 {
-    match place.pool {
-        Some(pool) => constant_kind(pool, index_of(place)),
+    match site.pool() {
+        Some(pool) => constant_kind(pool, index_of(site)),
         None => None,
     }
 }
 
 /// A constant of the pool is loaded. `false` where the instruction names none.
-pub(crate) fn step_constant(types: &mut Types, place: &Place<'_>) -> Result<bool, NoMemory>
-    requires { natural_of place.now.instr.first < 2 ^ 16 }
-    ensures done { IfOk result (λ b. b ≡ true → moved_where (constant_effect (site_at place.now))
+pub(crate) fn step_constant(types: &mut Types, site: &Site<'_>) -> Result<bool, NoMemory>
+    requires { natural_of site.now.instr.first < 2 ^ 16 }
+    ensures done { IfOk result (λ b. b ≡ true → moved_where (constant_effect site.now)
         types.old.operands ≡ Some types.new.operands) }
     ensures refused { IfOk result (λ b. b ≡ false →
-        moved_where (constant_effect (site_at place.now)) types.old.operands ≡ None) }
+        moved_where (constant_effect site.now) types.old.operands ≡ None) }
     ensures locals { IfOk result (λ b. types.new.locals ≡ types.old.locals) }
 {
-    let Some(kind) = loaded_kind(place) else {
+    let Some(kind) = loaded_kind(site) else {
         return Ok(false);
     };
     give(types, kind)?;

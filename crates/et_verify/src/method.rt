@@ -1,7 +1,7 @@
 //! The code of a method, as the search for its typing goes over it.
-ghost use Rattle.std.specs.Prelude.{◌≡◌, ℕ, ◌+◌, ◌<◌, ◌≤◌, ◌^◌, ◌++◌, [], true, false, length, map, None, Some, IfSome, IfNone, IfOk, OnOk, IsSome, ◌||◌};
+ghost use Rattle.std.specs.Prelude.{◌≡◌, ℕ, ◌+◌, ◌<◌, ◌≤◌, ◌^◌, ◌++◌, [], true, false, length, map, None, Some, IfNone, IfOk, OnOk, IsSome, ◌||◌};
 ghost use Rattle.std.specs.List.{flat_map};
-ghost use Rattle.et_code.specs.Bodies.{Body, body_of};
+ghost use Rattle.et_code.specs.Bodies.{body_of};
 ghost use Rattle.et_program.specs.Entries.{Linked, is_static as static_at, method_at};
 ghost use Rattle.et_event.specs.Programs.{is_initializing};
 ghost use Rattle.et_pool.specs.Operands.{shape_in};
@@ -20,7 +20,7 @@ use crate::targets::mark_method;
 use et_base::{ClassId, MethodId, NoMemory};
 use et_class::flags::{STATIC, has};
 use et_code::{RawCode, TableRow};
-use et_event::{CallRow, Operand, Place, Row};
+use et_event::{CallRow, Operand, Place, Row, Site};
 use et_flow::{EntryType, Flow, Lead, Search, Types, find_typing};
 use et_pool::{CallShape, Pool, Returned};
 use et_program::{MethodInfo, Program};
@@ -95,14 +95,8 @@ impl<'a> MethodFlow<'a> {
         let code = self.code.code.as_slice();
         let class = self.info.class;
         let pool = self.program.pool(class);
-        let place = Place {
-            row: at.row,
-            instr: at.instr,
-            next: at.next,
-            code,
-            pool,
-            class,
-        };
+        let site = Site::new(at.instr, at.next, code, pool, class);
+        let place = Place { row: at.row, site };
         let room = self.code.max_stack as usize;
         let done = step(types, self.program, &place, self.returned, room)?;
         Ok(done)

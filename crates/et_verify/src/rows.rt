@@ -3,7 +3,6 @@ ghost use Rattle.std.specs.Prelude.{◌≡◌, ℕ, List, length, ◌<◌, ◌^�
 ghost use Rattle.et_event.specs.Sites.{Site};
 ghost use Rattle.et_event.specs.declared.rows.CallRow.TheVariants as calls;
 ghost use Rattle.et_event.specs.declared.rows.Row.TheVariants as rows;
-ghost use Rattle.et_event.specs.Places.{site_at};
 ghost use Rattle.et_pool.specs.Operands.{return_of};
 ghost use Rattle.et_verify.specs.Calling.{returned_taken};
 ghost use Rattle.et_verify.specs.Effects.{MayName};
@@ -107,23 +106,23 @@ fn step_row(
     place: &Place<'_>,
     returned: Returned,
 ) -> Result<bool, NoMemory>
-    requires { MayName program.now place.now.row (site_at place.now) }
+    requires { MayName program.now place.now.row place.now.site }
     ensures done { IfOk result (λ b. (bytes : List ℕ) → return_of bytes ≡ returned → b ≡ true →
-        (operands_after bytes (site_at place.now) place.now.row types.old.operands
+        (operands_after bytes place.now.site place.now.row types.old.operands
         ≡ Some types.new.operands)
-        × (locals_after (site_at place.now) place.now.row types.old.locals
+        × (locals_after place.now.site place.now.row types.old.locals
         ≡ Some types.new.locals)) }
     ensures refused { IfOk result (λ b. (bytes : List ℕ) → return_of bytes ≡ returned →
         b ≡ false →
-        (operands_after bytes (site_at place.now) place.now.row types.old.operands ≡ None)
-        ⊎ (locals_after (site_at place.now) place.now.row types.old.locals ≡ None)) }
+        (operands_after bytes place.now.site place.now.row types.old.operands ≡ None)
+        ⊎ (locals_after place.now.site place.now.row types.old.locals ≡ None)) }
 {
     let done = match place.row {
-        Row::Frame(row) => step_frame(types, row, &place.instr)?,
-        Row::PoolConstant => step_constant(types, place)?,
+        Row::Frame(row) => step_frame(types, row, place.site.instr())?,
+        Row::PoolConstant => step_constant(types, &place.site)?,
         Row::Divide(number, _) => combine(types, number)?,
-        Row::Heap(row) => step_heap(types, program, place, row)?,
-        Row::Call(CallRow::Invoke(kind)) => step_call(types, program, place, kind)?,
+        Row::Heap(row) => step_heap(types, program, &place.site, row)?,
+        Row::Call(CallRow::Invoke(kind)) => step_call(types, program, &place.site, kind)?,
         Row::Call(CallRow::Return(kind)) => step_return(types, kind, returned),
         Row::Throw | Row::Monitor(_) => exchange(types, &REFERENCE, None)?,
     };
@@ -141,12 +140,12 @@ pub(crate) fn step(
     returned: Returned,
     room: usize,
 ) -> Result<bool, NoMemory>
-    requires { MayName program.now place.now.row (site_at place.now) }
+    requires { MayName program.now place.now.row place.now.site }
     ensures done { IfOk result (λ b. (bytes : List ℕ) → return_of bytes ≡ returned → b ≡ true →
-        types_after room bytes (site_at place.now) place.now.row types.old ≡ Some types.new) }
+        types_after room bytes place.now.site place.now.row types.old ≡ Some types.new) }
     ensures refused { IfOk result (λ b. (bytes : List ℕ) → return_of bytes ≡ returned →
         b ≡ false →
-        types_after room bytes (site_at place.now) place.now.row types.old ≡ None) }
+        types_after room bytes place.now.site place.now.row types.old ≡ None) }
 {
     if !step_row(types, program, place, returned)? {
         return Ok(false);

@@ -1,6 +1,6 @@
-use Rattle.std.proofs.Common.{◌≡◌, Some, refl, sym, ap, subst}
+use Rattle.std.proofs.Common.{◌≡◌, Some, sym, ap, subst}
 use Rattle.et_event.specs.declared.rows.Row.{Row}
-use Rattle.et_event.specs.Places.{site_at, is_frame}
+use Rattle.et_event.specs.Places.{is_frame}
 use Rattle.et_verify.specs.Steps.{operands_after, locals_after}
 use Rattle.et_verify.proofs.rows.step_row.Goals as goal
 
@@ -9,5 +9,5 @@ step_heap-requires c = record { index = c.requires.index (ap is_frame c.in-Heap.
 
 pub returns-in_ok-done-in-Frame-clause-done : goal.returns-in_ok-done-in-Frame-clause-done
 returns-in_ok-done-in-Frame-clause-done c = λ bytes r e.
-    subst (λ (row : Row). (operands_after bytes (site_at c.args.place.now) row c.args.types.now.operands ≡ Some c.step_frame.new.types.operands) × (locals_after (site_at c.args.place.now) row c.args.types.now.locals ≡ Some c.step_frame.new.types.locals))
-    (sym c.in-Frame.is) (c.in_ok-done-in-Frame.ensures.done (site_at c.args.place.now) bytes refl e)
+    subst (λ (row : Row). (operands_after bytes c.args.place.now.site row c.args.types.now.operands ≡ Some c.step_frame.new.types.operands) × (locals_after c.args.place.now.site row c.args.types.now.locals ≡ Some c.step_frame.new.types.locals))
+    (sym c.in-Frame.is) (c.in_ok-done-in-Frame.ensures.done c.args.place.now.site bytes (sym c.instr.ensures) e)
