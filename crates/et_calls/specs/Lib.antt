@@ -3,6 +3,6 @@ pub mod Returned
 pub mod Stages
 pub mod Ways
 pub mod Fresh
-pub mod Runs
+pub mod EntryPlans
 pub mod Sizes
 pub mod Asked

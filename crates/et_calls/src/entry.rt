@@ -4,6 +4,7 @@
 mod events;
 mod first;
 mod mains;
+mod plans;
 mod runs;
 mod throws;
 

@@ -10,9 +10,12 @@ ghost use Rattle.et_event.specs.Sound.{IsSoundFor};
 ghost use Rattle.et_event.specs.Programs.{HasBuiltInMethods};
 ghost use Rattle.et_event.specs.InitializationOrder.{IsInOrder};
 
-use crate::entry::mains::main_event;
-use crate::entry::runs::run_event;
-use et_base::{NoMemory, Steps, ThreadId};
+use crate::entry::first::enter_first;
+use crate::entry::plans::{EntryPlan, entry_plan};
+use crate::entry::throws::throw_first;
+use et_base::{MethodId, NoMemory, Steps, ThreadId};
+use et_event::wait_event;
+use et_initialize::begin_class_event;
 use et_program::Program;
 use et_state::{EventEnd, Lines, Machine};
 use std::alloc::Global;
@@ -38,9 +41,18 @@ pub fn entry_event<L: Ledger>(
         (kept_of machine.old) thread) end machine.old machine.new out.old out.new) }
     ensures visits { visits.new ≤ visits.old + 6 }
 {
-    if thread.number() == 0 {
-        main_event(alloc, program, machine, thread, out, visits)
-    } else {
-        run_event(alloc, program, machine, thread, out, visits)
+    match entry_plan(program, machine, thread, visits) {
+        EntryPlan::IllTyped => Ok(EventEnd::IllTyped {
+            method: MethodId::new(0),
+            pc: 0,
+        }),
+        EntryPlan::Throws(error) => throw_first(program, machine, thread, error, out),
+        EntryPlan::Waits => Ok(wait_event(machine)),
+        EntryPlan::Initializes(class) => {
+            begin_class_event(alloc, program, machine, thread, class, out)
+        }
+        EntryPlan::Enters(first) => {
+            enter_first(alloc, program, machine, thread, &first, out, visits)
+        }
     }
 }

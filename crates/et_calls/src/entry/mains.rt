@@ -1,76 +1,47 @@
-//! The first method of thread 0: `main`, whose class is initialized first (JVMS 5.2, 5.5).
-ghost use Rattle.std.specs.Prelude.{◌≡◌, ◌+◌, ◌<◌, ◌≤◌, true, All, IfOk, length};
-ghost use Rattle.std.specs.List.{list_all};
-ghost use Rattle.et_state.specs.Words.{thread_at};
-ghost use Rattle.et_event.specs.Answered.{EventAnswers};
-ghost use Rattle.et_event.specs.Calls.{enters_first, enters_main, entry_arguments};
-ghost use Rattle.et_event.specs.Initialization.{is_ready as ready, prepared};
-ghost use Rattle.et_event.specs.Moments.{moment, begins};
+//! What thread 0 comes to: `main`, whose class is initialized first (JVMS 5.2, 5.5).
+ghost use Rattle.std.specs.Prelude.{◌≡◌};
+ghost use Rattle.et_event.specs.Calls.{enters_main};
+ghost use Rattle.et_event.specs.Moments.{moment};
 ghost use Rattle.et_calls.specs.Asked.{MayBegin};
+ghost use Rattle.et_calls.specs.EntryPlans.{IsEntryPlan, entry_planned};
 
-use crate::entry::first::{First, enter_first};
-use crate::entry::throws::throw_first;
-use et_base::{ClassId, NoMemory, Steps, ThreadId};
-use et_event::{GuestError, wait_event};
-use et_initialize::{Need, begin_class_event, need_of};
+use crate::entry::first::First;
+use crate::entry::plans::EntryPlan;
+use et_base::ThreadId;
+use et_event::GuestError;
+use et_initialize::{Need, need_of};
 use et_program::Program;
-use et_state::{EventEnd, Lines, Machine};
-use std::alloc::Global;
-use std::sync::ledger::Ledger;
+use et_state::Machine;
+use std::slice;
 
-/// The event in which thread 0 enters `main`, after the quiet ones among these classes became done.
-fn enter_main<L: Ledger>(
-    alloc: Global,
-    program: &Program,
-    machine: &mut Machine,
+/// What thread 0 comes to: where the class of `main` is done, begun by this thread or quiet, `main` is entered, and else what
+/// the initialization of the class asks for is done.
+pub(crate) fn main_plan<'a>(
+    program: &'a Program,
+    machine: &Machine,
     thread: ThreadId,
-    classes: &[ClassId],
-    out: &mut Lines,
-    visits: &mut Steps<L>,
-) -> Result<EventEnd, NoMemory>
-    requires begins { MayBegin program.now machine.old thread }
-    requires classes { All (λ c. c < length program.now.classes) classes.now }
-    requires ready { list_all (ready (moment program.now machine.old thread)
-        (begins (moment program.now machine.old thread))) classes.now ≡ true }
-    ensures ok { IfOk result (λ end. EventAnswers
-        (enters_first (moment program.now machine.old thread) (prepared (moment program.now
-        machine.old thread) classes.now (begins (moment program.now machine.old thread)))
-        (entry_arguments (thread_at machine.old.guest thread).entry) program.now.main)
-        end machine.old machine.new out.old out.new) }
-    ensures visits { visits.new ≤ visits.old + 3 }
+) -> EntryPlan<'a>
+    requires begins { MayBegin program.now machine.now thread }
+    ensures plan { enters_main (moment program.now machine.now thread)
+        ≡ entry_planned (moment program.now machine.now thread) result }
+    ensures within { IsEntryPlan program.now machine.now thread result }
 {
-    let first = First {
-        method: program.main(),
-        argument: machine.entry_slot(thread),
-        classes,
-    };
-    enter_first(alloc, program, machine, thread, &first, out, visits)
-}
-
-/// The event in which thread 0 enters `main`: where its class is done, begun by this thread or quiet, it is entered, and else
-/// what the initialization of the class asks for is done.
-pub(crate) fn main_event<L: Ledger>(
-    alloc: Global,
-    program: &Program,
-    machine: &mut Machine,
-    thread: ThreadId,
-    out: &mut Lines,
-    visits: &mut Steps<L>,
-) -> Result<EventEnd, NoMemory>
-    requires begins { MayBegin program.now machine.old thread }
-    ensures ok { IfOk result (λ end. EventAnswers (enters_main
-        (moment program.now machine.old thread)) end machine.old machine.new out.old out.new) }
-    ensures visits { visits.new ≤ visits.old + 3 }
-{
-    let class = program.method(program.main()).class;
-    match need_of(program, machine, thread, class) {
-        Need::Ready => enter_main(alloc, program, machine, thread, &[], out, visits),
-        Need::Quiet => enter_main(alloc, program, machine, thread, &[class], out, visits),
-        Need::Begins => begin_class_event(alloc, program, machine, thread, class, out),
-        Need::Failed => {
-            let error = GuestError::NoClassDefFoundError;
-            throw_first(program, machine, thread, error, out)
-        }
-        Need::Waits => Ok(wait_event(machine)),
+    let method = program.main();
+    let argument = machine.entry_slot(thread);
+    let class = &program.method(method).class;
+    match need_of(program, machine, thread, *class) {
+        Need::Ready => EntryPlan::Enters(First {
+            method,
+            argument,
+            classes: &[],
+        }),
+        Need::Quiet => EntryPlan::Enters(First {
+            method,
+            argument,
+            classes: slice::from_ref(class),
+        }),
+        Need::Begins => EntryPlan::Initializes(*class),
+        Need::Failed => EntryPlan::Throws(GuestError::NoClassDefFoundError),
+        Need::Waits => EntryPlan::Waits,
     }
 }
