@@ -1,5 +1,5 @@
 -- Where the code of a method leads, by what is found and tested at a place.
-use Rattle.std.proofs.Common.{◌≡◌, ℕ, ℤ, ◌&&◌, Bool, true, false, List, [], ◌∷◌, ◌++◌, Option, Some, None, refl, sym, ◌∙◌, ap, subst, Contains}
+use Rattle.std.proofs.Common.{◌≡◌, ℕ, ℤ, ◌<◌, ◌&&◌, Bool, true, false, List, [], ◌∷◌, ◌++◌, Option, Some, None, refl, sym, ◌∙◌, ap, subst, Contains, length}
 use Rattle.std.proofs.lemmas.Bool.{false≢true}
 use Rattle.std.specs.Prelude.{if◌then◌else◌, filter, map, Ok, IfSome}
 use Rattle.std.proofs.lemmas.List.{append-nil}
@@ -24,6 +24,7 @@ use Rattle.et_flow.specs.Types.{caught}
 use Rattle.et_verify.specs.Leads.{site_in, covers, may_catch, goes_past, next_places, handlers_at}
 use Rattle.et_verify.specs.Typings.{are_starts, has_room, led, leads_by_row, leads_by, leads_in}
 use Rattle.et_verify.specs.declared.decoded.Decoded.{Decoded}
+use Rattle.et_verify.proofs.Within.{place_inside}
 use Rattle.et_verify.specs.Methods.{MethodOf, StandsAt, types_after_it, IsAnswered, IsStepped}
 
 pub not_start : (p : Linked) (m : ℕ) (body : Body) (pc : ℕ) (ts : TypesOf) → is_start body.code pc ≡ false → leads_in p m body pc ts ≡ None
@@ -37,6 +38,10 @@ no_place p m body pc ts e = by (is_start body.code pc)
     by false = refl
 
 -- A SITE
+
+-- the place at which an instruction starts is in the code
+pub in_code : (f : MethodOf) (code : List ℕ) (pc : ℕ) → code ≡ f.body.code → is_start f.body.code pc ≡ true → pc < length code
+in_code f code pc same start = subst (λ (bytes : List ℕ). pc < length bytes) (sym same) (place_inside f.body.code pc start)
 
 pub site_here : (p : Linked) (m : ℕ) (body : Body) (x : Instr × ℕ) (code : List ℕ) (pool : List (Option Item)) (class : ℕ) → code ≡ body.code → pool ≡ pool_of_class p (method_at p m).class → class ≡ (method_at p m).class
     → record { instr = x.0; next = x.1; code = code; pool = pool; class = class } ≡ site_in p m body x

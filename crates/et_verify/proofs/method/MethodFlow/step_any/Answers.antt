@@ -12,15 +12,12 @@ use Rattle.et_verify.specs.Typings.{leads_by}
 use Rattle.et_verify.specs.Methods.{MethodOf, StandsAt}
 use Rattle.et_verify.proofs.Within.{place_inside}
 use Rattle.et_verify.proofs.Straight.{target_flagged}
-use Rattle.et_verify.proofs.Methods.{none_there, refused_there, stepped_there}
+use Rattle.et_verify.proofs.Methods.{in_code, none_there, refused_there, stepped_there}
 use Rattle.et_verify.proofs.method.MethodFlow.step_any.Goals.{In_ok-next_places}
 use Rattle.et_verify.proofs.method.MethodFlow.step_any.Goals as goal
 
 pub decoded_at-requires-clause-inside : goal.decoded_at-requires-clause-inside
-decoded_at-requires-clause-inside c =
-    let body : Body = body_of c.self.inside.code.now in
-    let start : is_start body.code c.args.pc ≡ true = subst (λ (y : MethodOf). is_start y.body.code c.args.pc ≡ true) (sym c.self.view_is) c.requires in
-    subst (λ (bytes : List ℕ). c.args.pc < length bytes) (sym c.as_slice-code.ensures.value) (place_inside body.code c.args.pc start)
+decoded_at-requires-clause-inside c = in_code c.args.self.now c.as_slice-code.result.now c.args.pc (c.as_slice-code.ensures.value ∙ ap (λ (y : MethodOf). y.body.code) c.self.view_is) c.requires
 
 pub decoded_at-requires-clause-few : goal.decoded_at-requires-clause-few
 decoded_at-requires-clause-few c = subst (λ (bytes : List ℕ). length bytes < 2 ^ 16) (sym c.as_slice-code.ensures.value) c.self.invariant.few
@@ -32,9 +29,7 @@ returns-in_default c =
     (subst (λ (bytes : List ℕ). leads_by f.program f.method f.body c.args.pc c.args.types.now (instruction_at bytes c.args.pc) ≡ None) (c.as_slice-code.ensures.value ∙ ap (λ (y : MethodOf). y.body.code) c.self.view_is) (c.in_default.ensures.none f.program f.method f.body c.args.types.now))
 
 pub step_decoded-requires : goal.step_decoded-requires
-step_decoded-requires c =
-    subst (λ (y : MethodOf). StandsAt y.body.code c.args.pc c.in-Some.at) c.self.view_is
-    (subst (λ (bytes : List ℕ). StandsAt bytes c.args.pc c.in-Some.at) c.as_slice-code.ensures.value c.in-Some.ensures.stands)
+step_decoded-requires c = subst (λ (bytes : List ℕ). StandsAt bytes c.args.pc c.in-Some.at) (c.as_slice-code.ensures.value ∙ ap (λ (y : MethodOf). y.body.code) c.self.view_is) c.in-Some.ensures.stands
 
 pub returns-then-not-branch : goal.returns-then-not-branch
 returns-then-not-branch c =

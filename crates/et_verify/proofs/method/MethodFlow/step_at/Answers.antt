@@ -1,9 +1,8 @@
-use Rattle.std.proofs.Common.{◌≡◌, ℕ, ◌<◌, true, List, [], length, Some, refl, sym, subst, ap, ◌∙◌, arith}
+use Rattle.std.proofs.Common.{◌≡◌, ℕ, ◌<◌, List, [], length, Some, refl, sym, subst, ap, ◌∙◌, arith}
 use Rattle.std.specs.Prelude.{◌^◌}
-use Rattle.et_code.specs.Bodies.{Body, body_of}
+use Rattle.et_code.specs.Bodies.{body_of}
 use Rattle.et_code.specs.Decoding.{Fits}
 use Rattle.et_code.specs.Rules.{offsets}
-use Rattle.et_code.specs.Starts.{is_start}
 use Rattle.et_code.proofs.Decoded.{decoded_fits}
 use Rattle.et_program.specs.Entries.{method_at}
 use Rattle.et_event.specs.declared.rows.Row.TheVariants as rows
@@ -12,16 +11,12 @@ use Rattle.et_verify.specs.Leads.{site_in}
 use Rattle.et_verify.specs.Methods.{MethodOf, StandsAt, types_after_it}
 use Rattle.et_verify.specs.declared.decoded.Decoded.{Decoded}
 use Rattle.et_event.specs.Sites.{Site}
-use Rattle.et_verify.proofs.Within.{place_inside}
-use Rattle.et_verify.proofs.Methods.{refused_there, stepped_there, plain_next}
+use Rattle.et_verify.proofs.Methods.{in_code, refused_there, stepped_there, plain_next}
 use Rattle.et_verify.proofs.method.MethodFlow.step_at.Goals.{After-step_within}
 use Rattle.et_verify.proofs.method.MethodFlow.step_at.Goals as goal
 
 pub simple_at-requires : goal.simple_at-requires
-simple_at-requires c =
-    let body : Body = body_of c.self.inside.code.now in
-    let start : is_start body.code c.args.pc ≡ true = subst (λ (y : MethodOf). is_start y.body.code c.args.pc ≡ true) (sym c.self.view_is) c.requires in
-    subst (λ (bytes : List ℕ). c.args.pc < length bytes) (sym c.as_slice.ensures.value) (place_inside body.code c.args.pc start)
+simple_at-requires c = in_code c.args.self.now c.as_slice.result.now c.args.pc (c.as_slice.ensures.value ∙ ap (λ (y : MethodOf). y.body.code) c.self.view_is) c.requires
 
 pub overflow_cast-next : goal.overflow_cast-next
 overflow_cast-next c =

@@ -1,27 +1,19 @@
-use Rattle.std.proofs.Common.{◌≡◌, ℕ, ◌<◌, true, List, [], length, sym, ap, subst, ◌∙◌}
+use Rattle.std.proofs.Common.{◌≡◌, ℕ, ◌<◌, List, [], length, sym, ap, subst, ◌∙◌}
 use Rattle.std.specs.Prelude.{◌^◌}
-use Rattle.et_code.specs.Bodies.{Body, body_of}
 use Rattle.et_code.specs.Rules.{offsets}
-use Rattle.et_code.specs.Starts.{is_start}
 use Rattle.et_verify.specs.declared.decoded.Decoded.{Decoded}
 use Rattle.et_verify.specs.Methods.{MethodOf, StandsAt}
-use Rattle.et_verify.proofs.Within.{place_inside}
-use Rattle.et_verify.proofs.Methods.{refused_there, stepped_there, straight_next}
+use Rattle.et_verify.proofs.Methods.{in_code, refused_there, stepped_there, straight_next}
 use Rattle.et_verify.proofs.method.MethodFlow.step_simple.Goals as goal
 
 pub simple_decoded_at-requires-clause-inside : goal.simple_decoded_at-requires-clause-inside
-simple_decoded_at-requires-clause-inside c =
-    let body : Body = body_of c.self.inside.code.now in
-    let start : is_start body.code c.args.pc ≡ true = subst (λ (y : MethodOf). is_start y.body.code c.args.pc ≡ true) (sym c.self.view_is) c.requires in
-    subst (λ (bytes : List ℕ). c.args.pc < length bytes) (sym c.as_slice-code.ensures.value) (place_inside body.code c.args.pc start)
+simple_decoded_at-requires-clause-inside c = in_code c.args.self.now c.as_slice-code.result.now c.args.pc (c.as_slice-code.ensures.value ∙ ap (λ (y : MethodOf). y.body.code) c.self.view_is) c.requires
 
 pub simple_decoded_at-requires-clause-few : goal.simple_decoded_at-requires-clause-few
 simple_decoded_at-requires-clause-few c = subst (λ (bytes : List ℕ). length bytes < 2 ^ 16) (sym c.as_slice-code.ensures.value) c.self.invariant.few
 
 pub step_other-requires : goal.step_other-requires
-step_other-requires c =
-    subst (λ (y : MethodOf). StandsAt y.body.code c.args.pc c.in-Some.at) c.self.view_is
-    (subst (λ (bytes : List ℕ). StandsAt bytes c.args.pc c.in-Some.at) c.as_slice-code.ensures.value c.in-Some.ensures.stands)
+step_other-requires c = subst (λ (bytes : List ℕ). StandsAt bytes c.args.pc c.in-Some.at) (c.as_slice-code.ensures.value ∙ ap (λ (y : MethodOf). y.body.code) c.self.view_is) c.in-Some.ensures.stands
 
 pub returns-then-not-branch : goal.returns-then-not-branch
 returns-then-not-branch c =
