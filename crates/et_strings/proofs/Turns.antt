@@ -19,7 +19,7 @@ use Rattle.et_event.specs.declared.rows.Row.{Row}
 use Rattle.et_event.specs.declared.rows.Row.TheVariants as row
 use Rattle.et_event.proofs.OutTurns.{out_at_no_row, out_at_turn, out_instructs}
 use Rattle.et_event.proofs.Told.{call-blind, out_no_call}
-use Rattle.et_event.specs.Places.{IsPlace, site_at}
+use Rattle.et_event.specs.Places.{IsPlace}
 use Rattle.et_event.specs.declared.places.Place.{Place}
 use Rattle.et_program.specs.Entries.{Linked}
 use Rattle.et_state.specs.Spoken.{spoken}
@@ -70,20 +70,20 @@ no_place p m t none (inr read) = none_there (out_turn p (kept_of m) t) (out_at_n
 
 -- .. at a place
 
-pub text_at_place : (p : Linked) (m : MachineState) (t : ℕ) (place : Place) → turn_of (thread_at m.guest t) ≡ Instruction → IsPlace p (top m.guest t) place → text_call p (kept_of m) t ≡ text_call_at (moment p m t) (site_at place) place.row
+pub text_at_place : (p : Linked) (m : MachineState) (t : ℕ) (place : Place) → turn_of (thread_at m.guest t) ≡ Instruction → IsPlace p (top m.guest t) place → text_call p (kept_of m) t ≡ text_call_at (moment p m t) place.site place.row
 text_at_place p m t place turn is =
     let e : Moment = moment p m t in
     text_at_turn p (kept_of m) t Instruction turn
     ∙ (ap (λ (d : Result (Instr × ℕ) CodeFault). text_call_by e d) is.decoded
-    ∙ (ap (λ (r : Option Row). option_and_then (text_call_at e (site_of p (current_frame e) (place.instr, place.next))) r) is.row
+    ∙ (ap (λ (r : Option Row). option_and_then (text_call_at e (site_of p (current_frame e) (place.site.instr, place.site.next))) r) is.row
     ∙ ap (λ (at : Site). text_call_at e at place.row) (sym is.site)))
 
-out_at_place : (p : Linked) (m : MachineState) (t : ℕ) (place : Place) → turn_of (thread_at m.guest t) ≡ Instruction → IsPlace p (top m.guest t) place → out_turn p (kept_of m) t ≡ out_at (moment p m t) (site_at place) place.row
+out_at_place : (p : Linked) (m : MachineState) (t : ℕ) (place : Place) → turn_of (thread_at m.guest t) ≡ Instruction → IsPlace p (top m.guest t) place → out_turn p (kept_of m) t ≡ out_at (moment p m t) place.site place.row
 out_at_place p m t place turn is =
     let e : Moment = moment p m t in
     out_at_turn p (kept_of m) t Instruction turn
     ∙ (ap (λ (d : Result (Instr × ℕ) CodeFault). out_by e d) is.decoded
-    ∙ (ap (λ (r : Option Row). option_and_then (out_at e (site_of p (current_frame e) (place.instr, place.next))) r) is.row
+    ∙ (ap (λ (r : Option Row). option_and_then (out_at e (site_of p (current_frame e) (place.site.instr, place.site.next))) r) is.row
     ∙ ap (λ (at : Site). out_at e at place.row) (sym is.site)))
 
 -- THE ROW
@@ -91,7 +91,7 @@ out_at_place p m t place turn is =
 abbrev pub IsRow : Moment → Site → Row → Type 0
 IsRow e at r = IsSome (text_call_at e at r) ⊎ IsSome (out_at e at r)
 
-pub at_row : (p : Linked) (m : MachineState) (t : ℕ) (place : Place) → IsPlace p (top m.guest t) place → IsTurn p (kept_of m) t → IsRow (moment p m t) (site_at place) place.row
+pub at_row : (p : Linked) (m : MachineState) (t : ℕ) (place : Place) → IsPlace p (top m.guest t) place → IsTurn p (kept_of m) t → IsRow (moment p m t) place.site place.row
 at_row p m t place is (inl call) = inl (subst (λ (r : Option TextCall). IsSome r) (text_at_place p m t place (text_instructs p (kept_of m) t call) is) call)
 at_row p m t place is (inr read) = inr (subst (λ (r : Option OutRead). IsSome r) (out_at_place p m t place (out_instructs p (kept_of m) t read) is) read)
 
@@ -102,7 +102,7 @@ invoked e at kind (inr read) = cc
 pub invoke_calls : (e : Moment) (at : Site) (r : Row) (kind : CallKind) → r ≡ row.Call (Invoke kind) → IsRow e at r → IsSome (text_call_at e at (row.Call (Invoke kind)))
 invoke_calls e at r kind named h = invoked e at kind (subst (λ (q : Row). IsRow e at q) named h)
 
-pub no_call_reads : (p : Linked) (m : MachineState) (t : ℕ) (place : Place) → IsPlace p (top m.guest t) place → text_call_at (moment p m t) (site_at place) place.row ≡ None → IsTurn p (kept_of m) t → IsSome (out_turn p (kept_of m) t)
+pub no_call_reads : (p : Linked) (m : MachineState) (t : ℕ) (place : Place) → IsPlace p (top m.guest t) place → text_call_at (moment p m t) place.site place.row ≡ None → IsTurn p (kept_of m) t → IsSome (out_turn p (kept_of m) t)
 no_call_reads p m t place is none (inl call) = absurd (none_there (text_call p (kept_of m) t) (text_at_place p m t place (text_instructs p (kept_of m) t call) is ∙ none) call)
 no_call_reads p m t place is none (inr read) = read
 

@@ -7,7 +7,7 @@ ghost use Rattle.et_event.specs.Moments.{moment};
 ghost use Rattle.et_event.specs.Selected.{text_call_at};
 ghost use Rattle.et_event.specs.declared.rows.CallRow.TheVariants as calls;
 ghost use Rattle.et_event.specs.declared.rows.Row.TheVariants as rows;
-ghost use Rattle.et_event.specs.Places.{IsPlace, site_at};
+ghost use Rattle.et_event.specs.Places.{IsPlace};
 ghost use Rattle.et_state.specs.Words.{HasFrame, top};
 ghost use Rattle.et_builtins.specs.Calling.{HasRoomFor};
 ghost use Rattle.et_strings.specs.Calls.{IsCalled, entries_given};
@@ -42,10 +42,10 @@ pub(crate) fn text_called<L: Ledger>(
     requires place { IsPlace program.now (top machine.now.guest thread) place.now }
     requires row { place.now.row ≡ rows.Call (calls.Invoke kind) }
     requires call { IsSome (text_call_at (moment program.now machine.now thread)
-        (site_at place.now) (rows.Call (calls.Invoke kind))) }
-    ensures call { text_call_at (moment program.now machine.now thread) (site_at place.now)
+        place.now.site (rows.Call (calls.Invoke kind))) }
+    ensures call { text_call_at (moment program.now machine.now thread) place.now.site
         (rows.Call (calls.Invoke kind)) ≡ Some (record {
-          at = site_at place.now;
+          at = place.now.site;
           arguments = arguments_of (moment program.now machine.now thread) result.called.count;
           method = result.method;
         }) }
@@ -54,7 +54,7 @@ pub(crate) fn text_called<L: Ledger>(
     ensures called { IsCalled machine.now result }
     ensures room { HasRoomFor (entries_given result.method) machine.now result.called }
     ensures thread { result.called.thread ≡ thread }
-    ensures next { result.called.next ≡ place.now.next }
+    ensures next { result.called.next ≡ place.now.site.next }
     ensures visits { visits.new ≤ visits.old + 2 }
 {
     let CallPlan::Enters { method, count } = invoke_plan(
@@ -73,7 +73,7 @@ pub(crate) fn text_called<L: Ledger>(
         called: Called {
             thread,
             count,
-            next: place.next,
+            next: place.site.next(),
         },
         object,
         argument: argument_at(machine, thread, count, 1),
