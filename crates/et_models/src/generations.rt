@@ -105,8 +105,8 @@ impl Generations {
         requires bytes { sum_by (size_at self.old.sizes.items) self.old.nursery.items
             + self.old.space_bytes < 2 ^ 64 }
         requires minor { self.old.totals.minor + 1 < 2 ^ 64 }
-        requires kept { self.old.totals.kept + sum_by (size_at self.old.sizes.items) self.old.nursery.items
-            < 2 ^ 128 }
+        requires kept { self.old.totals.kept
+            + sum_by (size_at self.old.sizes.items) self.old.nursery.items < 2 ^ 128 }
         ensures { OnOk result (Promotes (both_of self.old) (both_of self.new)) }
     {
         let mut work = Vec::new(self.alloc);
