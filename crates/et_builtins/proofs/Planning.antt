@@ -2,8 +2,9 @@
 use Rattle.std.proofs.Common.{◌≡◌, ℕ, ◌<◌, Bool, true, false, List, length, Option, Some, None, refl, ◌∙◌, ap}
 use Rattle.std.specs.Prelude.{if◌then◌else◌, option_and_then, Result, IfOk}
 use Rattle.std.specs.Result.{result_ok}
+use Rattle.et_heap.proofs.References.{there_is}
 use Rattle.et_base.specs.declared.value.Value.{Value}
-use Rattle.et_heap.specs.Objects.{ObjectState, IsHeld, at, found, is_there, object_at}
+use Rattle.et_heap.specs.Objects.{IsHeld, at, found, object_at}
 use Rattle.et_state.specs.State.{Kept, MachineState, kept_of}
 use Rattle.et_program.specs.Entries.{Linked, is_static}
 use Rattle.et_program.specs.Resolution.{resolve_class, resolve_method, select}
@@ -24,10 +25,6 @@ use Rattle.et_event.specs.Frames.{first_reference}
 use Rattle.et_event.specs.Moments.{Moment, begins, object_class, ill_typed}
 use Rattle.et_event.specs.Sites.{Member, Site, site_member, names_interface}
 use Rattle.et_event.specs.Sound.{IsSoundFor}
-
-there_is : (x : Option ObjectState) → is_there x → x ≡ Some (found x)
-there_is None h = absurd h
-there_is (Some x) h = refl
 
 pub class_within : (p : Linked) (m : MachineState) (o : ℕ) → IsSoundFor p (kept_of m) → IsHeld m.heap o → (object_at m.heap o).class < length p.classes
 class_within p m o sound held = (sound.objects o (found (at m.heap o)) (there_is (at m.heap o) held)).0.class

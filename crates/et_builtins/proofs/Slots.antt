@@ -1,11 +1,12 @@
 -- The slots that the machine itself uses, and what stands in them.
-use Rattle.std.proofs.Common.{◌≡◌, ℕ, suc, ◌+◌, ◌<◌, ◌≤◌, Bool, true, false, List, [], ◌∷◌, length, Option, Some, None, refl, sym, ◌∙◌, ap, subst, arith, Contains}
+use Rattle.std.proofs.Common.{◌≡◌, ℕ, suc, ◌+◌, ◌<◌, ◌≤◌, Bool, true, false, List, [], ◌∷◌, length, Option, Some, None, sym, ◌∙◌, ap, subst, arith, Contains}
 use Rattle.std.specs.Prelude.{codes, if◌then◌else◌, IfSome}
 use Rattle.std.specs.List.{position_from}
+use Rattle.et_heap.proofs.References.{there_is}
 use Rattle.et_builtins.proofs.Queueing.{queue_named}
 use Rattle.et_base.specs.declared.value.Value.{Value}
 use Rattle.et_base.specs.declared.value.Value.TheVariants.{Unset, Int, Long, LongHigh, Null, Ref}
-use Rattle.et_heap.specs.Objects.{ObjectState, IsHeld, at, found, is_there, object_at, slot_of, referent_value}
+use Rattle.et_heap.specs.Objects.{ObjectState, IsHeld, at, found, object_at, slot_of, referent_value}
 use Rattle.et_heap.specs.Refs.{refs_of_value}
 use Rattle.et_state.specs.Threads.{ThreadState, is_thread_object as is_thread_of, thread_with}
 use Rattle.et_state.specs.State.{MachineState, kept_of}
@@ -25,10 +26,6 @@ use Rattle.et_program.specs.BootMethods.BuiltIn.{BuiltIn}
 use Rattle.et_program.specs.BootMethods.BuiltIn.TheVariants.{Nothing, SetMessage, SetMessageAndCause, GetMessage, GetCause, SetTarget, Start, Join, SetReferent, SetReferentAndQueue, GetReferent, ClearReferent, Poll}
 use Rattle.et_builtins.specs.Kinds.{slots_used}
 use Rattle.et_event.specs.Programs.{HasMachineSlots, KeepsFree, KeepsTarget}
-
-there_is : (x : Option ObjectState) → is_there x → x ≡ Some (found x)
-there_is None h = absurd h
-there_is (Some x) h = refl
 
 sound_object : (p : Linked) (m : MachineState) (o : ℕ) → IsSoundFor p (kept_of m) → IsHeld m.heap o → IsSoundObject p (object_at m.heap o)
 sound_object p m o sound held = (sound.objects o (found (at m.heap o)) (there_is (at m.heap o) held)).0

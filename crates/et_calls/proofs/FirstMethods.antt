@@ -1,12 +1,12 @@
 -- A method entered first, by its code.
-use Rattle.std.proofs.Common.{◌≡◌, ℕ, Bool, true, false, List, [], Option, Some, None, refl, sym, ◌∙◌, ap, subst, option_to_list, Contains}
+use Rattle.std.proofs.Common.{◌≡◌, ℕ, Bool, true, false, List, Option, Some, None, refl, sym, ◌∙◌, ap, subst, option_to_list}
 use Rattle.std.specs.Prelude.{not}
 use Rattle.std.proofs.lemmas.List.Elements.{Contains-append_left, Contains-append_right}
+use Rattle.et_event.proofs.There.{lock_listed}
 use Rattle.et_base.specs.declared.value.Value.{Value}
 use Rattle.et_class.specs.Names.{has}
 use Rattle.et_class.specs.declared.flags.TheConstants.{NATIVE}
 use Rattle.et_code.specs.Bodies.{Body}
-use Rattle.et_base.proofs.Lists.{Contains-here}
 use Rattle.et_state.specs.State.{GuestState, Kept, MachineState}
 use Rattle.et_state.specs.Words.{thread_at}
 use Rattle.et_program.specs.Entries.{method_at}
@@ -45,15 +45,12 @@ codeless_is e d method args x error named code is =
 
 -- ARGUMENTS
 
-listed : (r : Option ℕ) (o : ℕ) → r ≡ Some o → Contains (option_to_list r) o
-listed r o e = subst (λ (q : Option ℕ). Contains (option_to_list q) o) (sym e) (Contains-here o [])
-
 pub entry_argument : (g : GuestState) (t : ℕ) (argument : Option ℕ) → argument ≡ (thread_at g t).entry → IsArgument g t argument
 entry_argument g t argument e = λ o is.
     let x = thread_at g t in
-    Contains-append_right (option_to_list x.pending) _ o (Contains-append_left (option_to_list x.entry) (option_to_list x.object) o (listed x.entry o (sym e ∙ is)))
+    Contains-append_right (option_to_list x.pending) _ o (Contains-append_left (option_to_list x.entry) (option_to_list x.object) o (lock_listed x.entry o (sym e ∙ is)))
 
 pub object_argument : (g : GuestState) (t : ℕ) (argument : Option ℕ) → (thread_at g t).object ≡ argument → IsArgument g t argument
 object_argument g t argument e = λ o is.
     let x = thread_at g t in
-    Contains-append_right (option_to_list x.pending) _ o (Contains-append_right (option_to_list x.entry) (option_to_list x.object) o (listed x.object o (e ∙ is)))
+    Contains-append_right (option_to_list x.pending) _ o (Contains-append_right (option_to_list x.entry) (option_to_list x.object) o (lock_listed x.object o (e ∙ is)))

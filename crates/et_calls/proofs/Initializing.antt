@@ -1,12 +1,13 @@
 -- What a turn says of the topmost frame.
 use Rattle.std.proofs.Common.{◌≡◌, ℕ, zero, suc, ◌<◌, Bool, true, false, List, [], ◌∷◌, length, get_or, refl, arith}
 use Rattle.std.specs.Prelude.{if◌then◌else◌, is_some}
+use Rattle.et_event.proofs.Running.{some_frame}
 use Rattle.et_program.specs.Entries.{Linked}
 use Rattle.et_state.specs.declared.stage.Stage.{Stage}
 use Rattle.et_state.specs.declared.stage.Stage.TheVariants.{Plain, Before, Clinit}
 use Rattle.et_state.specs.declared.stage.Turn.{Turn}
 use Rattle.et_state.specs.declared.stage.Turn.TheVariants.{Unwind, EndThread, Entry, Initialize, Instruction}
-use Rattle.et_state.specs.Threads.{FrameState, ThreadState, no_thread, has_frame, is_before_class, top_of, turn_of}
+use Rattle.et_state.specs.Threads.{ThreadState, no_thread, has_frame, is_before_class, top_of, turn_of}
 use Rattle.et_state.specs.State.{Kept, GuestState}
 use Rattle.et_state.specs.Words.{HasFrame, thread_at, top}
 use Rattle.et_event.specs.Event.{initializes, does_turn, event}
@@ -30,10 +31,6 @@ initializing false false before false e = cc
 pub initializes_there : (x : ThreadState) → turn_of x ≡ Initialize → IsInitializing x
 initializes_there x e = let h = initializing (is_some x.pending) (has_frame x.frames) (is_before_class (top_of x).stage) x.entered e in record { framed = h.0; before = h.1 }
 
-some_frames : (fs : List FrameState) → has_frame fs ≡ true → 0 < length fs
-some_frames [] e = cc
-some_frames (f ∷ below) e = omega arith
-
 started : (threads : List ThreadState) (t : ℕ) → has_frame (get_or threads t no_thread).frames ≡ true → t < length threads
 started [] t e = cc
 started (x ∷ xs) zero e = omega arith
@@ -42,7 +39,7 @@ started (x ∷ xs) (suc t) e = let lt = started xs t e in omega (arith, lt)
 pub frame_there : (g : GuestState) (t : ℕ) → turn_of (thread_at g t) ≡ Initialize → HasFrame g t
 frame_there g t e =
     let h = initializes_there (thread_at g t) e in
-    record { thread = started g.threads t h.framed; frame = some_frames (thread_at g t).frames h.framed }
+    record { thread = started g.threads t h.framed; frame = some_frame (thread_at g t).frames h.framed }
 
 -- the initializer has not entered its method
 pub not_plain : (x : ThreadState) → turn_of x ≡ Initialize → (top_of x).stage ≡ Plain → ⊥

@@ -2,14 +2,14 @@
 use Rattle.std.proofs.Common.{◌≡◌, ℕ, ◌<◌, ◌≤◌, Bool, true, false, List, [], ◌∷◌, ◌++◌, length, get_or, set, take, Option, Some, None, refl, sym, ◌∙◌, ap, subst, arith, Contains, get_or-set_same, inl, inr, option_to_list, append-nil}
 use Rattle.std.specs.Prelude.{if◌then◌else◌, IfSome}
 use Rattle.std.proofs.lemmas.List.{length-set, set-set}
-use Rattle.std.proofs.lemmas.List.Elements.{Contains-append_left, Contains-append_right}
+use Rattle.std.proofs.lemmas.List.Elements.{Contains-append_left}
+use Rattle.et_event.proofs.Taking.{operand_in_frame}
 use Rattle.et_heap.proofs.References.{refs_taken}
 use Rattle.et_base.specs.declared.value.Value.{Value}
 use Rattle.et_base.specs.declared.value.Value.TheVariants.{Ref}
 use Rattle.et_base.proofs.Lists.{Contains-none, Contains-cons, Contains-here}
 use Rattle.et_heap.specs.Objects.{IsHeld}
 use Rattle.et_heap.specs.Refs.{refs_of}
-use Rattle.et_state.specs.ThreadRoots.{frame_roots}
 use Rattle.et_state.specs.Threads.{FrameState, ThreadState, no_thread, as_entered, ended_roots, entered_by, popped, rest_of, with_top_of}
 use Rattle.et_state.specs.NewFrames.{entered_over, frame_with}
 use Rattle.et_state.specs.declared.new_frame.NewHead.{NewHead}
@@ -32,9 +32,6 @@ use Rattle.et_calls.proofs.Fresh.{fresh_on}
 
 -- WHAT THEY REFER TO is held
 
-pub operand_rooted : (f : FrameState) (o : ℕ) → Contains (refs_of f.operands) o → Contains (frame_roots f) o
-operand_rooted f o c = Contains-append_right (refs_of f.locals) _ o (Contains-append_left (refs_of f.operands) _ o c)
-
 object_in : (argument : Option ℕ) (o : ℕ) → Contains (refs_of (entry_arguments argument)) o → argument ≡ Some o
 object_in None o c = absurd (Contains-none o c)
 object_in (Some r) o c = elim (Contains-cons r [] o c) [ inl e ↦ ap (λ (k : ℕ). Some k) e | inr d ↦ absurd (Contains-none o d) ]
@@ -45,7 +42,7 @@ object_held t o argument m sound fresh there e = sound.roots o (ended_root m.gue
 pub passed_held : (t : ℕ) (passed : Passed) (m : MachineState) → IsSound (kept_of m) → ArePassedTo m.guest t passed → (o : ℕ) → Contains (refs_of (arguments_passed (top m.guest t) passed)) o → IsHeld m.heap o
 passed_held t (Operands count) m sound there = λ o c.
     let f : FrameState = top m.guest t in
-    sound.roots o (top_root m.guest t o there.0 (operand_rooted f o (refs_taken f.operands count o (refs_reversed (take count f.operands) o c))))
+    sound.roots o (top_root m.guest t o there.0 (operand_in_frame f o (refs_taken f.operands count o (refs_reversed (take count f.operands) o c))))
 passed_held t (Object argument) m sound there = λ o c. object_held t o argument m sound there.0 there.1 (object_in argument o c)
 
 pub argument_held : (t : ℕ) (argument : Option ℕ) (m : MachineState) → IsSound (kept_of m) → ArePassedTo m.guest t (Object argument) → IfSome argument (λ o. IsHeld m.heap o)

@@ -28,3 +28,4 @@ pub mod Keeping
 pub mod There
 pub mod Entering
 pub mod FrameEvents
+pub mod Referred

@@ -32,11 +32,11 @@ by_parts false false before false e = cc
 pub framed : (x : ThreadState) → turn_of x ≡ Instruction → (has_frame x.frames ≡ true) × (is_before_class (top_of x).stage ≡ false)
 framed x e = by_parts (is_some x.pending) (has_frame x.frames) (is_before_class (top_of x).stage) x.entered e
 
-some_frame : (fs : List FrameState) → has_frame fs ≡ true → 0 < length fs
+pub some_frame : (fs : List FrameState) → has_frame fs ≡ true → 0 < length fs
 some_frame [] e = cc
 some_frame (f ∷ fs) e = omega arith
 
-started : (ts : List ThreadState) (t : ℕ) → has_frame (slice_index_or ts t no_thread).frames ≡ true → t < length ts
+pub started : (ts : List ThreadState) (t : ℕ) → has_frame (slice_index_or ts t no_thread).frames ≡ true → t < length ts
 started [] t e = cc
 started (x ∷ xs) zero e = omega arith
 started (x ∷ xs) (suc t) e = let h : t < length xs = started xs t e in omega arith
@@ -46,7 +46,7 @@ has_frame_there g t e =
     let h = (framed (thread_at g t) e).0 in
     record { thread = started g.threads t h; frame = some_frame (thread_at g t).frames h }
 
-runs_staged : (p : Linked) (f : FrameState) (stage : Stage) (method : Option ℕ) → f.method ≡ method → is_before_class stage ≡ false → IsStaged p f stage method → Runs p f
+pub runs_staged : (p : Linked) (f : FrameState) (stage : Stage) (method : Option ℕ) → f.method ≡ method → is_before_class stage ≡ false → IsStaged p f stage method → Runs p f
 runs_staged p f Plain (Some m) e b h = record { method = m; named = e; runs = h.0 }
 runs_staged p f Plain None e b h = absurd h
 runs_staged p f (Before c) method e b h = cc

@@ -2,6 +2,7 @@
 use Rattle.std.proofs.Common.{◌≡◌, ℕ, zero, suc, ◌+◌, ◌-◌, ◌<◌, ◌≤◌, List, [], ◌∷◌, ◌++◌, length, take, drop, get_or, set, refl, sym, ◌∙◌, ap, subst, arith, Contains, get_or-set_same, append-nil, append_assoc, inl, inr}
 use Rattle.std.proofs.lemmas.List.{length-set}
 use Rattle.std.proofs.lemmas.List.Elements.{Contains-append_left, Contains-append_right, Contains-append_cases}
+use Rattle.et_heap.proofs.References.{refs_append}
 use Rattle.et_base.proofs.Lists.{Contains-none}
 use Rattle.et_event.specs.Tops.{AreIn}
 use Rattle.et_base.specs.declared.value.Value.{Value}
@@ -32,7 +33,7 @@ dropped_more [] (suc n) = refl
 dropped_more (x ∷ xs) zero = refl
 dropped_more (x ∷ xs) (suc n) = dropped_more xs n
 
-taken_more : (xs : List Value) (n : ℕ) → n < length xs → refs_of (take n xs) ++ refs_of_value (get_or (drop n xs) 0 Unset) ≡ refs_of (take (suc n) xs)
+pub taken_more : (xs : List Value) (n : ℕ) → n < length xs → refs_of (take n xs) ++ refs_of_value (get_or (drop n xs) 0 Unset) ≡ refs_of (take (suc n) xs)
 taken_more [] n lt = absurd (omega arith)
 taken_more (x ∷ xs) zero lt = sym (append-nil (refs_of_value x))
 taken_more (x ∷ xs) (suc n) lt =
@@ -77,11 +78,7 @@ pub are_in : (f : FrameState) (vs : List Value) → AreIn f vs → (o : ℕ) →
 are_in f [] h o c = absurd (Contains-none o c)
 are_in f (v ∷ vs) h o c = elim (Contains-append_cases (refs_of_value v) (refs_of vs) o c) [ inl d ↦ h.0 o d | inr d ↦ are_in f vs h.1 o d ]
 
-refs-append : (xs ys : List Value) → refs_of (xs ++ ys) ≡ refs_of xs ++ refs_of ys
-refs-append [] ys = refl
-refs-append (x ∷ xs) ys = ap (λ (os : List ℕ). refs_of_value x ++ os) (refs-append xs ys) ∙ sym (append_assoc (refs_of_value x) (refs_of xs) (refs_of ys))
-
-taken_or_left : (xs : List Value) (n : ℕ) → refs_of xs ≡ refs_of (take n xs) ++ refs_of (drop n xs)
+pub taken_or_left : (xs : List Value) (n : ℕ) → refs_of xs ≡ refs_of (take n xs) ++ refs_of (drop n xs)
 taken_or_left xs zero = refl
 taken_or_left [] (suc n) = refl
 taken_or_left (x ∷ xs) (suc n) = ap (λ (os : List ℕ). refs_of_value x ++ os) (taken_or_left xs n) ∙ sym (append_assoc (refs_of_value x) (refs_of (take n xs)) (refs_of (drop n xs)))
@@ -90,7 +87,7 @@ taken_or_left (x ∷ xs) (suc n) = ap (λ (os : List ℕ). refs_of_value x ++ os
 abbrev pub replaced : ℕ → List Value → ℕ → FrameState → FrameState
 replaced n vs pc f = record f { pc = pc; operands = vs ++ drop n f.operands }
 
-operand_in_frame : (f : FrameState) (o : ℕ) → Contains (refs_of f.operands) o → Contains (frame_roots f) o
+pub operand_in_frame : (f : FrameState) (o : ℕ) → Contains (refs_of f.operands) o → Contains (frame_roots f) o
 operand_in_frame f o c = Contains-append_right (refs_of f.locals) _ o (Contains-append_left (refs_of f.operands) _ o c)
 
 pub taken_in_frame : (n : ℕ) (f : FrameState) (o : ℕ) → Contains (refs_of (take n f.operands)) o → Contains (frame_roots f) o
@@ -104,7 +101,7 @@ moves_replaced m t n pc vs has there =
       on = λ o c. elim (Contains-append_cases (refs_of f.locals) _ o c) [
         | inl d ↦ inl (Contains-append_left (refs_of f.locals) _ o d)
         | inr d ↦ elim (Contains-append_cases (refs_of (vs ++ drop n f.operands)) _ o d) [
-          | inl e ↦ elim (Contains-append_cases (refs_of vs) (refs_of (drop n f.operands)) o (subst (λ (os : List ℕ). Contains os o) (refs-append vs (drop n f.operands)) e)) [
+          | inl e ↦ elim (Contains-append_cases (refs_of vs) (refs_of (drop n f.operands)) o (subst (λ (os : List ℕ). Contains os o) (refs_append vs (drop n f.operands)) e)) [
             | inl h ↦ inl (there o h)
             | inr h ↦ inl (operand_in_frame f o (subst (λ (os : List ℕ). Contains os o) (sym (taken_or_left f.operands n)) (Contains-append_right (refs_of (take n f.operands)) _ o h)))
           ]
@@ -116,7 +113,7 @@ moves_replaced m t n pc vs has there =
         | inr d ↦ elim (Contains-append_cases (refs_of f.operands) _ o d) [
           | inl e ↦ elim (Contains-append_cases (refs_of (take n f.operands)) (refs_of (drop n f.operands)) o (subst (λ (os : List ℕ). Contains os o) (taken_or_left f.operands n) e)) [
             | inl h ↦ inr h
-            | inr h ↦ inl (operand_in_frame (replaced n vs pc f) o (subst (λ (os : List ℕ). Contains os o) (sym (refs-append vs (drop n f.operands))) (Contains-append_right (refs_of vs) _ o h)))
+            | inr h ↦ inl (operand_in_frame (replaced n vs pc f) o (subst (λ (os : List ℕ). Contains os o) (sym (refs_append vs (drop n f.operands))) (Contains-append_right (refs_of vs) _ o h)))
           ]
           | inr e ↦ inl (Contains-append_right (refs_of f.locals) _ o (Contains-append_right (refs_of (vs ++ drop n f.operands)) _ o e))
         ]

@@ -2,12 +2,13 @@
 use Rattle.std.proofs.Common.{◌≡◌, ℕ, ◌<◌, ◌≤◌, ◌^◌, true, false, List, length, Option, Some, None, option_to_list, refl, sym, subst, arith, Contains}
 use Rattle.std.specs.Prelude.{if◌then◌else◌, option_map}
 use Rattle.std.proofs.lemmas.List.Elements.{All-get_or}
+use Rattle.et_heap.proofs.References.{there_is}
 use Rattle.et_class.specs.Names.{has}
 use Rattle.et_class.specs.declared.flags.TheConstants.{STATIC, SYNCHRONIZED}
 use Rattle.et_program.specs.Entries.{Linked}
 use Rattle.et_program.specs.declared.info.MethodInfo.{MethodInfo}
 use Rattle.et_heap.specs.declared.monitor.Monitor.{Monitor}
-use Rattle.et_heap.specs.Objects.{Objects, ObjectState, IsHeld, at, found, is_there, free_monitor}
+use Rattle.et_heap.specs.Objects.{Objects, ObjectState, IsHeld, at, found, free_monitor}
 use Rattle.et_state.specs.declared.stage.Stage.{Stage}
 use Rattle.et_state.specs.declared.stage.Stage.TheVariants.{Plain, Before, Clinit}
 use Rattle.et_state.specs.Threads.{FrameState}
@@ -37,7 +38,7 @@ stage_lock_there m Plain x r class held = method_lock_there m x r class held
 stage_lock_there m (Before c) x r class held = tt
 stage_lock_there m (Clinit c) x r class held = tt
 
-lock_listed : (r : Option ℕ) (o : ℕ) → r ≡ Some o → Contains (option_to_list r) o
+pub lock_listed : (r : Option ℕ) (o : ℕ) → r ≡ Some o → Contains (option_to_list r) o
 lock_listed r o e = subst (λ (q : Option ℕ). Contains (option_to_list q) o) (sym e) (0, omega arith, refl)
 
 pub frame_lock_there : (p : Linked) (m : MachineState) (t : ℕ) → IsSoundFor p (kept_of m) → HasFrame m.guest t → (running_method p (top m.guest t)).class < length p.classes
@@ -48,10 +49,6 @@ frame_lock_there p m t sound has class =
     (λ o e. sound.held.roots o (top_root m.guest t o has (lock_root f o (lock_listed f.lock o e))))
 
 -- HOW OFTEN A MONITOR WAS ENTERED
-
-pub there_is : (x : Option ObjectState) → is_there x → x ≡ Some (found x)
-there_is None h = absurd h
-there_is (Some x) h = refl
 
 pub few_times : (p : Linked) (m : MachineState) (lock : Option Lock) → IsSoundFor p (kept_of m) → HasSome m lock → IsSomeFewTimes m lock
 few_times p m None sound has = tt

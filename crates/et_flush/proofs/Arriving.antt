@@ -6,6 +6,7 @@ use Rattle.std.specs.Option.{is_some, option_map_or}
 use Rattle.std.proofs.lemmas.List.{length-set}
 use Rattle.std.proofs.lemmas.Bool.{cases_eq, eq-eqb, ne_eqb}
 use mathlib.Core.Bool.{and-false, or-true, or-false}
+use Rattle.et_heap.proofs.References.{there_is}
 use Rattle.et_state.proofs.UnderWay.{at_other}
 use Rattle.et_base.proofs.Lists.{Contains-here, Contains-there}
 use Rattle.et_heap.specs.Objects.{ObjectState, Objects, IsHeld, is_there, at, found, object_at}
@@ -84,10 +85,6 @@ gone_to r a b (Some x) = Some (record x { waiting = if a then x.waiting ++ r ∷
 untouched : (r : ℕ) (x : Option ObjectState) → gone_to r false false x ≡ x
 untouched r None = refl
 untouched r (Some x) = refl
-
-there_is : (x : Option ObjectState) → is_there x → x ≡ Some (found x)
-there_is None h = absurd h
-there_is (Some x) h = refl
 
 module _ (h : Objects) (r p : ℕ) (held : IsHeld h r) (queue : IsHeld h p) where
   abbrev waiting_now : Objects

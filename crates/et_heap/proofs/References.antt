@@ -1,5 +1,5 @@
 -- Slots in which no reference stands.
-use Rattle.std.proofs.Common.{◌≡◌, ℕ, zero, suc, List, [], ◌∷◌, ◌++◌, set, replicate, refl, ◌∙◌, ap, ◌≤◌, length, take, get_or, Option, Some, None, Contains, arith, inl, inr}
+use Rattle.std.proofs.Common.{◌≡◌, ℕ, zero, suc, List, [], ◌∷◌, ◌++◌, set, replicate, refl, ◌∙◌, ap, ◌≤◌, length, take, get_or, Option, Some, None, Contains, arith, inl, inr, append_assoc, sym}
 use Rattle.std.proofs.lemmas.List.{length-append}
 use Rattle.std.proofs.lemmas.List.Elements.{Contains-append_left, Contains-append_right, Contains-append_cases}
 use Rattle.et_base.specs.declared.value.Value.{Value}
@@ -77,3 +77,12 @@ unset_at (suc n) (suc j) = unset_at n j
 pub found_there : (x : Option ObjectState) → is_there x → Some (found x) ≡ x
 found_there None h = absurd h
 found_there (Some x) h = refl
+
+pub there_is : (x : Option ObjectState) → is_there x → x ≡ Some (found x)
+there_is None h = absurd h
+there_is (Some x) h = refl
+
+-- values in a row refer to what each part refers to
+pub refs_append : (xs ys : List Value) → refs_of (xs ++ ys) ≡ refs_of xs ++ refs_of ys
+refs_append [] ys = refl
+refs_append (x ∷ xs) ys = ap (λ (os : List ℕ). refs_of_value x ++ os) (refs_append xs ys) ∙ sym (append_assoc (refs_of_value x) (refs_of xs) (refs_of ys))

@@ -1,5 +1,5 @@
 -- What an instruction has done so far to the frame that runs, call by call, and how it ends.
-use Rattle.std.proofs.Common.{◌≡◌, ℕ, suc, ◌+◌, ◌-◌, ◌<◌, ◌≤◌, Bool, true, List, [], ◌∷◌, ◌++◌, length, take, drop, get_or, Some, None, sym, ◌∙◌, ap, subst, arith, Contains, append-nil, append_assoc, take-suc, drop-cons, drop-drop, get_or-drop, inl, inr}
+use Rattle.std.proofs.Common.{◌≡◌, ℕ, suc, ◌+◌, ◌-◌, ◌<◌, ◌≤◌, Bool, true, List, [], ◌∷◌, ◌++◌, length, take, drop, get_or, Some, None, sym, ◌∙◌, ap, subst, arith, Contains, append-nil, append_assoc, drop-cons, drop-drop, inl, inr}
 use Rattle.std.proofs.lemmas.Bool.{le-leb}
 use Rattle.std.proofs.lemmas.Grind.{flat_map-append}
 use Rattle.std.specs.Prelude.{if◌then◌else◌}
@@ -13,7 +13,7 @@ use Rattle.et_state.specs.Moves.{Moves}
 use Rattle.et_state.proofs.Places.{moves_none, moves_then, moves_more, moves_left, moves_right, frame_pop, frame_pops, frame_push, frame_set_local}
 use Rattle.et_event.specs.FrameSteps.{StepsRunning}
 use Rattle.et_event.specs.Plain.{put}
-use Rattle.et_event.proofs.Taking.{length_dropped, replaced, taken_in_frame}
+use Rattle.et_event.proofs.Taking.{length_dropped, replaced, taken_in_frame, taken_more}
 
 -- CALL BY CALL
 
@@ -75,13 +75,6 @@ did_steps b f l r d =
     (ap (λ (x : RunningState). x.frame) d.is, ap (λ (x : RunningState). x.below) d.is, subst (λ (os : List ℕ). MovesInFrame b.frame f os) (sym (ap (λ (x : RunningState). x.lost) d.is)) moves)
 
 -- TAKING
-
-taken_more : (xs : List Value) (n : ℕ) → n < length xs → refs_of (take n xs) ++ refs_of_value (get_or (drop n xs) 0 Unset) ≡ refs_of (take (suc n) xs)
-taken_more xs n lt =
-    let same : n + 0 ≡ n = omega arith in
-    let value : get_or (drop n xs) 0 Unset ≡ get_or xs n Unset = get_or-drop n xs 0 Unset ∙ ap (λ (k : ℕ). get_or xs k Unset) same in
-    ap (λ (v : Value). refs_of (take n xs) ++ refs_of_value v) value
-    ∙ sym (ap (λ (vs : List Value). refs_of vs) (take-suc xs n Unset lt) ∙ (flat_map-append refs_of_value (take n xs) (get_or xs n Unset ∷ []) ∙ ap (λ (os : List ℕ). refs_of (take n xs) ++ os) (append-nil (refs_of_value (get_or xs n Unset)))))
 
 pub taken_one : (b : RunningState) (n : ℕ) (f : FrameState) (r₁ r₂ : RunningState) → n < length f.operands → r₁ ≡ steps_running b (popped n f) (refs_of (take n f.operands))
     → r₂ ≡ steps_running r₁ (popped 1 r₁.frame) (refs_of_value (operand_of r₁.frame 0)) → r₂ ≡ steps_running b (popped (n + 1) f) (refs_of (take (n + 1) f.operands))

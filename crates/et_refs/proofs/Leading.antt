@@ -1,7 +1,8 @@
 -- What the topmost frame comes to where operands are taken and values that are held are put in their place.
-use Rattle.std.proofs.Common.{◌≡◌, ℕ, zero, suc, ◌<◌, List, [], ◌∷◌, ◌++◌, length, take, drop, Some, refl, sym, ◌∙◌, ap, subst, Contains, append-nil, append_assoc, inl, inr}
+use Rattle.std.proofs.Common.{◌≡◌, ℕ, ◌<◌, List, [], ◌∷◌, ◌++◌, length, take, drop, Some, refl, sym, ◌∙◌, ap, subst, Contains, append-nil, inl, inr}
 use Rattle.std.proofs.lemmas.List.{length-set}
 use Rattle.std.proofs.lemmas.List.Elements.{Contains-append_left, Contains-append_right, Contains-append_cases}
+use Rattle.et_heap.proofs.References.{refs_append}
 use Rattle.et_base.specs.declared.value.Value.{Value}
 use Rattle.et_base.specs.declared.value.Value.TheVariants.{Unset, Int, Long, LongHigh, Null, Ref}
 use Rattle.et_base.proofs.Lists.{Contains-none, Contains-here, Contains-cons}
@@ -17,25 +18,10 @@ use Rattle.et_state.proofs.Places.{top_root, leads-new}
 use Rattle.et_state.proofs.UnderWay.{root_is_reached}
 use Rattle.et_state.proofs.Calls.{on_begin_event, on_set_slot}
 use Rattle.et_state.proofs.Steps.{then_top, MayEnter, MayBeLost, did_led, did_make, did_on_way, led_plain, root_there, slot_there, newest_held}
-use Rattle.et_event.proofs.Taking.{replaced}
+use Rattle.et_event.proofs.Taking.{replaced, operand_in_frame, taken_or_left, taken_in_frame}
 use Rattle.et_event.specs.Checks.{entries_of}
 
 -- THE FRAME
-
-refs-append : (xs ys : List Value) → refs_of (xs ++ ys) ≡ refs_of xs ++ refs_of ys
-refs-append [] ys = refl
-refs-append (x ∷ xs) ys = ap (λ (os : List ℕ). refs_of_value x ++ os) (refs-append xs ys) ∙ sym (append_assoc (refs_of_value x) (refs_of xs) (refs_of ys))
-
-taken_or_left : (xs : List Value) (n : ℕ) → refs_of xs ≡ refs_of (take n xs) ++ refs_of (drop n xs)
-taken_or_left xs zero = refl
-taken_or_left [] (suc n) = refl
-taken_or_left (x ∷ xs) (suc n) = ap (λ (os : List ℕ). refs_of_value x ++ os) (taken_or_left xs n) ∙ sym (append_assoc (refs_of_value x) (refs_of (take n xs)) (refs_of (drop n xs)))
-
-operand_inside : (f : FrameState) (o : ℕ) → Contains (refs_of f.operands) o → Contains (frame_roots f) o
-operand_inside f o c = Contains-append_right (refs_of f.locals) _ o (Contains-append_left (refs_of f.operands) _ o c)
-
-taken_inside : (n : ℕ) (f : FrameState) (o : ℕ) → Contains (refs_of (take n f.operands)) o → Contains (frame_roots f) o
-taken_inside n f o c = operand_inside f o (subst (λ (os : List ℕ). Contains os o) (sym (taken_or_left f.operands n)) (Contains-append_left (refs_of (take n f.operands)) _ o c))
 
 -- values that may enter are put in the place of operands
 pub moves_held : (H R : ℕ → Type 0) (f : FrameState) (n pc : ℕ) (vs : List Value) → ((o : ℕ) → Contains (refs_of vs) o → H o) → ((o : ℕ) → Contains (frame_roots f) o → R o)
@@ -44,9 +30,9 @@ moves_held H R f n pc vs held there = record {
   on = λ o c. elim (Contains-append_cases (refs_of f.locals) _ o c) [
     | inl d ↦ inl (Contains-append_left (refs_of f.locals) _ o d)
     | inr d ↦ elim (Contains-append_cases (refs_of (vs ++ drop n f.operands)) _ o d) [
-      | inl e ↦ elim (Contains-append_cases (refs_of vs) (refs_of (drop n f.operands)) o (subst (λ (os : List ℕ). Contains os o) (refs-append vs (drop n f.operands)) e)) [
+      | inl e ↦ elim (Contains-append_cases (refs_of vs) (refs_of (drop n f.operands)) o (subst (λ (os : List ℕ). Contains os o) (refs_append vs (drop n f.operands)) e)) [
         | inl h ↦ inr (held o h)
-        | inr h ↦ inl (operand_inside f o (subst (λ (os : List ℕ). Contains os o) (sym (taken_or_left f.operands n)) (Contains-append_right (refs_of (take n f.operands)) _ o h)))
+        | inr h ↦ inl (operand_in_frame f o (subst (λ (os : List ℕ). Contains os o) (sym (taken_or_left f.operands n)) (Contains-append_right (refs_of (take n f.operands)) _ o h)))
       ]
       | inr e ↦ inl (Contains-append_right (refs_of f.locals) _ o (Contains-append_right (refs_of f.operands) _ o e))
     ]
@@ -56,12 +42,12 @@ moves_held H R f n pc vs held there = record {
     | inr d ↦ elim (Contains-append_cases (refs_of f.operands) _ o d) [
       | inl e ↦ elim (Contains-append_cases (refs_of (take n f.operands)) (refs_of (drop n f.operands)) o (subst (λ (os : List ℕ). Contains os o) (taken_or_left f.operands n) e)) [
         | inl h ↦ inr h
-        | inr h ↦ inl (operand_inside (replaced n vs pc f) o (subst (λ (os : List ℕ). Contains os o) (sym (refs-append vs (drop n f.operands))) (Contains-append_right (refs_of vs) _ o h)))
+        | inr h ↦ inl (operand_in_frame (replaced n vs pc f) o (subst (λ (os : List ℕ). Contains os o) (sym (refs_append vs (drop n f.operands))) (Contains-append_right (refs_of vs) _ o h)))
       ]
       | inr e ↦ inl (Contains-append_right (refs_of f.locals) _ o (Contains-append_right (refs_of (vs ++ drop n f.operands)) _ o e))
     ]
   ];
-  was = λ o c. there o (taken_inside n f o c);
+  was = λ o c. there o (taken_in_frame n f o c);
 }
 
 -- a value refers to what its entries refer to
@@ -138,7 +124,7 @@ make_led m t class elements pc m₁ m₂ m₃ sound has e₁ e₂ e₃ =
     let one : (o : ℕ) → Contains (n ∷ []) o → IsHeld b.heap o = λ o c. subst (λ (k : ℕ). IsHeld b.heap k) (newest n o c) (newest_held m.heap y) in
     did_make m t g (refs_of (take 1 f.operands)) y m₃ sound has (leads-new class elements elements) refl
     (record { is = is; moves = moves_held (MayEnter b) (MayBeLost (kept_of m) b) f 1 pc (Ref n ∷ []) one (λ o c. root_there (kept_of m) (kept_of b) o (top_root m.guest t o has c)) })
-    (operand_inside g n (Contains-here n _))
+    (operand_in_frame g n (Contains-here n _))
   where
     newest : (n o : ℕ) → Contains (n ∷ []) o → n ≡ o
     newest n o c = elim (Contains-cons n [] o c) [ inl same ↦ same | inr d ↦ absurd (Contains-none o d) ]

@@ -5,12 +5,13 @@ use Rattle.std.specs.Str.{bytes_eq}
 use Rattle.std.specs.Prelude.{◌&&◌, ◌==◌}
 use Rattle.std.proofs.lemmas.Bool.{and_parts}
 use Rattle.std.proofs.lemmas.Slice.Eq.{bytes_eq-Decides}
+use Rattle.et_heap.proofs.References.{there_is}
 use Rattle.et_base.specs.declared.value.Value.{Value}
 use Rattle.et_base.specs.declared.value.Value.TheVariants.{Unset, Int, Long, LongHigh, Null, Ref}
 use Rattle.et_base.proofs.Lists.{Contains-none}
 use Rattle.et_base.proofs.Options.{either_holds}
 use Rattle.et_base.proofs.Positions.{Passes, position_passes}
-use Rattle.et_heap.specs.Objects.{ObjectState, Objects, IsHeld, at, found, is_there, object_at}
+use Rattle.et_heap.specs.Objects.{Objects, IsHeld, at, object_at}
 use Rattle.et_heap.specs.Refs.{refs_of_value}
 use Rattle.et_program.specs.declared.info.FieldInfo.{FieldInfo}
 use Rattle.et_program.specs.Entries.{Linked, field_at, no_field}
@@ -26,10 +27,6 @@ use Rattle.et_refs.specs.Changes.{is_number}
 use Rattle.et_refs.specs.Reads.{IsSoundHeap}
 
 -- OBJECTS
-
-there_is : (x : Option ObjectState) → is_there x → x ≡ Some (found x)
-there_is None h = absurd h
-there_is (Some x) h = refl
 
 -- the class of one that is held is a class of the program
 pub class_within : (p : Linked) (heap : Objects) (o : ℕ) → IsSoundHeap p heap → IsHeld heap o → (object_at heap o).class < length p.classes

@@ -4,7 +4,7 @@ use Rattle.std.specs.List.{flat_map}
 use Rattle.std.proofs.lemmas.List.{map-append, reverse-append, reverse-reverse, take-append-drop}
 use Rattle.std.proofs.lemmas.Grind.{flat_map-append}
 use Rattle.std.proofs.lemmas.List.Elements.{Contains-append_left, Contains-append_right, Contains-append_cases}
-use Rattle.et_heap.proofs.References.{none_unset}
+use Rattle.et_heap.proofs.References.{none_unset, refs_append}
 use Rattle.et_base.specs.declared.value.Value.{Value}
 use Rattle.et_base.specs.declared.value.Value.TheVariants.{Unset}
 use Rattle.et_base.proofs.Lists.{Contains-none}
@@ -159,9 +159,6 @@ leads-new class elements n = append-nil (refs_of (replicate n Unset)) ∙ none_u
 -- the locals of a frame that begins refer to what its arguments refer to
 pub refs_of-locals_with : (n : ℕ) (vs : List Value) → refs_of (locals_with n vs) ≡ refs_of vs ++ []
 refs_of-locals_with n vs = flat_map-append refs_of_value vs (replicate (n - length vs) Unset) ∙ ap (λ os. refs_of vs ++ os) (none_unset (n - length vs))
-
-refs_append : (vs ws : List Value) → refs_of (vs ++ ws) ≡ refs_of vs ++ refs_of ws
-refs_append vs ws = flat_map-append refs_of_value vs ws
 
 pub refs_reversed : (vs : List Value) (o : ℕ) → Contains (refs_of (reverse vs)) o → Contains (refs_of vs) o
 refs_reversed [] o c = c

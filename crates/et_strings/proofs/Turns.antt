@@ -2,13 +2,14 @@
 use Rattle.std.proofs.Common.{◌≡◌, ℕ, [], Option, Some, None, Result, Ok, Err, inl, inr, refl, sym, ap, subst, ◌∙◌}
 use Rattle.std.specs.Option.{option_map_or}
 use Rattle.std.specs.Prelude.{◌⊎◌, option_and_then, IsSome}
+use Rattle.et_refs.proofs.OutPlaces.{out_at_place}
 use Rattle.et_code.specs.declared.instr.Instr.{Instr}
 use Rattle.et_code.specs.declared.instr.CodeFault.{CodeFault}
 use Rattle.et_event.specs.Calls.{arguments_of}
 use Rattle.et_event.specs.Families.{row_at}
 use Rattle.et_event.specs.Frames.{first_reference}
 use Rattle.et_event.specs.Moments.{Moment, current_frame, moment}
-use Rattle.et_event.specs.Out.{OutRead, out_at, out_by, out_turn}
+use Rattle.et_event.specs.Out.{OutRead, out_at, out_turn}
 use Rattle.et_event.specs.Selected.{TextCall, text_call, text_call_at, text_call_by, text_call_in}
 use Rattle.et_event.specs.Sites.{Site, decoded_at, site_of}
 use Rattle.et_event.specs.TextRows.{said_in, text_row}
@@ -17,7 +18,7 @@ use Rattle.et_event.specs.declared.rows.CallKind.{CallKind}
 use Rattle.et_event.specs.declared.rows.CallRow.TheVariants.{Invoke}
 use Rattle.et_event.specs.declared.rows.Row.{Row}
 use Rattle.et_event.specs.declared.rows.Row.TheVariants as row
-use Rattle.et_event.proofs.OutTurns.{out_at_no_row, out_at_turn, out_instructs}
+use Rattle.et_event.proofs.OutTurns.{out_at_no_row, out_instructs}
 use Rattle.et_event.proofs.Told.{call-blind, out_no_call}
 use Rattle.et_event.specs.Places.{IsPlace}
 use Rattle.et_event.specs.declared.places.Place.{Place}
@@ -77,14 +78,6 @@ text_at_place p m t place turn is =
     ∙ (ap (λ (d : Result (Instr × ℕ) CodeFault). text_call_by e d) is.decoded
     ∙ (ap (λ (r : Option Row). option_and_then (text_call_at e (site_of p (current_frame e) (place.site.instr, place.site.next))) r) is.row
     ∙ ap (λ (at : Site). text_call_at e at place.row) (sym is.site)))
-
-out_at_place : (p : Linked) (m : MachineState) (t : ℕ) (place : Place) → turn_of (thread_at m.guest t) ≡ Instruction → IsPlace p (top m.guest t) place → out_turn p (kept_of m) t ≡ out_at (moment p m t) place.site place.row
-out_at_place p m t place turn is =
-    let e : Moment = moment p m t in
-    out_at_turn p (kept_of m) t Instruction turn
-    ∙ (ap (λ (d : Result (Instr × ℕ) CodeFault). out_by e d) is.decoded
-    ∙ (ap (λ (r : Option Row). option_and_then (out_at e (site_of p (current_frame e) (place.site.instr, place.site.next))) r) is.row
-    ∙ ap (λ (at : Site). out_at e at place.row) (sym is.site)))
 
 -- THE ROW
 

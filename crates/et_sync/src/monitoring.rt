@@ -96,7 +96,7 @@ fn monitorexit<L: Ledger>(
 /// to which a legal step led, and the records of the event stand behind those that were there; `Waited`, and then only the
 /// clock has gone on; or `IllTyped` or `ObjectLimit`, and then machine and records are as before. After `NoMemory` the
 /// machine may have one object more, to which nothing refers, and there may be its record; all else is as before.
-#[tactic(auto, using(crate::proofs::Monitored::reference_held, crate::proofs::Monitored::null_each, crate::proofs::Monitored::ill_typed_row))]
+#[tactic(auto, using(et_event::proofs::Referred::reference_held, crate::proofs::Monitored::null_each, crate::proofs::Monitored::ill_typed_row))]
 pub(crate) fn monitor_row_event<L: Ledger>(
     program: &Program,
     machine: &mut Machine,

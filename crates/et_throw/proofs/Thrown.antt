@@ -1,11 +1,10 @@
 -- `athrow`.
-use Rattle.std.proofs.Common.{◌≡◌, ℕ, ◌<◌, Bool, true, false, List, [], ◌∷◌, length, get_or, Some, None, option_to_list, refl, sym, ◌∙◌, ap, subst, Contains, append-nil, arith}
+use Rattle.std.proofs.Common.{◌≡◌, ℕ, Bool, true, false, List, [], ◌∷◌, length, get_or, Some, None, option_to_list, sym, ◌∙◌, ap, subst, append-nil}
 use Rattle.std.specs.Prelude.{Result, IfOk}
+use Rattle.et_event.proofs.Referred.{no_reference}
 use Rattle.et_base.specs.declared.value.Value.{Value}
 use Rattle.et_base.specs.declared.value.Value.TheVariants.{Unset, Int, Long, LongHigh, Null, Ref}
-use Rattle.et_base.proofs.Lists.{Contains-here}
 use Rattle.et_heap.specs.Objects.{IsHeld}
-use Rattle.et_heap.specs.Refs.{refs_of_value}
 use Rattle.et_program.specs.Entries.{Linked}
 use Rattle.et_state.specs.Threads.{operand_of, with_pending}
 use Rattle.et_state.specs.State.{Kept, MachineState, kept_of}
@@ -14,7 +13,7 @@ use Rattle.et_state.specs.Sound.{IsSound}
 use Rattle.et_state.specs.Moves.{IsOnWay, Led}
 use Rattle.et_state.proofs.Places.{pending_root}
 use Rattle.et_state.proofs.Calls.{on_begin_event, on_throw}
-use Rattle.et_state.proofs.Steps.{led_plain, operand_held, root_there}
+use Rattle.et_state.proofs.Steps.{led_plain, root_there}
 use Rattle.et_state.specs.declared.records.Record.{Record}
 use Rattle.et_state.specs.declared.ends.EventEnd.{EventEnd}
 use Rattle.et_state.specs.declared.ends.EventEnd.TheVariants as ends
@@ -37,29 +36,6 @@ reference_taken refused go (Long n ∷ below) r e = cc
 reference_taken refused go (LongHigh ∷ below) r e = cc
 reference_taken {A} refused go (Null ∷ below) r e = let same : None ≡ r = cc in (below, ap (λ (x : Reference). go x below) same)
 reference_taken {A} refused go (Ref o ∷ below) r e = let same : Some o ≡ r = cc in (below, ap (λ (x : Reference). go x below) same)
-
-pub no_reference : {A : Type 0} (refused : A) (go : Reference → List Value → A) (ops : List Value) → entry_reference (get_or ops 0 Unset) ≡ None → with_reference refused ops go ≡ refused
-no_reference refused go [] e = refl
-no_reference refused go (Unset ∷ below) e = refl
-no_reference refused go (Int n ∷ below) e = refl
-no_reference refused go (Long n ∷ below) e = refl
-no_reference refused go (LongHigh ∷ below) e = refl
-no_reference refused go (Null ∷ below) e = cc
-no_reference refused go (Ref o ∷ below) e = cc
-
-on_top : (ops : List Value) (o : ℕ) → entry_reference (get_or ops 0 Unset) ≡ Some (Some o) → (0 < length ops) × (get_or ops 0 Unset ≡ Ref o)
-on_top [] o e = cc
-on_top (Unset ∷ below) o e = cc
-on_top (Int n ∷ below) o e = cc
-on_top (Long n ∷ below) o e = cc
-on_top (LongHigh ∷ below) o e = cc
-on_top (Null ∷ below) o e = cc
-on_top (Ref q ∷ below) o e = let same : q ≡ o = cc in (omega arith, ap (λ (k : ℕ). Ref k) same)
-
-pub reference_held : (m : MachineState) (t o : ℕ) → IsSound (kept_of m) → HasFrame m.guest t → entry_reference (operand_of (top m.guest t) 0) ≡ Some (Some o) → IsHeld m.heap o
-reference_held m t o sound has e =
-    let h = on_top (top m.guest t).operands o e in
-    operand_held m t 0 sound has h.0 o (subst (λ (v : Value). Contains (refs_of_value v) o) (sym h.1) (Contains-here o []))
 
 -- THE EVENT
 

@@ -1,14 +1,16 @@
 -- A thread that unwinds an exception has a frame, and what it pends is an object of the program.
-use Rattle.std.proofs.Common.{◌≡◌, ℕ, zero, suc, ◌+◌, ◌<◌, ◌^◌, Bool, true, false, List, [], ◌∷◌, length, Option, Some, None, option_to_list, refl, sym, ap, subst, arith, Contains}
-use Rattle.std.specs.Prelude.{if◌then◌else◌, slice_index_or}
+use Rattle.std.proofs.Common.{◌≡◌, ℕ, ◌+◌, ◌<◌, ◌^◌, Bool, true, false, List, [], ◌∷◌, length, Option, Some, None, option_to_list, refl, sym, ap, subst, arith, Contains}
+use Rattle.std.specs.Prelude.{if◌then◌else◌}
 use Rattle.std.specs.Option.{is_some}
+use Rattle.et_event.proofs.Running.{runs_staged, some_frame, started}
+use Rattle.et_heap.proofs.References.{there_is}
 use Rattle.et_base.specs.declared.value.Value.{Value}
 use Rattle.et_program.specs.Entries.{Linked}
-use Rattle.et_heap.specs.Objects.{ObjectState, IsHeld, at, found, is_there, object_at}
+use Rattle.et_heap.specs.Objects.{IsHeld, at, found, object_at}
 use Rattle.et_state.specs.declared.stage.Stage.{Stage}
 use Rattle.et_state.specs.declared.stage.Stage.TheVariants.{Plain, Before, Clinit}
 use Rattle.et_state.specs.declared.stage.Turn.TheVariants.{Unwind, EndThread, Entry, Initialize, Instruction}
-use Rattle.et_state.specs.Threads.{FrameState, ThreadState, no_thread, turn_of, has_frame, is_before_class, first_frame, top_of}
+use Rattle.et_state.specs.Threads.{FrameState, ThreadState, turn_of, has_frame, is_before_class, first_frame, top_of}
 use Rattle.et_state.specs.State.{GuestState, Kept, MachineState, kept_of}
 use Rattle.et_state.specs.Words.{thread_at, top, HasFrame}
 use Rattle.et_state.specs.Sound.{IsSound}
@@ -29,15 +31,6 @@ by_parts false true false entered e = cc
 by_parts false false before true e = cc
 by_parts false false before false e = cc
 
-some_frame : (fs : List FrameState) → has_frame fs ≡ true → 0 < length fs
-some_frame [] e = cc
-some_frame (f ∷ fs) e = omega arith
-
-started : (ts : List ThreadState) (t : ℕ) → has_frame (slice_index_or ts t no_thread).frames ≡ true → t < length ts
-started [] t e = cc
-started (x ∷ xs) zero e = omega arith
-started (x ∷ xs) (suc t) e = let h : t < length xs = started xs t e in omega arith
-
 pub unwinds_frame : (g : GuestState) (t : ℕ) → turn_of (thread_at g t) ≡ Unwind → HasFrame g t
 unwinds_frame g t e =
     let x : ThreadState = thread_at g t in
@@ -53,15 +46,8 @@ first_staged p (f ∷ fs) h sound = sound.0
 pub top_staged : (p : Linked) (s : Kept) (t : ℕ) → IsSoundFor p s → HasFrame s.guest t → IsStaged p (top s.guest t) (top s.guest t).stage (top s.guest t).method
 top_staged p s t sound has = first_staged p (thread_at s.guest t).frames has.frame (sound.threads t has.thread).frames
 
-runs_by : (p : Linked) (f : FrameState) (stage : Stage) (method : Option ℕ) → f.method ≡ method → is_before_class stage ≡ false → IsStaged p f stage method → Runs p f
-runs_by p f Plain (Some m) e b h = record { method = m; named = e; runs = h.0 }
-runs_by p f Plain None e b h = absurd h
-runs_by p f (Before c) method e b h = cc
-runs_by p f (Clinit c) (Some m) e b h = record { method = m; named = e; runs = h.1 }
-runs_by p f (Clinit c) None e b h = absurd h
-
-pub runs_staged : (p : Linked) (s : Kept) (t : ℕ) → IsSoundFor p s → HasFrame s.guest t → is_before_class (top s.guest t).stage ≡ false → Runs p (top s.guest t)
-runs_staged p s t sound has b = runs_by p (top s.guest t) (top s.guest t).stage (top s.guest t).method refl b (top_staged p s t sound has)
+pub top_runs : (p : Linked) (s : Kept) (t : ℕ) → IsSoundFor p s → HasFrame s.guest t → is_before_class (top s.guest t).stage ≡ false → Runs p (top s.guest t)
+top_runs p s t sound has b = runs_staged p (top s.guest t) (top s.guest t).stage (top s.guest t).method refl b (top_staged p s t sound has)
 
 -- WHAT IT PENDS
 
@@ -69,10 +55,6 @@ pub pending_held : (s : Kept) (t o : ℕ) → IsSound s → t < length s.guest.t
 pending_held s t o sound lt e =
     let here : Contains (option_to_list (thread_at s.guest t).pending) o = subst (λ (q : Option ℕ). Contains (option_to_list q) o) (sym e) (0, omega arith, refl) in
     sound.roots o (pending_root s.guest t o lt here)
-
-there_is : (x : Option ObjectState) → is_there x → x ≡ Some (found x)
-there_is None h = absurd h
-there_is (Some x) h = refl
 
 pub class_there : (p : Linked) (s : Kept) (o : ℕ) → IsSoundFor p s → IsHeld s.heap o → (object_at s.heap o).class < length p.classes
 class_there p s o sound held = (sound.objects o (found (at s.heap o)) (there_is (at s.heap o) held)).0.class

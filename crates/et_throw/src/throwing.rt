@@ -58,7 +58,7 @@ fn is_exception<L: Ledger>(
 /// then the machine keeps the next state, to which a legal step led, and the records of the event stand behind those that
 /// were there; or `IllTyped` or `ObjectLimit`, and then machine and records are as before. After `NoMemory` the machine may
 /// have one object more, to which nothing refers, and there may be its record; all else is as before.
-#[tactic(auto, using(crate::proofs::Thrown::reference_held, crate::proofs::Thrown::thrown_by_null, crate::proofs::Thrown::thrown_answers, crate::proofs::Thrown::no_throwable, crate::proofs::Thrown::nothing_thrown))]
+#[tactic(auto, using(et_event::proofs::Referred::reference_held, crate::proofs::Thrown::thrown_by_null, crate::proofs::Thrown::thrown_answers, crate::proofs::Thrown::no_throwable, crate::proofs::Thrown::nothing_thrown))]
 pub(crate) fn athrow_event<L: Ledger>(
     program: &Program,
     machine: &mut Machine,

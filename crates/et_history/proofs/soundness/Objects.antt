@@ -4,6 +4,7 @@ use Rattle.std.specs.Prelude.{codes}
 use Rattle.std.proofs.lemmas.Bool.{cases_eq, cases_lt}
 use Rattle.std.proofs.lemmas.List.{length-set, length-append, get_or-set_other, get_or_append_left, get_or-append_right}
 use Rattle.std.proofs.lemmas.Option.{same_Some}
+use Rattle.et_heap.proofs.References.{there_is}
 use Rattle.et_program.specs.Entries.{Linked}
 use Rattle.et_program.specs.Members.{is_subclass}
 use Rattle.et_heap.proofs.HeapLists.{held_within}
@@ -15,7 +16,6 @@ use Rattle.et_event.specs.Errors.{class_called}
 use Rattle.et_event.specs.Sound.{HasThreadObject, IsSoundObject, IsSoundMonitor}
 use Rattle.et_history.specs.soundness.WellFormed.{IsWellFormed}
 use Rattle.et_history.proofs.soundness.Growing.{free_is_sound}
-use Rattle.et_event.proofs.There.{there_is}
 
 abbrev pub heap_now : Kept → Objects → Kept
 heap_now s heap = record { heap = heap; guest = s.guest }

@@ -1,8 +1,9 @@
 -- The event of a thread that has not ended, by its turn.
-use Rattle.std.proofs.Common.{◌≡◌, ℕ, ◌<◌, ◌^◌, Bool, true, false, List, [], ◌∷◌, length, Option, Some, None, Ok, refl, sym, subst, arith}
+use Rattle.std.proofs.Common.{◌≡◌, ℕ, ◌<◌, ◌^◌, Bool, true, false, List, [], ◌∷◌, length, Option, Some, None, Ok, refl, sym, subst}
 use Rattle.std.specs.Prelude.{pos, if◌then◌else◌}
 use Rattle.std.specs.Option.{is_some}
-use Rattle.std.proofs.lemmas.Bool.{false≢true, true≢false}
+use Rattle.std.proofs.lemmas.Bool.{true≢false}
+use Rattle.et_event.proofs.Running.{some_frame}
 use Rattle.et_state.proofs.Steps.{with_first}
 use Rattle.et_base.specs.declared.value.Value.TheVariants.{Ref}
 use Rattle.et_code.specs.declared.body.TableRow.{TableRow}
@@ -50,10 +51,6 @@ parts_of false false before false = record { unwind = λ e. cc; entry = λ e. re
 
 pub parts : (x : ThreadState) → HasParts (is_some x.pending) (has_frame x.frames) (is_before_class (top_of x).stage) x.entered (turn_of x)
 parts x = parts_of (is_some x.pending) (has_frame x.frames) (is_before_class (top_of x).stage) x.entered
-
-pub some_frame : (fs : List FrameState) → has_frame fs ≡ true → 0 < length fs
-some_frame [] e = absurd (false≢true e)
-some_frame (f ∷ fs) e = omega arith
 
 pub no_frame : (fs : List FrameState) → has_frame fs ≡ false → fs ≡ []
 no_frame [] e = refl

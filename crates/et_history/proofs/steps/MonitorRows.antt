@@ -3,6 +3,7 @@ use Rattle.std.proofs.Common.{◌≡◌, ℕ, Bool, true, false, List, [], ◌�
 use Rattle.std.specs.Prelude.{if◌then◌else◌, is_some}
 use Rattle.std.specs.Option.{option_or}
 use Rattle.std.proofs.lemmas.Option.{none-some}
+use Rattle.et_event.proofs.Running.{some_frame}
 use Rattle.et_base.specs.declared.value.Value.{Value}
 use Rattle.et_base.specs.declared.value.Value.TheVariants.{Unset, Int, Long, LongHigh, Null, Ref}
 use Rattle.et_base.proofs.Options.{is_none}
@@ -42,7 +43,7 @@ use Rattle.et_history.proofs.steps.Turns.{event_leads}
 use Rattle.et_history.proofs.steps.WaitingLists.{KeepLists}
 use Rattle.et_history.proofs.steps.Words.{Still, level, begun, thread_now, top_still, instance_still, pending_still, given_up_still}
 use Rattle.et_event.specs.Runnable.{IsRunnable}
-use Rattle.et_history.proofs.soundness.Turning.{parts, some_frame}
+use Rattle.et_history.proofs.soundness.Turning.{parts}
 use Rattle.et_history.proofs.soundness.Outcomes.{if_case}
 use Rattle.et_state.specs.Outcome as outcome
 use Rattle.et_event.specs.declared.errors.GuestError.TheVariants as errors

@@ -24,7 +24,7 @@ use Rattle.et_program.specs.declared.info.MethodInfo.{MethodInfo}
 use Rattle.et_history.proofs.soundness.Arrays.{names_class}
 use Rattle.et_history.proofs.soundness.Entering.{StandsIn, stands_in}
 use Rattle.et_history.proofs.soundness.Frames.{RunsSome, runs_some}
-use Rattle.et_history.proofs.soundness.Turning.{class_by, parts, runs_by, some_frame}
+use Rattle.et_history.proofs.soundness.Turning.{class_by, parts, runs_by}
 use Rattle.et_history.proofs.soundness.Wholes.{sound}
 use Rattle.et_history.proofs.soundness.Classes.{base_is_array}
 use Rattle.et_state.specs.State.{Kept}
@@ -42,6 +42,7 @@ use Rattle.et_history.specs.steps.Holding.{monitor_row, monitor_row_at, row_deco
 use Rattle.et_history.specs.steps.Steps.{IsAtMonitor, IsFramed, IsMethodOf, Leads}
 use Rattle.std.proofs.Common.{Err, List, None, Ok, Option, Result, Some, ap, arith, length, refl, subst, sym, true, ℕ, ◌<◌, ◌∙◌, ◌∷◌, ◌≡◌}
 use Rattle.std.specs.Prelude.{IfSome, IsSome, unwrap_or}
+use Rattle.et_event.proofs.Running.{some_frame}
 use Rattle.et_state.proofs.Steps.{with_first}
 use Rattle.et_base.proofs.Options.{some-none}
 use Rattle.et_event.specs.declared.rows.Row.TheVariants as row

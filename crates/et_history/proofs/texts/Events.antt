@@ -1,5 +1,6 @@
 -- The events of a state with texts, by those of the table and by the rows of texts.
 use Rattle.std.proofs.Common.{◌≡◌, ℕ, ◌<◌, ◌^◌, List, Option, Some, None, Result, Ok, refl, sym, ◌∙◌, ap, subst, inl, inr}
+use Rattle.et_event.proofs.Running.{some_frame}
 use Rattle.et_code.specs.declared.instr.Instr.{Instr}
 use Rattle.et_code.specs.declared.instr.CodeFault.{CodeFault}
 use Rattle.et_program.specs.Entries.{Linked}
@@ -29,7 +30,7 @@ use Rattle.et_event.specs.declared.rows.Row.{Row}
 use Rattle.et_event.specs.declared.rows.Row.TheVariants.{Call, Heap}
 use Rattle.et_event.proofs.Beside.{sound-spoken, held-spoken}
 use Rattle.et_history.specs.soundness.WellFormed.{StandsAt}
-use Rattle.et_history.proofs.soundness.Turning.{parts, stands_at, some_frame}
+use Rattle.et_history.proofs.soundness.Turning.{parts, stands_at}
 use Rattle.et_history.proofs.steps.Calls.{arguments_fine}
 use Rattle.et_history.proofs.steps.Folding.{MadeOf, comes_so}
 use Rattle.et_history.proofs.steps.Held.{Ready, first_fine}

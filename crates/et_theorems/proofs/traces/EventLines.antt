@@ -1,14 +1,15 @@
 -- The records of an event are such that their lines keep the rules.
-use Rattle.std.proofs.Common.{◌≡◌, ℕ, zero, suc, ◌+◌, ◌*◌, ◌/◌, ◌%◌, ◌<◌, ◌≤◌, ◌^◌, ◌⊎◌, Bool, true, false, List, [], ◌∷◌, length, Option, Some, None, All, refl, sym, ap, subst, inl, inr, arith}
+use Rattle.std.proofs.Common.{◌≡◌, ℕ, zero, suc, ◌+◌, ◌*◌, ◌/◌, ◌%◌, ◌<◌, ◌≤◌, ◌^◌, ◌⊎◌, Bool, true, false, List, [], ◌∷◌, length, Option, All, refl, sym, ap, subst, inl, inr, arith}
 use Rattle.std.specs.Prelude.{if◌then◌else◌, nat_le}
 use Rattle.std.proofs.Math.Nat.{mod-lt}
 use Rattle.std.proofs.lemmas.Bool.{and_parts, leb-true}
 use Rattle.std.proofs.lemmas.List.Sums.{sum_by-cons}
 use Rattle.std.proofs.lemmas.Nat.{div-add-mod'}
+use Rattle.et_heap.proofs.References.{there_is}
 use Rattle.et_program.specs.Entries.{Linked, class_at}
 use Rattle.et_program.specs.declared.info.Element.{Element}
 use Rattle.et_program.specs.declared.info.Element.TheVariants.{NoArray, Base, Class}
-use Rattle.et_heap.specs.Objects.{ObjectState, Objects, IsHeld, at, found, is_there, object_at, made_count, slot_count, slots_in, most_objects, most_slots}
+use Rattle.et_heap.specs.Objects.{ObjectState, Objects, IsHeld, at, object_at, made_count, slot_count, slots_in, most_objects, most_slots}
 use Rattle.et_heap.proofs.HeapLists.{held_within}
 use Rattle.et_state.specs.Naming.{Names}
 use Rattle.et_state.specs.Naming as naming
@@ -61,10 +62,6 @@ slots_within : (heap : Objects) (o : ℕ) → slots_in (at heap o) ≤ slot_coun
 slots_within [] o = omega arith
 slots_within (x ∷ xs) zero = let e = sum_by-cons slots_in x xs in omega arith
 slots_within (x ∷ xs) (suc o) = let le = slots_within xs o in let e = sum_by-cons slots_in x xs in omega arith
-
-there_is : (x : Option ObjectState) → is_there x → x ≡ Some (found x)
-there_is None h = absurd h
-there_is (Some x) h = refl
 
 module _ (p : Linked) (s : Kept) (sound : IsSoundFor p s) where
   pub few_made : length s.heap ≤ 2 ^ 24

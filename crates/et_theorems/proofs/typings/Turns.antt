@@ -2,6 +2,7 @@
 use Rattle.std.proofs.Common.{◌≡◌, ℕ, ◌<◌, Bool, true, false, List, [], ◌∷◌, length, Option, Some, None, refl, sym, subst}
 use Rattle.std.specs.Prelude.{if◌then◌else◌, is_some, ◌^◌}
 use Rattle.std.proofs.lemmas.Bool.{false≢true}
+use Rattle.et_event.proofs.Running.{some_frame}
 use Rattle.et_state.proofs.Steps.{with_first}
 use Rattle.et_base.proofs.Options.{is_none}
 use Rattle.et_event.specs.Event.{does_turn, initializes}
@@ -9,7 +10,7 @@ use Rattle.et_event.specs.Throw.{unwinding_step}
 use Rattle.et_event.specs.Moments.{Moment, begins, current_frame, thread_of}
 use Rattle.et_event.specs.Runnable.{IsRunnable}
 use Rattle.et_event.specs.Sound.{AreSoundFrames, IsSoundFor, IsStaged}
-use Rattle.et_history.proofs.soundness.Turning.{no_frame, some_frame}
+use Rattle.et_history.proofs.soundness.Turning.{no_frame}
 use Rattle.et_state.specs.Outcome.{Outcome}
 use Rattle.et_state.specs.State.{Kept}
 use Rattle.et_state.specs.Threads.{FrameState, as_ended, has_frame, is_before_class, rest_of, turn_of}

@@ -3,7 +3,7 @@ use Rattle.et_state.specs.declared.stage.Stage.{Stage}
 use Rattle.et_state.specs.declared.stage.Stage.TheVariants.{Plain, Before, Clinit}
 use Rattle.et_state.specs.Threads.{is_before_class}
 use Rattle.et_state.specs.State.{kept_of}
-use Rattle.et_throw.proofs.Turning.{of_class, runs_staged, before_there, clinit_there, unwinds_there}
+use Rattle.et_throw.proofs.Turning.{of_class, top_runs, before_there, clinit_there, unwinds_there}
 use Rattle.et_throw.proofs.Turns.{turn_answers}
 use Rattle.et_throw.proofs.unwinding.unwinding_event.Goals as goal
 
@@ -15,7 +15,7 @@ unwind_method-requires-clause-thrown g c = of_class c.args.program.now c.args.ma
 
 pub unwind_method-requires-clause-runs : goal.unwind_method-requires-clause-runs
 unwind_method-requires-clause-runs g c =
-    runs_staged c.args.program.now (kept_of c.args.machine.now) c.args.thread c.requires.sound (unwinds_there c.args.program.now c.args.machine.now c.args.thread c.in-Some.exception c.requires.sound c.requires.clock c.requires.turn (sym c.pending.ensures ∙ c.in-Some.is)).frame (ap (λ (s : Stage). is_before_class s) (sym c.stage.ensures ∙ c.in-Plain.is))
+    top_runs c.args.program.now (kept_of c.args.machine.now) c.args.thread c.requires.sound (unwinds_there c.args.program.now c.args.machine.now c.args.thread c.in-Some.exception c.requires.sound c.requires.clock c.requires.turn (sym c.pending.ensures ∙ c.in-Some.is)).frame (ap (λ (s : Stage). is_before_class s) (sym c.stage.ensures ∙ c.in-Plain.is))
 
 pub fail_event-requires-clause-thrown : goal.fail_event-requires-clause-thrown
 fail_event-requires-clause-thrown g c = of_class c.args.program.now c.args.machine.now c.args.thread c.in-Some.exception c.class_of-class.result (unwinds_there c.args.program.now c.args.machine.now c.args.thread c.in-Some.exception c.requires.sound c.requires.clock c.requires.turn (sym c.pending.ensures ∙ c.in-Some.is)) c.class_of-class.ensures.class
@@ -31,7 +31,7 @@ unwind_method-requires-in-Clinit-clause-thrown g c = of_class c.args.program.now
 
 pub unwind_method-requires-in-Clinit-clause-runs : goal.unwind_method-requires-in-Clinit-clause-runs
 unwind_method-requires-in-Clinit-clause-runs g c =
-    runs_staged c.args.program.now (kept_of c.args.machine.now) c.args.thread c.requires.sound (unwinds_there c.args.program.now c.args.machine.now c.args.thread c.in-Some.exception c.requires.sound c.requires.clock c.requires.turn (sym c.pending.ensures ∙ c.in-Some.is)).frame (ap (λ (s : Stage). is_before_class s) (sym c.stage.ensures ∙ c.in-Clinit.is))
+    top_runs c.args.program.now (kept_of c.args.machine.now) c.args.thread c.requires.sound (unwinds_there c.args.program.now c.args.machine.now c.args.thread c.in-Some.exception c.requires.sound c.requires.clock c.requires.turn (sym c.pending.ensures ∙ c.in-Some.is)).frame (ap (λ (s : Stage). is_before_class s) (sym c.stage.ensures ∙ c.in-Clinit.is))
 
 pub unwind_method-requires-in-Clinit-clause-clinit : goal.unwind_method-requires-in-Clinit-clause-clinit
 unwind_method-requires-in-Clinit-clause-clinit g c = clinit_there c.args.program.now (kept_of c.args.machine.now) c.args.thread c.in-Clinit.class c.requires.sound (unwinds_there c.args.program.now c.args.machine.now c.args.thread c.in-Some.exception c.requires.sound c.requires.clock c.requires.turn (sym c.pending.ensures ∙ c.in-Some.is)).frame (sym c.stage.ensures ∙ c.in-Clinit.is)
