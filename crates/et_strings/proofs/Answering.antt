@@ -117,10 +117,6 @@ rewrites-limit e o units d short many =
     let total : ℕ = text_units (with_text o units d.state.guest.texts) in
     shorter e o units d short ∙ ap (λ (b : Bool). ending o units d b) (both_full (fits_heap d.state.heap) (nat_le total most_units) (lt-leb total most_units many))
 
--- .. and all objects don't
-pub rewrites-full : (e : Moment) (o : ℕ) (units : List ℕ) (d : Doing) → length units ≤ longest_text → fits_heap d.state.heap ≡ false → rewrites e (begins e) o units d ≡ outcome.ObjectLimit
-rewrites-full e o units d short full = shorter e o units d short ∙ ap (λ (b : Bool). ending o units d (b && nat_le (text_units (with_text o units d.state.guest.texts)) most_units)) full
-
 -- it is too long
 pub rewrites-throws : (e : Moment) (o : ℕ) (units : List ℕ) (d : Doing) → longest_text < length units → rewrites e (begins e) o units d ≡ throws e OutOfMemoryError (begins e)
 rewrites-throws e o units d long = ap (λ (b : Bool). throws_unless e (begins e) OutOfMemoryError b (ends_with_texts (text_given o units d))) (lt-leb (length units) longest_text long)

@@ -1,5 +1,5 @@
 -- What is printed where a row is done.
-use Rattle.std.proofs.Common.{◌≡◌, ℕ, ◌++◌, List, [], true, false, Bool, refl, sym, ap, subst, ◌∙◌}
+use Rattle.std.proofs.Common.{◌≡◌, ℕ, ◌++◌, List, [], true, false, Bool, Some, sym, ap, subst, ◌∙◌}
 use Rattle.std.specs.Prelude.{IfOk, OnOk, Ok, Err, Result, unwrap_or}
 use Rattle.et_base.specs.declared.value.Value.{Value}
 use Rattle.et_event.specs.Answered.{TextAnswers}
@@ -8,7 +8,7 @@ use Rattle.et_event.specs.Calls.{arguments_of}
 use Rattle.et_event.specs.Checks.{ill_typed_unless}
 use Rattle.et_event.specs.Moments.{begins, goes}
 use Rattle.et_event.specs.Sites.{Site}
-use Rattle.et_event.specs.TextRows.{is_fit_text, said_in, said_of_method, text_done}
+use Rattle.et_event.specs.TextRows.{is_fit_text, said_of_method, text_done, text_row}
 use Rattle.et_program.specs.BootTexts.TextMethod.{TextMethod}
 use Rattle.et_program.specs.Entries.{Linked}
 use Rattle.et_state.specs.Answers.{SaysWhereDone}
@@ -19,7 +19,7 @@ use Rattle.et_state.specs.Words.{top}
 use Rattle.et_state.specs.declared.ends.EventEnd.{EventEnd}
 use Rattle.et_state.specs.declared.ends.EventEnd.TheVariants as ends
 use Rattle.et_state.specs.declared.records.Record.{Record}
-use Rattle.et_strings.specs.Calls.{AnswersRow, AnswersText, IsCalled, SaysRow, call_made, text_moment}
+use Rattle.et_strings.specs.Calls.{AnswersText, IsCalled, SaysRow, call_made, text_moment}
 use Rattle.et_strings.specs.declared.calls.TextCalled.{TextCalled}
 use Rattle.et_event.proofs.Answering.{if_ok}
 use Rattle.et_strings.proofs.Answering.{giving, ill-beside, says}
@@ -53,6 +53,9 @@ prints-row p m m' x c method r old new bytes named called h same is =
 
 -- THE TEST OF THE CLASSES
 
+abbrev AnswersRow : Linked → TextCalled → EventEnd → (m m' : MachineState) → (x x' : Texts) → (out out' : List Record) → Type 0
+AnswersRow p c end m m' x x' out out' = (at : Site) → at.next ≡ c.called.next → TextAnswers (text_row (text_moment p m x c.called.thread) (call_made p m x c at) (Some c.object)) end m m' x x' out out'
+
 pub row-done : (p : Linked) (c : TextCalled) (end : EventEnd) (m m' : MachineState) (x x' : Texts) (out out' : List Record)
     → is_fit_text (text_moment p m x c.called.thread) (begins (text_moment p m x c.called.thread)) (arguments_of (text_moment p m x c.called.thread) c.called.count) c.object c.method ≡ true
     → AnswersText c.method p c end m m' x x' out out' → AnswersRow p c end m m' x x' out out'
@@ -67,6 +70,3 @@ row-refused p c end m x out refused is = λ at same.
     let e = text_moment p m x c.called.thread in
     subst (λ (k : Outcome Kept). TextAnswers k end m m x x out out) (sym (ap (λ (b : Bool). ill_typed_unless e b (text_done e at (begins e) (arguments_of e c.called.count) c.object c.method)) refused))
     (ill-beside p m x c.called.thread end out is)
-
-pub refused-says : (p : Linked) (c : TextCalled) (end : EventEnd) (m : MachineState) (x : Texts) (method pc : ℕ) (old : List ℕ) → end ≡ ends.IllTyped method pc → SaysRow p c end m x old old
-refused-says p c end m x method pc old is = λ at same. subst (λ (k : EventEnd). SaysWhereDone k (said_in (text_moment p m x c.called.thread) (call_made p m x c at)) old old) (sym is) refl

@@ -1,5 +1,5 @@
 -- The event in which a string is made of a text.
-use Rattle.std.proofs.Common.{◌≡◌, ℕ, ◌<◌, ◌≤◌, List, [], ◌∷◌, ◌++◌, length, drop, All, Option, Some, None, refl, sym, ap, subst, ◌∙◌}
+use Rattle.std.proofs.Common.{◌≡◌, ℕ, ◌<◌, ◌≤◌, List, [], ◌∷◌, ◌++◌, length, drop, All, Option, Some, refl, sym, ap, subst, ◌∙◌}
 use Rattle.std.specs.Map.{keys_of}
 use Rattle.std.specs.Prelude.{codes}
 use Rattle.et_base.specs.declared.value.Value.TheVariants.{Ref}
@@ -23,7 +23,7 @@ use Rattle.et_state.specs.Words.{ticked, top, with_top}
 use Rattle.et_state.specs.declared.ends.EventEnd.TheVariants as ends
 use Rattle.et_state.specs.declared.records.Record.{Record}
 use Rattle.et_strings.specs.Calls.{text_moment}
-use Rattle.et_strings.proofs.Answering.{led-silent, limit-beside, rewrites-full, rewrites-goes, rewrites-limit}
+use Rattle.et_strings.proofs.Answering.{led-silent, limit-beside, rewrites-goes, rewrites-limit}
 use Rattle.et_strings.proofs.Entries.{given-fresh}
 
 -- the object that is made next has no text yet
@@ -47,12 +47,6 @@ MakesString p t o m m₁ out out' = MakesObject (instance_made (moment p m t) (c
 pub string-limit : (p : Linked) (m : MachineState) (x : Texts) (t n : ℕ) (at : Site) (units : List ℕ) (out : List Record) → length units ≤ longest_text → most_units < text_units (with_text (length m.heap) units x)
     → TextAnswers (making p m x t n at units) ends.ObjectLimit m m x x out out
 string-limit p m x t n at units out short many = limit-beside (making p m x t n at units) m x out (rewrites-limit (text_moment p m x t) (length m.heap) units (made p m x t n at) short many)
-
--- the object doesn't fit
-pub string-full : (p : Linked) (m m₁ : MachineState) (x : Texts) (t n : ℕ) (at : Site) (units : List ℕ) (out out' : List Record) → length units ≤ longest_text → MakesString p t None m m₁ out out'
-    → TextAnswers (making p m x t n at units) ends.ObjectLimit m m₁ x x out out'
-string-full p m m₁ x t n at units out out' short full =
-    subst (λ (k : Outcome Kept). TextAnswers k ends.ObjectLimit m m₁ x x out out') (sym (rewrites-full (text_moment p m x t) (length m.heap) units (made p m x t n at) short full.0)) (full.1, refl, full.2)
 
 -- it is made and given
 pub string-given : (p : Linked) (m m₁ m' : MachineState) (x x' : Texts) (t n o pc : ℕ) (at : Site) (units : List ℕ) (out out' : List Record) → m.guest.texts ≡ no_texts → n ≤ length (top m.guest t).operands → at.next ≡ pc

@@ -1,5 +1,5 @@
 -- A CALL OF A METHOD OF TEXTS, which a machine does that stands beside its texts.
-use Rattle.std.specs.Prelude.{◌≡◌, ℕ, ◌<◌, ◌≤◌, ◌^◌, true, List, Some, All, length}
+use Rattle.std.specs.Prelude.{◌≡◌, ℕ, ◌<◌, ◌≤◌, ◌^◌, true, List, All, length}
 use Rattle.std.specs.Map.{keys_of, values_of}
 use Rattle.et_builtins.specs.Arguments.{arguments_in}
 use Rattle.et_event.specs.Answered.{TextAnswers}
@@ -8,7 +8,7 @@ use Rattle.et_event.specs.Calls.{arguments_of}
 use Rattle.et_event.specs.Moments.{Moment, begins, fits_heap}
 use Rattle.et_event.specs.Selected.{TextCall}
 use Rattle.et_event.specs.Sites.{Site}
-use Rattle.et_event.specs.TextRows.{said_in, text_done, text_row}
+use Rattle.et_event.specs.TextRows.{said_in, text_done}
 use Rattle.et_heap.specs.Objects.{IsHeld}
 use Rattle.et_event.specs.Tops.{IsIn}
 use Rattle.et_program.specs.BootTexts.TextMethod.{TextMethod}
@@ -69,13 +69,9 @@ AnswersText method p c end m m' x x' out out' =
     (at : Site) → at.next ≡ c.called.next →
     TextAnswers (text_done (text_moment p m x c.called.thread) at (begins (text_moment p m x c.called.thread)) (arguments_of (text_moment p m x c.called.thread) c.called.count) c.object method) end m m' x x' out out'
 
--- .. and what its row does, with the test of the classes
+-- .. and what it prints
 abbrev pub call_made : Linked → MachineState → Texts → TextCalled → Site → TextCall
 call_made p m x c at = record { at = at; arguments = arguments_of (text_moment p m x c.called.thread) c.called.count; method = c.method }
 
-abbrev pub AnswersRow : Linked → TextCalled → EventEnd → (m m' : MachineState) → (x x' : Texts) → (out out' : List Record) → Type 0
-AnswersRow p c end m m' x x' out out' = (at : Site) → at.next ≡ c.called.next → TextAnswers (text_row (text_moment p m x c.called.thread) (call_made p m x c at) (Some c.object)) end m m' x x' out out'
-
--- .. and what it prints
 abbrev pub SaysRow : Linked → TextCalled → EventEnd → MachineState → Texts → (old new : List ℕ) → Type 0
 SaysRow p c end m x old new = (at : Site) → at.next ≡ c.called.next → SaysWhereDone end (said_in (text_moment p m x c.called.thread) (call_made p m x c at)) old new

@@ -16,10 +16,10 @@ ghost use Rattle.et_state.specs.State.{kept_of};
 ghost use Rattle.et_state.specs.Texts.{Texts as TextList};
 
 use crate::calls::text_called;
-use crate::rows::row_event;
+use crate::rows::{is_fit, row_event};
 use crate::texts::Texts;
 use et_base::{NoMemory, Steps, ThreadId};
-use et_event::{CallKind, CallRow, Place, Row, place_of};
+use et_event::{CallKind, CallRow, Place, Row, ill_typed, place_of};
 use et_program::Program;
 use et_refs::out_event;
 use et_state::{EventEnd, Machine, Output};
@@ -98,6 +98,9 @@ pub fn strings_event<L: Ledger>(
     match invoke_kind(&place) {
         Some(kind) => {
             let call = text_called(program, machine, thread, &place, kind, visits);
+            if !is_fit(program, machine, &call, visits) {
+                return Ok(ill_typed(machine, thread));
+            }
             row_event(alloc, program, machine, texts, &call, out, visits)
         }
         None => read_event(program, machine, thread, out),

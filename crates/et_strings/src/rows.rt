@@ -6,7 +6,7 @@ ghost use Rattle.et_event.specs.Sound.{IsSoundFor};
 ghost use Rattle.et_event.specs.TextRows.{is_fit_text, writes_text as is_writing};
 ghost use Rattle.et_state.specs.State.{kept_of};
 ghost use Rattle.et_builtins.specs.Calling.{HasRoomFor};
-ghost use Rattle.et_strings.specs.Calls.{AnswersRow, AnswersText, IsCalled, MayAnswer, SaysRow, entries_given};
+ghost use Rattle.et_strings.specs.Calls.{AnswersText, IsCalled, MayAnswer, SaysRow, entries_given};
 
 use crate::calls::TextCalled;
 use crate::reading::{char_event, equals_event, length_event};
@@ -15,7 +15,6 @@ use crate::texts::Texts;
 use crate::writing::{end_line_event, print_event};
 use et_base::{NoMemory, Steps};
 use et_builtins::{Called, is_of, takes_text};
-use et_event::ill_typed;
 use et_program::{BuiltInClass, Program, TextMethod};
 use et_state::{EventEnd, Machine, Output};
 use std::alloc::Global;
@@ -32,7 +31,7 @@ fn writes_text(method: TextMethod) -> bool
 }
 
 /// Whether a method may be done: what is to be a string is null or one, and what is to be a string builder is one.
-fn is_fit<L: Ledger>(
+pub(crate) fn is_fit<L: Ledger>(
     program: &Program,
     machine: &Machine,
     call: &TextCalled,
@@ -60,8 +59,8 @@ fn is_fit<L: Ledger>(
         )
 }
 
-/// The event of a method that may be done.
-fn done_event<L: Ledger>(
+/// The event of a call of a method that may be done.
+pub(crate) fn row_event<L: Ledger>(
     alloc: Global,
     program: &Program,
     machine: &mut Machine,
@@ -97,29 +96,4 @@ fn done_event<L: Ledger>(
         }
         TextMethod::EndLine => end_line_event(machine, call, &mut out.said),
     }
-}
-
-/// The event of a call of a method of texts.
-pub(crate) fn row_event<L: Ledger>(
-    alloc: Global,
-    program: &Program,
-    machine: &mut Machine,
-    texts: &mut Texts,
-    call: &TextCalled,
-    out: &mut Output,
-    visits: &mut Steps<L>,
-) -> Result<EventEnd, NoMemory>
-    requires sound { IsSoundFor program.now (kept_of machine.old) }
-    requires answers { MayAnswer machine.old texts.old call.now }
-    requires room { HasRoomFor (entries_given call.now.method) machine.old call.now.called }
-    ensures event { IfOk result (λ end. AnswersRow program.now call.now end
-        machine.old machine.new texts.old texts.new out.old.records out.new.records) }
-    ensures said { IfOk result (λ end. SaysRow program.now call.now end machine.old texts.old
-        out.old.said.items out.new.said.items) }
-    ensures visits { visits.new ≤ visits.old + 3 }
-{
-    if !is_fit(program, machine, call, visits) {
-        return Ok(ill_typed(machine, call.called.thread));
-    }
-    done_event(alloc, program, machine, texts, call, out, visits)
 }
