@@ -32,17 +32,6 @@ use et_state::{EventEnd, Lines, Machine};
 use std::alloc::Global;
 use std::sync::ledger::Ledger;
 
-/// A frame has fewer operands than 65,536.
-fn operands_are_few(machine: &Machine, thread: ThreadId)
-    requires { HasFrame machine.now.guest thread }
-    ensures fit { length (top machine.now.guest thread).operands
-        ≤ (top machine.now.guest thread).room }
-    ensures few { length (top machine.now.guest thread).operands < 2 ^ 16 }
-{
-    let _depth = machine.depth(thread);
-    let _room = machine.room(thread);
-}
-
 /// How many dimensions `multianewarray` makes.
 fn dimensions(place: &Place<'_>) -> u32
     ensures { result ≡ natural_of place.now.site.instr.second }
@@ -94,7 +83,7 @@ fn add_arrays<L: Ledger>(
     if !arrays_fit(machine, arrays.lengths) {
         return Ok(EventEnd::ObjectLimit);
     }
-    operands_are_few(machine, thread);
+    let _depth = machine.depth(thread);
     let count = arrays.lengths.len() as u32;
     machine.begin_event();
     let array = make_arrays(alloc, program, machine, thread, arrays, out, visits)?;

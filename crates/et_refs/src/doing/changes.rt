@@ -11,7 +11,7 @@ ghost use Rattle.et_state.specs.Moves.{Led};
 ghost use Rattle.et_event.specs.Answered.{EventAnswers};
 ghost use Rattle.et_event.specs.Checks.{entries_of};
 ghost use Rattle.et_event.specs.Moments.{moment};
-ghost use Rattle.et_refs.specs.Changes.{change_outcome, store_outcome, new_array_outcome, MayExchange, MayStore, MayMake, MayChange};
+ghost use Rattle.et_refs.specs.Changes.{change_outcome, store_outcome, MayExchange, MayStore, MayChange};
 
 use crate::slots::{SlotAt, slot_value};
 use et_base::{ClassId, NoMemory, ObjectId, Steps, ThreadId, Value};
@@ -161,31 +161,6 @@ pub(crate) fn write_slot<L: Ledger>(
     Ok(EventEnd::Done)
 }
 
-/// The event in which an array is made. After `NoMemory` the machine may have one object more, to which nothing refers, and
-/// there may be its record; all else is as before.
-fn add_array(
-    program: &Program,
-    machine: &mut Machine,
-    thread: ThreadId,
-    place: &Place<'_>,
-    x: NewArray,
-    out: &mut Lines,
-) -> Result<EventEnd, NoMemory>
-    requires step { MayStep machine.old thread }
-    requires may { MayMake (top machine.old.guest thread) }
-    ensures ok { IfOk result (λ end. EventAnswers
-        (new_array_outcome (moment program.now machine.old thread) place.now.site x)
-        end machine.old machine.new out.old out.new) }
-    ensures err { OnErr result (machine.new.guest ≡ machine.old.guest) }
-{
-    let Some(array) = make_array(program, machine, thread, x.class, x.elements, out)? else {
-        return Ok(EventEnd::ObjectLimit);
-    };
-    machine.begin_event();
-    replace_top(machine, thread, 1, Value::Ref(array), place.site.next());
-    Ok(EventEnd::Done)
-}
-
 /// The event that does this change at a place. After `NoMemory` the machine may have one object more, to which nothing
 /// refers, and there may be its record; all else is as before.
 pub(crate) fn carry_out(
@@ -208,6 +183,13 @@ pub(crate) fn carry_out(
             put_value(machine, thread, place.site.next(), x);
             Ok(EventEnd::Done)
         }
-        Change::Make(x) => add_array(program, machine, thread, place, x, out),
+        Change::Make(x) => {
+            let Some(array) = make_array(program, machine, thread, x.class, x.elements, out)? else {
+                return Ok(EventEnd::ObjectLimit);
+            };
+            machine.begin_event();
+            replace_top(machine, thread, 1, Value::Ref(array), place.site.next());
+            Ok(EventEnd::Done)
+        }
     }
 }

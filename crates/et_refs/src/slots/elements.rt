@@ -150,27 +150,6 @@ pub(crate) fn read_element<L: Ledger>(
     Ok(Exchange { taken: 2, value })
 }
 
-/// The length of an array as a value.
-#[inline(always)]
-fn length_value<L: Ledger>(
-    program: &Program,
-    heap: &Heap,
-    object: ObjectId,
-    visits: &mut Steps<L>,
-) -> Value
-    requires sound { IsSoundHeap program.now heap.now }
-    requires held { IsHeld heap.now object }
-    requires array { is_such
-        (class_at program.now (object_at heap.now object).class).info.element ≡ true }
-    ensures value { result ≡ Int (pos (object_at heap.now object).length) }
-    ensures few { length (entries_of result) ≤ 1 }
-    ensures held { AreHeld heap.now (refs_of_value result) }
-    ensures visits { visits.new ≡ visits.old + 1 }
-{
-    let length = length_of(program, heap, object, visits);
-    Value::Int(length as i32)
-}
-
 /// What `arraylength` puts in the place of the array.
 #[inline(always)]
 pub(crate) fn read_length<L: Ledger>(
@@ -190,7 +169,8 @@ pub(crate) fn read_length<L: Ledger>(
     let object = not_null(reference)?;
     let element = element_of(program, heap, object, visits);
     ill_typed_unless(is_array(element))?;
-    let value = length_value(program, heap, object, visits);
+    let length = length_of(program, heap, object, visits);
+    let value = Value::Int(length as i32);
     Ok(Exchange { taken: 1, value })
 }
 

@@ -20,7 +20,7 @@ pub replace_top-requires-clause-room : goal.replace_top-requires-clause-room
 replace_top-requires-clause-room g c =
     let m = c.args.machine.now in
     let came = came_by c.args.program.now m c.begin_event.new.self c.make_arrays.new.machine c.args.thread c.args.arrays.now.class c.args.arrays.now.lengths.now c.args.out.now c.make_arrays.new.out c.requires.step.sound c.requires.some c.begin_event.ensures c.in_ok-array.ensures.made c.in_ok-array.ensures.lost in
-    room_came m c.make_arrays.new.machine c.args.thread (length c.args.arrays.now.lengths.now) (length c.args.arrays.now.lengths.now) came.guest refl c.requires.deep c.requires.some c.operands_are_few.ensures.fit
+    room_came m c.make_arrays.new.machine c.args.thread (length c.args.arrays.now.lengths.now) (length c.args.arrays.now.lengths.now) came.guest refl c.requires.deep c.requires.some c.depth-depth.ensures.few
 
 pub returns-clause-ok : goal.returns-clause-ok
 returns-clause-ok g c =

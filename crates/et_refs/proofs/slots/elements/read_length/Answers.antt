@@ -1,5 +1,6 @@
-use Rattle.std.proofs.Common.{rules, ◌≡◌, ◌++◌, Bool, true, Err, drop, sym, ◌∙◌, ap, arith, lit≤}
+use Rattle.std.proofs.Common.{rules, ◌≡◌, ◌++◌, Bool, true, Err, drop, ◌∙◌, ap, pos, to_z, w32}
 use Rattle.et_base.specs.declared.value.Value.{Value}
+use Rattle.et_base.specs.declared.value.Value.TheVariants.{Int}
 use Rattle.et_event.specs.Moments.{begins, goes}
 use Rattle.et_event.specs.Checks.{entries_of, ill_typed_unless}
 use Rattle.et_event.specs.Heap.{leaving_values}
@@ -9,7 +10,6 @@ use Rattle.et_program.specs.Entries.{class_at}
 use Rattle.et_refs.specs.Changes.{exchange_outcome}
 use Rattle.et_refs.specs.Reads.{moment_over}
 use Rattle.et_refs.proofs.Chains.{refusing, measures, measures_array, measured, on_reference, put_back}
-use Rattle.et_refs.proofs.May.{may_put}
 use Rattle.et_refs.proofs.slots.elements.read_length.Goals as goal
 
 pub returns-in_err-reference-clause-is : goal.returns-in_err-reference-clause-is
@@ -49,12 +49,10 @@ returns-clause-is g c =
     let o = c.in_ok-object.object in
     let below = drop 1 f.operands in
     let array : is_array_element (class_at c.args.program.now (object_at c.args.heap.now o).class).info.element ≡ true = search rules in
+    let value : Value = Int (to_z w32 c.length_of-length.result) in
+    let long : Int (pos (object_at c.args.heap.now o).length) ≡ value = search rules in
     λ guest t at same.
     let e = moment_over c.args.program.now c.args.heap.now guest t in
     on_reference e f (measures e at) same ∙ (c.in_ok-reference.ensures.is e (measures e at) ∙ (c.in_ok-object.ensures.is e (measures_array e at below)
     ∙ (ap (λ (b : Bool). ill_typed_unless e b (measured e at below o)) array
-    ∙ (ap (λ (v : Value). goes (leaving_values e at (entries_of v ++ below) (begins e))) (sym c.length_value-value.ensures.value) ∙ put_back e at f 1 c.length_value-value.result same))))
-
-pub returns-clause-may : goal.returns-clause-may
-returns-clause-may g c =
-    may_put c.args.heap.now c.args.running.now.frame 1 c.length_value-value.result (omega (arith, c.in_ok-reference.ensures.deep)) (lit≤ tt) c.length_value-value.ensures.few c.running_operands_fit.ensures c.length_value-value.ensures.held
+    ∙ (ap (λ (v : Value). goes (leaving_values e at (entries_of v ++ below) (begins e))) long ∙ put_back e at f 1 value same))))
