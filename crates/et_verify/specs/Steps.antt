@@ -18,6 +18,12 @@ use Rattle.et_verify.specs.Effects.{Effect, effect}
 
 -- OPERANDS
 
+-- the types after a step that changes the operands alone, if it is accepted, by those that it leaves: None where it is refused
+pub record IsMove (left : List EntryType → Option (List EntryType)) (old new : TypesOf) (accepted : Bool) : Type 0 where
+  pub done : accepted ≡ true → left old.operands ≡ Some new.operands
+  pub refused : accepted ≡ false → left old.operands ≡ None
+  pub locals : new.locals ≡ old.locals
+
 -- what is below operands of these kinds, the topmost first
 abbrev pub below_taken : List Operand → List EntryType → Option (List EntryType)
 below_taken [] ops = Some ops
@@ -47,11 +53,6 @@ have_groups (size ∷ sizes) ops = (if size == 1 then is_one ops else is_pair op
 abbrev pub rearranged_types : Rearrangement → List EntryType → Option (List EntryType)
 rearranged_types r ops =
     if have_groups (groups_of r) ops then Some (map (λ k. slice_index_or ops k Free) (operand_places r) ++ drop (sum (groups_of r)) ops) else None
-
--- the types after it, or whether it is refused; the local variables stay
-abbrev pub Rearranges : Rearrangement → TypesOf → TypesOf → Bool → Type 0
-Rearranges r old new done =
-    (done ≡ true → rearranged_types r old.operands ≡ Some new.operands) × (done ≡ false → rearranged_types r old.operands ≡ None) × (new.locals ≡ old.locals)
 
 abbrev pub moved_by : Effect → List EntryType → Option (List EntryType)
 moved_by x ops = option_map (with_given x.given) (below_taken x.taken ops)

@@ -1,10 +1,10 @@
 //! What calls take of the operands, and give (JVMS 2.11.8, 4.3.3).
-ghost use Rattle.std.specs.Prelude.{◌≡◌, ◌<◌, ◌^◌, [], ◌∷◌, true, false, Some, None, IfOk};
+ghost use Rattle.std.specs.Prelude.{◌≡◌, ◌<◌, ◌^◌, [], ◌∷◌, IfOk};
 ghost use Rattle.et_event.specs.Calls.{is_static_call as calls_static};
 ghost use Rattle.et_event.specs.Sites.{natural_of, pool_of_class};
 ghost use Rattle.et_verify.specs.Calling.{arguments_taken, call_taken, called};
 ghost use Rattle.et_verify.specs.Effects.{call_effect};
-ghost use Rattle.et_verify.specs.Steps.{moved_where};
+ghost use Rattle.et_verify.specs.Steps.{IsMove, moved_where};
 
 use crate::effects::kind_given;
 use crate::operands::{give_some, take};
@@ -26,10 +26,7 @@ fn is_static_call(kind: CallKind) -> bool
 
 /// Takes an argument of a kind; `false` where there is no such operand.
 fn take_argument(types: &mut Types, kind: Option<Operand>) -> bool
-    ensures taken { result ≡ true →
-        arguments_taken (kind ∷ []) types.old.operands ≡ Some types.new.operands }
-    ensures refused { result ≡ false → arguments_taken (kind ∷ []) types.old.operands ≡ None }
-    ensures locals { types.new.locals ≡ types.old.locals }
+    ensures { IsMove (arguments_taken (kind ∷ [])) types.old types.new result }
 {
     match kind {
         Some(kind) => take(types, kind),
@@ -40,10 +37,7 @@ fn take_argument(types: &mut Types, kind: Option<Operand>) -> bool
 /// Takes the arguments of these kinds, of which the last is the topmost operand. `false` where one is no such operand; some
 /// entries may be gone then.
 fn take_arguments(types: &mut Types, kinds: &[Option<Operand>]) -> bool
-    ensures taken { result ≡ true →
-        arguments_taken kinds.now types.old.operands ≡ Some types.new.operands }
-    ensures refused { result ≡ false → arguments_taken kinds.now types.old.operands ≡ None }
-    ensures locals { types.new.locals ≡ types.old.locals }
+    ensures { IsMove (arguments_taken kinds.now) types.old types.new result }
 {
     for taken in 0..kinds.len() {
         if !take_argument(types, kinds[kinds.len() - 1 - taken]) {
@@ -55,11 +49,7 @@ fn take_arguments(types: &mut Types, kinds: &[Option<Operand>]) -> bool
 
 /// Takes what a call takes. `false` where it isn't there; some entries may be gone then.
 fn take_call(types: &mut Types, shape: &CallShape, is_static: bool) -> bool
-    ensures taken { result ≡ true →
-        call_taken is_static shape.now types.old.operands ≡ Some types.new.operands }
-    ensures refused { result ≡ false →
-        call_taken is_static shape.now types.old.operands ≡ None }
-    ensures locals { types.new.locals ≡ types.old.locals }
+    ensures { IsMove (call_taken is_static shape.now) types.old types.new result }
 {
     if !take_arguments(types, shape.kinds()) {
         return false;
@@ -70,11 +60,7 @@ fn take_call(types: &mut Types, shape: &CallShape, is_static: bool) -> bool
 /// Takes what a call of this shape takes, and gives what it leaves. `false` where that isn't there; some entries may be gone
 /// then.
 fn step_shape(types: &mut Types, shape: &CallShape, is_static: bool) -> Result<bool, NoMemory>
-    ensures done { IfOk result (λ b. b ≡ true →
-        called is_static shape.now types.old.operands ≡ Some types.new.operands) }
-    ensures refused { IfOk result (λ b. b ≡ false →
-        called is_static shape.now types.old.operands ≡ None) }
-    ensures locals { IfOk result (λ b. types.new.locals ≡ types.old.locals) }
+    ensures { IfOk result (IsMove (called is_static shape.now) types.old types.new) }
 {
     if !take_call(types, shape, is_static) {
         return Ok(false);
@@ -94,12 +80,8 @@ pub(crate) fn step_call(
 ) -> Result<bool, NoMemory>
     requires index { natural_of site.now.instr.first < 2 ^ 16 }
     requires pool { site.now.pool ≡ pool_of_class program.now site.now.class }
-    ensures done { IfOk result (λ b. b ≡ true → moved_where
-        (call_effect site.now (calls_static kind)) types.old.operands
-        ≡ Some types.new.operands) }
-    ensures refused { IfOk result (λ b. b ≡ false → moved_where
-        (call_effect site.now (calls_static kind)) types.old.operands ≡ None) }
-    ensures locals { IfOk result (λ b. types.new.locals ≡ types.old.locals) }
+    ensures { IfOk result
+        (IsMove (moved_where (call_effect site.now (calls_static kind))) types.old types.new) }
 {
     let Some(shape) = program.call_shape(site.class(), index_of(site)) else {
         return Ok(false);

@@ -1,11 +1,11 @@
 //! What the instructions on fields, arrays, classes and constants take of the operands, and give (JVMS 6.5).
-ghost use Rattle.std.specs.Prelude.{◌≡◌, ◌<◌, ◌^◌, List, ◌∷◌, length, true, false, Some, None, IfOk, option_map, replicate};
+ghost use Rattle.std.specs.Prelude.{◌≡◌, ◌<◌, ◌^◌, IfOk, option_map, replicate};
 ghost use Rattle.et_event.specs.PoolOperands.Operand.TheVariants as kinds;
 ghost use Rattle.et_event.specs.Sites.{natural_of, constant_at, pool_index};
 ghost use Rattle.et_event.specs.declared.rows.HeapRow.TheVariants as heap;
-ghost use Rattle.et_verify.specs.Effects.{constant_effect, field_read, field_type as type_of_field, field_written, heap_effect, kind_of_constant, naming_class as where_class, NamesWithin};
+ghost use Rattle.et_verify.specs.Effects.{constant_effect, field_read, field_type as type_of_field, field_written, giving, heap_effect, kind_of_constant, naming_class as where_class, NamesWithin};
 ghost use Rattle.et_verify.specs.Named.{descriptor_in as descriptor_of};
-ghost use Rattle.et_verify.specs.Steps.{below_taken, moved_by, moved_where};
+ghost use Rattle.et_verify.specs.Steps.{IsMove, below_taken, moved_where};
 
 use crate::effects::{
     INT, INT_ON_REFERENCE, NONE, REFERENCE, into_array, kind_of_elements, kind_of_result,
@@ -63,12 +63,8 @@ fn read_field(
     taken: &[Operand],
 ) -> Result<bool, NoMemory>
     requires { NamesWithin program.now site.now }
-    ensures done { IfOk result (λ b. b ≡ true → moved_where
-        (field_read site.now taken.now) types.old.operands
-        ≡ Some types.new.operands) }
-    ensures refused { IfOk result (λ b. b ≡ false → moved_where
-        (field_read site.now taken.now) types.old.operands ≡ None) }
-    ensures locals { IfOk result (λ b. types.new.locals ≡ types.old.locals) }
+    ensures { IfOk result
+        (IsMove (moved_where (field_read site.now taken.now)) types.old types.new) }
 {
     let Some(descriptor) = field_type(program, site) else {
         return Ok(false);
@@ -86,12 +82,8 @@ fn write_field(
     is_static: bool,
 ) -> Result<bool, NoMemory>
     requires { NamesWithin program.now site.now }
-    ensures done { IfOk result (λ b. b ≡ true → moved_where
-        (field_written site.now is_static) types.old.operands
-        ≡ Some types.new.operands) }
-    ensures refused { IfOk result (λ b. b ≡ false → moved_where
-        (field_written site.now is_static) types.old.operands ≡ None) }
-    ensures locals { IfOk result (λ b. types.new.locals ≡ types.old.locals) }
+    ensures { IfOk result
+        (IsMove (moved_where (field_written site.now is_static)) types.old types.new) }
 {
     let Some(descriptor) = field_type(program, site) else {
         return Ok(false);
@@ -117,12 +109,8 @@ fn step_class(
     given: Operand,
 ) -> Result<bool, NoMemory>
     requires { natural_of site.now.instr.first < 2 ^ 16 }
-    ensures done { IfOk result (λ b. b ≡ true → moved_where (where_class site.now
-        (record { taken = taken.now; given = Some given })) types.old.operands
-        ≡ Some types.new.operands) }
-    ensures refused { IfOk result (λ b. b ≡ false → moved_where (where_class site.now
-        (record { taken = taken.now; given = Some given })) types.old.operands ≡ None) }
-    ensures locals { IfOk result (λ b. types.new.locals ≡ types.old.locals) }
+    ensures { IfOk result
+        (IsMove (moved_where (where_class site.now (giving taken.now given))) types.old types.new) }
 {
     if class_operand(site).is_none() {
         return Ok(false);
@@ -133,11 +121,7 @@ fn step_class(
 
 /// Takes so many ints. `false` where they aren't there; some entries may be gone then.
 fn take_ints(types: &mut Types, count: usize) -> bool
-    ensures taken { result ≡ true →
-        below_taken (replicate count kinds.Int) types.old.operands ≡ Some types.new.operands }
-    ensures refused { result ≡ false →
-        below_taken (replicate count kinds.Int) types.old.operands ≡ None }
-    ensures locals { types.new.locals ≡ types.old.locals }
+    ensures { IsMove (below_taken (replicate count kinds.Int)) types.old types.new result }
 {
     for _int in 0..count {
         if !take(types, Operand::Int) {
@@ -150,12 +134,8 @@ fn take_ints(types: &mut Types, count: usize) -> bool
 /// `multianewarray`: the lengths, and the array. `false` where the instruction names no class, or the lengths aren't there.
 fn step_multi(types: &mut Types, site: &Site<'_>) -> Result<bool, NoMemory>
     requires { natural_of site.now.instr.first < 2 ^ 16 }
-    ensures done { IfOk result (λ b. b ≡ true → moved_where
-        (heap_effect site.now heap.NewMultiArray) types.old.operands
-        ≡ Some types.new.operands) }
-    ensures refused { IfOk result (λ b. b ≡ false → moved_where
-        (heap_effect site.now heap.NewMultiArray) types.old.operands ≡ None) }
-    ensures locals { IfOk result (λ b. types.new.locals ≡ types.old.locals) }
+    ensures { IfOk result
+        (IsMove (moved_where (heap_effect site.now heap.NewMultiArray)) types.old types.new) }
 {
     if class_operand(site).is_none() {
         return Ok(false);
@@ -177,11 +157,7 @@ pub(crate) fn step_heap(
     row: HeapRow,
 ) -> Result<bool, NoMemory>
     requires { NamesWithin program.now site.now }
-    ensures done { IfOk result (λ b. b ≡ true → moved_where
-        (heap_effect site.now row) types.old.operands ≡ Some types.new.operands) }
-    ensures refused { IfOk result (λ b. b ≡ false → moved_where
-        (heap_effect site.now row) types.old.operands ≡ None) }
-    ensures locals { IfOk result (λ b. types.new.locals ≡ types.old.locals) }
+    ensures { IfOk result (IsMove (moved_where (heap_effect site.now row)) types.old types.new) }
 {
     let done = match row {
         HeapRow::GetStatic => read_field(types, program, site, &NONE)?,
@@ -235,11 +211,7 @@ fn loaded_kind(site: &Site<'_>) -> Option<Operand>
 /// A constant of the pool is loaded. `false` where the instruction names none.
 pub(crate) fn step_constant(types: &mut Types, site: &Site<'_>) -> Result<bool, NoMemory>
     requires { natural_of site.now.instr.first < 2 ^ 16 }
-    ensures done { IfOk result (λ b. b ≡ true → moved_where (constant_effect site.now)
-        types.old.operands ≡ Some types.new.operands) }
-    ensures refused { IfOk result (λ b. b ≡ false →
-        moved_where (constant_effect site.now) types.old.operands ≡ None) }
-    ensures locals { IfOk result (λ b. types.new.locals ≡ types.old.locals) }
+    ensures { IfOk result (IsMove (moved_where (constant_effect site.now)) types.old types.new) }
 {
     let Some(kind) = loaded_kind(site) else {
         return Ok(false);

@@ -1,8 +1,7 @@
 //! Operands of types that are taken and given (JVMS 2.6.2).
-ghost use Rattle.std.specs.Prelude.{◌≡◌, [], ◌∷◌, ◌++◌, true, false, Some, None, OnOk, IfOk, List, option_map};
+ghost use Rattle.std.specs.Prelude.{◌≡◌, [], ◌∷◌, ◌++◌, OnOk, IfOk};
 ghost use Rattle.et_flow.specs.Types.{operand_entries};
-ghost use Rattle.et_verify.specs.Steps.{below_taken, with_given};
-ghost use Rattle.et_flow.specs.declared.types.EntryType.{EntryType as Entry};
+ghost use Rattle.et_verify.specs.Steps.{IsMove, below_taken, moved_by, with_given};
 
 use et_base::NoMemory;
 use et_event::Operand;
@@ -11,10 +10,7 @@ use et_flow::{EntryType, Types};
 /// Takes an operand of a kind. `false` where the topmost one is of no such kind; some entries may be gone then.
 #[inline(always)]
 pub fn take(types: &mut Types, kind: Operand) -> bool
-    ensures taken { result ≡ true →
-        below_taken (kind ∷ []) types.old.operands ≡ Some types.new.operands }
-    ensures refused { result ≡ false → below_taken (kind ∷ []) types.old.operands ≡ None }
-    ensures locals { types.new.locals ≡ types.old.locals }
+    ensures { IsMove (below_taken (kind ∷ [])) types.old types.new result }
 {
     match kind {
         Operand::Int => types.pop_entry(EntryType::Int),
@@ -28,10 +24,7 @@ pub fn take(types: &mut Types, kind: Operand) -> bool
 /// Takes operands of kinds, the topmost first. `false` where one is of no such kind; some entries may be gone then.
 #[inline(always)]
 pub fn take_all(types: &mut Types, kinds: &[Operand]) -> bool
-    ensures taken { result ≡ true →
-        below_taken kinds.now types.old.operands ≡ Some types.new.operands }
-    ensures refused { result ≡ false → below_taken kinds.now types.old.operands ≡ None }
-    ensures locals { types.new.locals ≡ types.old.locals }
+    ensures { IsMove (below_taken kinds.now) types.old types.new result }
 {
     for kind in kinds {
         if !take(types, *kind) {
@@ -78,12 +71,8 @@ pub(crate) fn exchange(
     taken: &[Operand],
     given: Option<Operand>,
 ) -> Result<bool, NoMemory>
-    ensures done { IfOk result (λ b. b ≡ true →
-        option_map (with_given given) (below_taken taken.now types.old.operands)
-        ≡ Some types.new.operands) }
-    ensures refused { IfOk result (λ b. b ≡ false →
-        option_map (with_given given) (below_taken taken.now types.old.operands) ≡ None) }
-    ensures locals { IfOk result (λ b. types.new.locals ≡ types.old.locals) }
+    ensures { IfOk result
+        (IsMove (moved_by (record { taken = taken.now; given = given })) types.old types.new) }
 {
     if !take_all(types, taken) {
         return Ok(false);

@@ -1,12 +1,12 @@
 //! The types after an instruction, from those before it, by the row of the table of events that it has (JVMS 6.5).
-ghost use Rattle.std.specs.Prelude.{◌≡◌, ℕ, List, length, ◌<◌, ◌^◌, ◌⊎◌, true, false, Some, None, IfOk};
+ghost use Rattle.std.specs.Prelude.{◌≡◌, ℕ, List, ◌⊎◌, true, false, Some, None, IfOk};
 ghost use Rattle.et_event.specs.Sites.{Site};
 ghost use Rattle.et_event.specs.declared.rows.CallRow.TheVariants as calls;
 ghost use Rattle.et_event.specs.declared.rows.Row.TheVariants as rows;
 ghost use Rattle.et_pool.specs.Operands.{return_of};
 ghost use Rattle.et_verify.specs.Calling.{returned_taken};
 ghost use Rattle.et_verify.specs.Effects.{MayName};
-ghost use Rattle.et_verify.specs.Steps.{locals_by, locals_after, operands_after, types_after};
+ghost use Rattle.et_verify.specs.Steps.{IsMove, locals_by, locals_after, operands_after, types_after};
 
 use crate::calls::step_call;
 use crate::effects::REFERENCE;
@@ -65,11 +65,7 @@ pub(crate) fn step_within(
 /// A return of an operand of a kind, or of none, from a method. `false` where the method returns no such, or the operand isn't
 /// there.
 fn step_return(types: &mut Types, kind: Option<Operand>, returned: Returned) -> bool
-    ensures taken { result ≡ true →
-        returned_taken kind returned types.old.operands ≡ Some types.new.operands }
-    ensures refused { result ≡ false →
-        returned_taken kind returned types.old.operands ≡ None }
-    ensures locals { types.new.locals ≡ types.old.locals }
+    ensures { IsMove (returned_taken kind returned) types.old types.new result }
 {
     if !returned.may_be(kind) {
         return false;

@@ -1,7 +1,7 @@
 //! Rearrangements of the topmost operands (JVMS 2.11.6), by their types.
-ghost use Rattle.std.specs.Prelude.{◌≡◌, [], ◌∷◌, ◌++◌, true, false, Some, None, IfOk, OnOk, IfSome, IfNone};
+ghost use Rattle.std.specs.Prelude.{◌≡◌, [], ◌∷◌, ◌++◌, true, false, IfOk, OnOk, IfSome, IfNone};
 ghost use Rattle.et_event.specs.declared.rows.Rearrangement.TheVariants as stack;
-ghost use Rattle.et_verify.specs.Steps.{is_one, is_pair as pair_first, Rearranges, rearranged_types};
+ghost use Rattle.et_verify.specs.Steps.{IsMove, is_one, is_pair as pair_first, rearranged_types};
 ghost use Rattle.et_verify.specs.Groups.{entries_of, is_group, are_groups, IsGroup, doubling, inserting};
 
 use et_base::NoMemory;
@@ -101,7 +101,7 @@ fn push_group(types: &mut Types, group: Group) -> Result<(), NoMemory>
 
 /// Puts a copy of the topmost group on top: `dup` or `dup2`, by the width.
 fn double(types: &mut Types, width: Width) -> Result<bool, NoMemory>
-    ensures { IfOk result (Rearranges (doubling width) types.old types.new) }
+    ensures { IfOk result (IsMove (rearranged_types (doubling width)) types.old types.new) }
 {
     let Some(group) = pop_group(types, width) else {
         return Ok(false);
@@ -128,7 +128,7 @@ fn pop_groups(types: &mut Types, upper: Width, lower: Width) -> Option<(Group, G
 
 /// Puts a copy of the topmost group below the group under it: `dup_x1`, `dup_x2`, `dup2_x1` or `dup2_x2`, by their widths.
 fn insert(types: &mut Types, upper: Width, lower: Width) -> Result<bool, NoMemory>
-    ensures { IfOk result (Rearranges (inserting upper lower) types.old types.new) }
+    ensures { IfOk result (IsMove (rearranged_types (inserting upper lower)) types.old types.new) }
 {
     let Some((first, second)) = pop_groups(types, upper, lower) else {
         return Ok(false);
@@ -141,7 +141,7 @@ fn insert(types: &mut Types, upper: Width, lower: Width) -> Result<bool, NoMemor
 
 /// `swap`.
 fn swap(types: &mut Types) -> Result<bool, NoMemory>
-    ensures { IfOk result (Rearranges stack.Swap types.old types.new) }
+    ensures { IfOk result (IsMove (rearranged_types stack.Swap) types.old types.new) }
 {
     let Some((first, second)) = pop_groups(types, Width::One, Width::One) else {
         return Ok(false);
@@ -154,11 +154,7 @@ fn swap(types: &mut Types) -> Result<bool, NoMemory>
 /// Rearranges the topmost operands. `false` where they are not there, or a long would be cut in two; some may be gone then.
 #[inline(never)]
 pub(crate) fn rearrange(types: &mut Types, rearrangement: Rearrangement) -> Result<bool, NoMemory>
-    ensures done { IfOk result (λ b. b ≡ true →
-        rearranged_types rearrangement types.old.operands ≡ Some types.new.operands) }
-    ensures refused { IfOk result (λ b. b ≡ false →
-        rearranged_types rearrangement types.old.operands ≡ None) }
-    ensures locals { IfOk result (λ b. types.new.locals ≡ types.old.locals) }
+    ensures { IfOk result (IsMove (rearranged_types rearrangement) types.old types.new) }
 {
     let done = match rearrangement {
         Rearrangement::Nop => true,
