@@ -1,20 +1,39 @@
 -- The rules of a line, as the assembler checks them.
-use Rattle.std.proofs.Common.{◌≡◌, ℕ, ◌+◌, ◌<◌, ◌≤◌, ◌&&◌, Bool, true, false, cond, List, [], ◌∷◌, ◌++◌, length, get_or, take, drop, Option, None, refl, sym, ap, ◌∙◌, arith, length-take}
+use Rattle.std.proofs.Common.{◌≡◌, ℕ, ◌+◌, ◌<◌, ◌&&◌, Bool, true, false, cond, List, [], ◌∷◌, ◌++◌, length, get_or, take, drop, Option, refl, sym, ap, ◌∙◌, arith, length-take}
 use Rattle.std.specs.Prelude.{nat_le}
-use Rattle.et_base.specs.Marks.{Mark, marked, first_from}
+use Rattle.et_base.specs.Marks.{Mark, marked, first_from, mark}
 use Rattle.et_listing.specs.declared.entry.Entry.{Entry}
 use Rattle.et_listing.specs.declared.line.Parsed.{Parsed}
+use Rattle.et_asm.specs.declared.fault.TheConstants.{LABEL}
 use Rattle.et_asm.specs.declared.order.Stage.{Stage}
-use Rattle.et_asm.specs.Order.{stage_of}
+use Rattle.et_asm.specs.Order.{stage_of, opens, lines_of_body}
 use Rattle.et_asm.specs.Code.{Labels, place_behind, labels_of, catch_count}
-use Rattle.et_asm.specs.Listings.{count, is_interface_line, is_field_line, is_method_line, counts_fit, number_behind, body_line_marks, body_marks_at, line_marks, listing_marks, end_mark}
+use Rattle.et_asm.specs.Listings.{count, is_interface_line, is_field_line, is_method_line, counts_fit, number_behind, body_line_marks, body_marks_at, listed_body_marks, uses_defined, no_labels, outside_marks, line_marks}
 use Rattle.et_asm.specs.Symbols.{stage_marks}
 use Rattle.et_asm.proofs.Taken.{taken}
-use Rattle.et_asm.proofs.Marked.{marks_more}
+use Rattle.et_asm.proofs.Marked.{marks_none}
 
 pub mark_then : (first : Option (ℕ × ℕ)) (m : Mark) (ms : List Mark) → first_from (marked first m) ms ≡ first_from first (m ∷ ms)
 unfolding first_from
 mark_then first m ms = refl
+
+-- A LINE OUTSIDE OF BODIES, whose own labels are checked first
+
+module _ (entries : List Entry) (first mid : Option (ℕ × ℕ)) (number : ℕ) (p : Parsed) (more : List Parsed) (none : Bool) (mid_is : mid ≡ marked first (mark number LABEL none)) (none_is : none ≡ uses_defined no_labels p.line) where
+  pub opening : (body : List Parsed) → opens p.line ≡ true → body ≡ lines_of_body more → first_from mid (listed_body_marks entries (number + 1) body) ≡ first_from first (outside_marks entries number p more)
+  opening body opens_it body_is =
+      let m = mark number LABEL (uses_defined no_labels p.line) in
+      let marks = listed_body_marks entries (number + 1) (lines_of_body more) in
+      ap (λ f. first_from f (listed_body_marks entries (number + 1) body)) (mid_is ∙ ap (λ b. marked first (mark number LABEL b)) none_is)
+      ∙ (ap (λ b. first_from (marked first m) (listed_body_marks entries (number + 1) b)) body_is
+      ∙ (mark_then first m marks ∙ ap (λ b. first_from first (m ∷ cond b marks [])) (sym opens_it)))
+
+  pub not_opening : opens p.line ≡ false → mid ≡ first_from first (outside_marks entries number p more)
+  not_opening opens_none =
+      let m = mark number LABEL (uses_defined no_labels p.line) in
+      let marks = listed_body_marks entries (number + 1) (lines_of_body more) in
+      (mid_is ∙ ap (λ b. marked first (mark number LABEL b)) none_is)
+      ∙ (marks_none (marked first m) ∙ (mark_then first m [] ∙ ap (λ b. first_from first (m ∷ cond b marks [])) (sym opens_none)))
 
 size_before : (xs : List Parsed) (i : ℕ) → i < length xs → length (take i xs) ≡ i
 size_before xs i lt = omega (arith, length-take i xs)

@@ -1,5 +1,5 @@
 -- The constant pool and the labels as the assembler keeps them.
-use Rattle.std.specs.Prelude.{◌≡◌, ℕ, ◌<◌, List, [], ◌∷◌, ◌++◌, Bool, length, take, slice_index, Option, Some, is_some, if◌then◌else◌}
+use Rattle.std.specs.Prelude.{◌≡◌, ℕ, ◌<◌, List, [], ◌++◌, Bool, length, take, slice_index, Option, Some, is_some, if◌then◌else◌}
 use Rattle.std.specs.List.{flat_map}
 use Rattle.std.specs.Map.{lookup}
 use Rattle.et_base.specs.Marks.{Mark}
@@ -9,7 +9,6 @@ use Rattle.et_listing.specs.declared.line.Line.{Line}
 use Rattle.et_listing.specs.declared.line.Line.TheVariants as line
 use Rattle.et_listing.specs.declared.line.Parsed.{Parsed}
 use Rattle.et_listing.specs.Words.{same_word}
-use Rattle.et_asm.specs.declared.symbols.Symbols.{Symbols}
 use Rattle.et_asm.specs.declared.order.Stage.{Stage}
 use Rattle.et_asm.specs.Order.{is_inside}
 use Rattle.et_asm.specs.Pool.{same_entry, parts, outside_uses, index_behind}
@@ -33,12 +32,11 @@ abbrev pub stage_marks : List Entry → ℕ → Stage → Bool → Parsed → Li
 stage_marks entries number stage few p behind =
     own_marks entries number stage few p ++ (if is_inside stage then [] else outside_marks entries number p behind)
 
--- these are its entries, with the index of each and the one behind them
-pub record HasIndexOf (s : Symbols) (entries : List Entry) : Type 0 where
-  pub keys : s.entries.keys ≡ entries
-  pub counted : length s.indices.items ≡ length entries
-  pub indices : (i : ℕ) → i < length entries → slice_index s.indices.items i ≡ index_behind (take i entries)
-  pub behind : s.end ≡ index_behind entries
+-- these are the indices of entries, and the one behind them
+pub record AreIndicesOf (entries : List Entry) (numbers : List ℕ) (end : ℕ) : Type 0 where
+  pub counted : length numbers ≡ length entries
+  pub indices : (i : ℕ) → i < length entries → slice_index numbers i ≡ index_behind (take i entries)
+  pub behind : end ≡ index_behind entries
 
 -- the labels of a map
 abbrev pub places : List (List ℕ × ℕ) → Labels

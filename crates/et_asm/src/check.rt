@@ -1,13 +1,12 @@
 //! The rules on lines.
 
-ghost use Rattle.std.specs.Prelude.{◌≡◌, ◌++◌, ◌+◌, ◌<◌, ◌^◌, [], ◌∷◌, length, IfOk, None, true, codes, map, if◌then◌else◌};
+ghost use Rattle.std.specs.Prelude.{◌≡◌, ◌<◌, ◌^◌, [], ◌∷◌, IfOk, None, true, codes, map, if◌then◌else◌};
 ghost use Rattle.std.specs.List.{list_all};
 ghost use Rattle.et_base.specs.Marks.{first_from};
 ghost use Rattle.et_listing.specs.Lines.{pairs};
-ghost use Rattle.et_asm.specs.Order.{lines_of_body};
 ghost use Rattle.et_asm.specs.Pool.{parts, constant_entries};
-ghost use Rattle.et_asm.specs.Symbols.{HasIndexOf, places, stage_marks};
-ghost use Rattle.et_asm.specs.Code.{is_defined, labels_of};
+ghost use Rattle.et_asm.specs.Symbols.{places, stage_marks};
+ghost use Rattle.et_asm.specs.Code.{is_defined};
 ghost use Rattle.et_asm.specs.Listings.{is_short_text, entry_fits, line_fits, fault_marks, own_marks, uses_defined, no_labels, defines_new, branch_reaches, reaches, body_line_marks, listed_body_marks, outside_marks, listing_marks};
 
 use crate::code::is_catch;
@@ -51,8 +50,7 @@ fn texts_fit(e: &Entry) -> bool
 
 /// Whether an entry keeps the limits.
 fn entry_fits<'a>(symbols: &Symbols<'a>, e: &Entry<'a>) -> bool
-    requires { HasIndexOf symbols.now symbols.now.entries.keys }
-    ensures { result ≡ entry_fits symbols.now.entries.keys e.now }
+    ensures { result ≡ entry_fits symbols.now e.now }
 {
     let index = index_of(symbols, e);
     let texts = texts_fit(e);
@@ -60,8 +58,7 @@ fn entry_fits<'a>(symbols: &Symbols<'a>, e: &Entry<'a>) -> bool
 }
 
 fn pair_fits<'a>(symbols: &Symbols<'a>, name: &Word<'a>, descriptor: &Word<'a>) -> bool
-    requires { HasIndexOf symbols.now symbols.now.entries.keys }
-    ensures { result ≡ list_all (entry_fits symbols.now.entries.keys)
+    ensures { result ≡ list_all (entry_fits symbols.now)
         (Entry.Utf8 name.now ∷ Entry.Utf8 descriptor.now ∷ []) }
 {
     let first = entry_fits(symbols, &Entry::Utf8(name.copy()));
@@ -70,16 +67,14 @@ fn pair_fits<'a>(symbols: &Symbols<'a>, name: &Word<'a>, descriptor: &Word<'a>) 
 }
 
 fn class_fits<'a>(symbols: &Symbols<'a>, name: &Word<'a>) -> bool
-    requires { HasIndexOf symbols.now symbols.now.entries.keys }
-    ensures { result ≡ entry_fits symbols.now.entries.keys (Entry.Class name.now) }
+    ensures { result ≡ entry_fits symbols.now (Entry.Class name.now) }
 {
     entry_fits(symbols, &Entry::Class(name.copy()))
 }
 
 /// Whether the entries of an instruction keep the limits.
 fn operands_fit<'a>(symbols: &Symbols<'a>, instruction: &Instruction<'a>) -> bool
-    requires { HasIndexOf symbols.now symbols.now.entries.keys }
-    ensures { result ≡ line_fits symbols.now.entries.keys (Line.Instruction instruction.now) }
+    ensures { result ≡ line_fits symbols.now (Line.Instruction instruction.now) }
 {
     match instruction {
         Instruction::Load(e) => entry_fits(symbols, e),
@@ -95,8 +90,7 @@ fn operands_fit<'a>(symbols: &Symbols<'a>, instruction: &Instruction<'a>) -> boo
 
 /// Whether the entries of a line keep the limits.
 fn line_fits<'a>(symbols: &Symbols<'a>, line: &Line<'a>) -> bool
-    requires { HasIndexOf symbols.now symbols.now.entries.keys }
-    ensures { result ≡ line_fits symbols.now.entries.keys line.now }
+    ensures { result ≡ line_fits symbols.now line.now }
 {
     match line {
         Line::Class(name, super_name, _) => {
@@ -123,9 +117,7 @@ fn line_fits<'a>(symbols: &Symbols<'a>, line: &Line<'a>) -> bool
 
 /// Whether the entries of a field's constant keep the limits.
 fn constant_fits<'a>(symbols: &Symbols<'a>, constant: &Option<Entry<'a>>) -> bool
-    requires { HasIndexOf symbols.now symbols.now.entries.keys }
-    ensures { result
-        ≡ list_all (entry_fits symbols.now.entries.keys) (constant_entries constant.now) }
+    ensures { result ≡ list_all (entry_fits symbols.now) (constant_entries constant.now) }
 {
     match constant {
         None => true,
@@ -139,8 +131,7 @@ fn constant_fits<'a>(symbols: &Symbols<'a>, constant: &Option<Entry<'a>>) -> boo
 
 /// Whether the name of a method's attribute keeps the limits, where it has one.
 fn body_fits(symbols: &Symbols, has_body: bool) -> bool
-    requires { HasIndexOf symbols.now symbols.now.entries.keys }
-    ensures { result ≡ (if has_body then entry_fits symbols.now.entries.keys
+    ensures { result ≡ (if has_body then entry_fits symbols.now
         (Entry.Utf8 (codes "Code")) else true) }
 {
     if has_body {
@@ -173,9 +164,7 @@ fn check_own<'a>(
     few: bool,
     p: &Parsed<'a>,
 ) -> First
-    requires { HasIndexOf symbols.now symbols.now.entries.keys }
-    ensures { result
-        ≡ first_from first (own_marks symbols.now.entries.keys number stage few p.now) }
+    ensures { result ≡ first_from first (own_marks symbols.now number stage few p.now) }
 {
     let stands = may_stand(stage, &p.line);
     let fits = line_fits(symbols, &p.line);
@@ -324,10 +313,9 @@ fn check_body<'a>(
     number: usize,
     body: &[Parsed<'a>],
 ) -> Result<First, AllocError>
-    requires pool { HasIndexOf symbols.now symbols.now.entries.keys }
-    requires number { number < 2 ^ 62 }
+    requires { number < 2 ^ 62 }
     ensures { IfOk result
-        (λ found. found ≡ first_from first (listed_body_marks symbols.now.entries.keys number
+        (λ found. found ≡ first_from first (listed_body_marks symbols.now number
         body.now)) }
 {
     let labels = labels_of(alloc, symbols, body)?;
@@ -361,10 +349,9 @@ fn check_outside<'a>(
     p: &Parsed<'a>,
     more: &[Parsed<'a>],
 ) -> Result<First, AllocError>
-    requires pool { HasIndexOf symbols.now symbols.now.entries.keys }
-    requires number { number < 2 ^ 61 }
+    requires { number < 2 ^ 61 }
     ensures { IfOk result (λ found.
-        found ≡ first_from first (outside_marks symbols.now.entries.keys number p.now more.now)) }
+        found ≡ first_from first (outside_marks symbols.now number p.now more.now)) }
 {
     let first = mark(first, number, LABEL, uses_none(&p.line));
     if opens(&p.line) {
@@ -392,10 +379,9 @@ fn check_line<'a>(
     p: &Parsed<'a>,
     more: &[Parsed<'a>],
 ) -> Result<First, AllocError>
-    requires pool { HasIndexOf symbols.now symbols.now.entries.keys }
-    requires number { number < 2 ^ 61 }
+    requires { number < 2 ^ 61 }
     ensures { IfOk result (λ found. found ≡ first_from first (stage_marks
-        symbols.now.entries.keys number before.stage before.few p.now more.now)) }
+        symbols.now number before.stage before.few p.now more.now)) }
 {
     let first = check_own(first, symbols, number, before.stage, before.few, p);
     if is_inside(before.stage) {
@@ -410,9 +396,7 @@ pub(crate) fn check_lines<'a>(
     symbols: &Symbols<'a>,
     lines: &[Parsed<'a>],
 ) -> Result<First, AllocError>
-    requires { HasIndexOf symbols.now symbols.now.entries.keys }
-    ensures { IfOk result
-        (λ found. found ≡ first_from None (listing_marks symbols.now.entries.keys lines.now)) }
+    ensures { IfOk result (λ found. found ≡ first_from None (listing_marks symbols.now lines.now)) }
 {
     let mut found = None;
     let mut stage = Stage::Start;

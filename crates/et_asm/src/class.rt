@@ -3,7 +3,7 @@
 ghost use Rattle.std.specs.Prelude.{◌≡◌, ◌++◌, OnOk, IfOk, Some};
 ghost use Rattle.std.specs.List.{flat_map};
 ghost use Rattle.et_asm.specs.Pool.{entry_pool_bytes};
-ghost use Rattle.et_asm.specs.Symbols.{HasIndexOf, stage_method};
+ghost use Rattle.et_asm.specs.Symbols.{stage_method};
 ghost use Rattle.et_asm.specs.Listings.{count, is_interface_line, is_field_line, is_method_line, listed_member_bytes, constant_bytes, section_bytes, body_bytes, method_bytes, methods_bytes, listed_class_bytes};
 
 use crate::code::put_code_attribute;
@@ -29,12 +29,10 @@ pub(crate) enum Section {
 
 /// Appends the constant pool.
 fn put_pool<'a>(out: &mut Vec<u8>, symbols: &Symbols<'a>) -> Result<(), AllocError>
-    requires { HasIndexOf symbols.now symbols.now.entries.keys }
-    ensures { OnOk result (out.new.items ≡ out.old.items ++ entry_pool_bytes
-        symbols.now.entries.keys) }
+    ensures { OnOk result (out.new.items ≡ out.old.items ++ entry_pool_bytes symbols.now) }
 {
-    put_u2(out, symbols.end)?;
-    for e in symbols.entries.as_slice() {
+    put_u2(out, symbols.end())?;
+    for e in symbols.entries() {
         put_entry(out, symbols, e)?;
     }
     Ok(())
@@ -46,9 +44,8 @@ fn put_value<'a>(
     symbols: &Symbols<'a>,
     value: &Entry<'a>,
 ) -> Result<(), AllocError>
-    requires { HasIndexOf symbols.now symbols.now.entries.keys }
     ensures { OnOk result (out.new.items
-        ≡ out.old.items ++ constant_bytes symbols.now.entries.keys (Some value.now)) }
+        ≡ out.old.items ++ constant_bytes symbols.now (Some value.now)) }
 {
     put_u2(out, 1)?;
     put_index(out, symbols, Entry::Utf8(Word::new(b"ConstantValue")))?;
@@ -62,9 +59,8 @@ fn put_constant<'a>(
     symbols: &Symbols<'a>,
     constant: &Option<Entry<'a>>,
 ) -> Result<(), AllocError>
-    requires { HasIndexOf symbols.now symbols.now.entries.keys }
     ensures { OnOk result
-        (out.new.items ≡ out.old.items ++ constant_bytes symbols.now.entries.keys constant.now) }
+        (out.new.items ≡ out.old.items ++ constant_bytes symbols.now constant.now) }
 {
     match constant {
         None => put_u2(out, 0),
@@ -80,9 +76,8 @@ fn put_member<'a>(
     descriptor: &Word<'a>,
     flags: u16,
 ) -> Result<(), AllocError>
-    requires { HasIndexOf symbols.now symbols.now.entries.keys }
     ensures { OnOk result (out.new.items
-        ≡ out.old.items ++ listed_member_bytes symbols.now.entries.keys name.now descriptor.now
+        ≡ out.old.items ++ listed_member_bytes symbols.now name.now descriptor.now
         flags) }
 {
     put_u2(out, flags as usize)?;
@@ -98,9 +93,8 @@ fn put_code_of<'a>(
     limits: (u16, u16),
     body: &[Parsed<'a>],
 ) -> Result<(), AllocError>
-    requires { HasIndexOf symbols.now symbols.now.entries.keys }
     ensures { OnOk result (out.new.items
-        ≡ out.old.items ++ body_bytes symbols.now.entries.keys (Some limits) body.now) }
+        ≡ out.old.items ++ body_bytes symbols.now (Some limits) body.now) }
 {
     put_u2(out, 1)?;
     put_index(out, symbols, Entry::Utf8(Word::new(b"Code")))?;
@@ -115,9 +109,8 @@ fn put_body<'a>(
     limits: Option<(u16, u16)>,
     body: &[Parsed<'a>],
 ) -> Result<(), AllocError>
-    requires { HasIndexOf symbols.now symbols.now.entries.keys }
     ensures { OnOk result
-        (out.new.items ≡ out.old.items ++ body_bytes symbols.now.entries.keys limits body.now) }
+        (out.new.items ≡ out.old.items ++ body_bytes symbols.now limits body.now) }
 {
     match limits {
         None => put_u2(out, 0),
@@ -133,9 +126,8 @@ fn put_method<'a>(
     line: &Line<'a>,
     more: &[Parsed<'a>],
 ) -> Result<(), AllocError>
-    requires { HasIndexOf symbols.now symbols.now.entries.keys }
     ensures { OnOk result
-        (out.new.items ≡ out.old.items ++ method_bytes symbols.now.entries.keys line.now more.now) }
+        (out.new.items ≡ out.old.items ++ method_bytes symbols.now line.now more.now) }
 {
     match line {
         Line::Method(name, descriptor, flags, limits) => {
@@ -153,9 +145,8 @@ fn put_line<'a>(
     section: Section,
     line: &Line<'a>,
 ) -> Result<(), AllocError>
-    requires { HasIndexOf symbols.now symbols.now.entries.keys }
     ensures { OnOk result (out.new.items
-        ≡ out.old.items ++ section_bytes symbols.now.entries.keys section line.now) }
+        ≡ out.old.items ++ section_bytes symbols.now section line.now) }
 {
     match (section, line) {
         (Section::Header, Line::Class(name, super_name, flags)) => {
@@ -181,9 +172,8 @@ fn put_section<'a>(
     section: Section,
     lines: &[Parsed<'a>],
 ) -> Result<(), AllocError>
-    requires { HasIndexOf symbols.now symbols.now.entries.keys }
     ensures { OnOk result (out.new.items ≡ out.old.items
-        ++ flat_map (λ p. section_bytes symbols.now.entries.keys section p.line) lines.now) }
+        ++ flat_map (λ p. section_bytes symbols.now section p.line) lines.now) }
 {
     for p in lines {
         put_line(out, symbols, section, &p.line)?;
@@ -200,9 +190,8 @@ fn put_method_at<'a>(
     line: &Line<'a>,
     more: &[Parsed<'a>],
 ) -> Result<(), AllocError>
-    requires { HasIndexOf symbols.now symbols.now.entries.keys }
     ensures { OnOk result (out.new.items
-        ≡ out.old.items ++ stage_method symbols.now.entries.keys stage line.now more.now) }
+        ≡ out.old.items ++ stage_method symbols.now stage line.now more.now) }
 {
     if is_inside(stage) {
         return Ok(());
@@ -216,9 +205,7 @@ fn put_methods<'a>(
     symbols: &Symbols<'a>,
     lines: &[Parsed<'a>],
 ) -> Result<(), AllocError>
-    requires { HasIndexOf symbols.now symbols.now.entries.keys }
-    ensures { OnOk result
-        (out.new.items ≡ out.old.items ++ methods_bytes symbols.now.entries.keys lines.now) }
+    ensures { OnOk result (out.new.items ≡ out.old.items ++ methods_bytes symbols.now lines.now) }
 {
     let mut stage = Stage::Start;
     for i in 0..lines.len() {
@@ -253,9 +240,7 @@ pub(crate) fn class_bytes<'a>(
     symbols: &Symbols<'a>,
     lines: &[Parsed<'a>],
 ) -> Result<Vec<u8>, AllocError>
-    requires { HasIndexOf symbols.now symbols.now.entries.keys }
-    ensures { IfOk result (λ bytes. bytes.items ≡ listed_class_bytes symbols.now.entries.keys
-        lines.now) }
+    ensures { IfOk result (λ bytes. bytes.items ≡ listed_class_bytes symbols.now lines.now) }
 {
     let mut out = Vec::new(alloc);
     put_u4(&mut out, 0xcafe_babe)?;

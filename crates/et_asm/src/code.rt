@@ -2,7 +2,7 @@
 
 ghost use Rattle.std.specs.Prelude.{◌≡◌, ◌++◌, ◌<◌, ◌^◌, OnOk, IfOk};
 ghost use Rattle.std.specs.List.{flat_map};
-ghost use Rattle.et_asm.specs.Symbols.{HasIndexOf, places};
+ghost use Rattle.et_asm.specs.Symbols.{places};
 ghost use Rattle.et_asm.specs.Code.{place_behind, labels_of, code_bytes, is_catch, catch_count, caught_index, row_bytes, code_head, code_tail, code_attribute};
 
 use crate::emit::{put_u2, put_u4};
@@ -16,8 +16,7 @@ use std::alloc::{AllocError, Global};
 
 /// The length of the code of a body.
 fn code_length<'a>(symbols: &Symbols<'a>, body: &[Parsed<'a>]) -> Result<usize, AllocError>
-    requires { HasIndexOf symbols.now symbols.now.entries.keys }
-    ensures { IfOk result (λ n. n ≡ place_behind symbols.now.entries.keys body.now) }
+    ensures { IfOk result (λ n. n ≡ place_behind symbols.now body.now) }
 {
     let mut at = 0;
     for p in body {
@@ -34,9 +33,8 @@ fn put_code<'a>(
     labels: &Labels<'a>,
     body: &[Parsed<'a>],
 ) -> Result<(), AllocError>
-    requires { HasIndexOf symbols.now symbols.now.entries.keys }
     ensures { OnOk result (out.new.items ≡ out.old.items
-        ++ code_bytes symbols.now.entries.keys (places labels.now.entries) body.now) }
+        ++ code_bytes symbols.now (places labels.now.entries) body.now) }
 {
     let mut at = 0;
     for p in body {
@@ -65,8 +63,7 @@ fn catch_count(body: &[Parsed]) -> usize
 }
 
 fn caught_index<'a>(symbols: &Symbols<'a>, class: &Option<Word<'a>>) -> usize
-    requires { HasIndexOf symbols.now symbols.now.entries.keys }
-    ensures { result ≡ caught_index symbols.now.entries.keys class.now }
+    ensures { result ≡ caught_index symbols.now class.now }
 {
     match class {
         None => 0,
@@ -81,9 +78,8 @@ fn put_row<'a>(
     labels: &Labels<'a>,
     line: &Line<'a>,
 ) -> Result<(), AllocError>
-    requires { HasIndexOf symbols.now symbols.now.entries.keys }
     ensures { OnOk result (out.new.items ≡ out.old.items
-        ++ row_bytes symbols.now.entries.keys (places labels.now.entries) line.now) }
+        ++ row_bytes symbols.now (places labels.now.entries) line.now) }
 {
     match line {
         Line::Catch(from, to, handler, class) => {
@@ -102,9 +98,8 @@ fn put_rows<'a>(
     labels: &Labels<'a>,
     body: &[Parsed<'a>],
 ) -> Result<(), AllocError>
-    requires { HasIndexOf symbols.now symbols.now.entries.keys }
     ensures { OnOk result (out.new.items ≡ out.old.items ++ flat_map
-        (λ p. row_bytes symbols.now.entries.keys (places labels.now.entries) p.line) body.now) }
+        (λ p. row_bytes symbols.now (places labels.now.entries) p.line) body.now) }
 {
     for p in body {
         put_row(out, symbols, labels, &p.line)?;
@@ -137,9 +132,8 @@ fn put_code_tail<'a>(
     labels: &Labels<'a>,
     body: &[Parsed<'a>],
 ) -> Result<(), AllocError>
-    requires { HasIndexOf symbols.now symbols.now.entries.keys }
     ensures { OnOk result (out.new.items ≡ out.old.items
-        ++ code_tail symbols.now.entries.keys (places labels.now.entries) body.now) }
+        ++ code_tail symbols.now (places labels.now.entries) body.now) }
 {
     put_u2(out, catch_count(body))?;
     put_rows(out, symbols, labels, body)?;
@@ -154,9 +148,8 @@ pub(crate) fn put_code_attribute<'a>(
     limits: (u16, u16),
     body: &[Parsed<'a>],
 ) -> Result<(), AllocError>
-    requires { HasIndexOf symbols.now symbols.now.entries.keys }
-    ensures { OnOk result (out.new.items ≡ out.old.items ++ code_attribute symbols.now.entries.keys
-        (labels_of symbols.now.entries.keys body.now) limits body.now) }
+    ensures { OnOk result (out.new.items ≡ out.old.items ++ code_attribute symbols.now
+        (labels_of symbols.now body.now) limits body.now) }
 {
     let labels = labels_of(alloc, symbols, body)?;
     let size = code_length(symbols, body)?;

@@ -3,7 +3,6 @@
 ghost use Rattle.std.specs.Prelude.{◌≡◌, ◌++◌, [], ◌∷◌, OnOk};
 ghost use Rattle.et_asm.specs.Pool.{reference_bytes, entry_bytes, entry_index};
 ghost use Rattle.et_class.specs.Layout.{u4, u2};
-ghost use Rattle.et_asm.specs.Symbols.{HasIndexOf};
 
 use crate::symbols::{Symbols, index_of};
 use et_listing::entry::Entry;
@@ -39,9 +38,7 @@ pub(crate) fn put_index<'a>(
     symbols: &Symbols<'a>,
     e: Entry<'a>,
 ) -> Result<(), AllocError>
-    requires { HasIndexOf symbols.now symbols.now.entries.keys }
-    ensures { OnOk result
-        (out.new.items ≡ out.old.items ++ u2 (entry_index symbols.now.entries.keys e.entry)) }
+    ensures { OnOk result (out.new.items ≡ out.old.items ++ u2 (entry_index symbols.now e.entry)) }
 {
     put_u2(out, index_of(symbols, &e))
 }
@@ -55,9 +52,8 @@ fn put_member<'a>(
     name: &Word<'a>,
     descriptor: &Word<'a>,
 ) -> Result<(), AllocError>
-    requires { HasIndexOf symbols.now symbols.now.entries.keys }
     ensures { OnOk result (out.new.items ≡ out.old.items
-        ++ reference_bytes symbols.now.entries.keys tag class.now name.now descriptor.now) }
+        ++ reference_bytes symbols.now tag class.now name.now descriptor.now) }
 {
     put_u1(out, tag)?;
     put_index(out, symbols, Entry::Class(class.copy()))?;
@@ -75,9 +71,7 @@ pub(crate) fn put_entry<'a>(
     symbols: &Symbols<'a>,
     e: &Entry<'a>,
 ) -> Result<(), AllocError>
-    requires { HasIndexOf symbols.now symbols.now.entries.keys }
-    ensures { OnOk result
-        (out.new.items ≡ out.old.items ++ entry_bytes symbols.now.entries.keys e.now) }
+    ensures { OnOk result (out.new.items ≡ out.old.items ++ entry_bytes symbols.now e.now) }
 {
     match e {
         Entry::Utf8(text) => {

@@ -1,12 +1,12 @@
 //! The instructions of a body: their lengths and their bytes.
 
-ghost use Rattle.std.specs.Prelude.{◌≡◌, ◌++◌, ◌∷◌, [], ◌+◌, ◌-◌, ◌*◌, ◌<◌, ◌^◌, length, OnOk, IfOk, replicate};
+ghost use Rattle.std.specs.Prelude.{◌≡◌, ◌++◌, ◌∷◌, [], ◌+◌, ◌<◌, ◌^◌, length, OnOk, IfOk};
 ghost use Rattle.std.specs.List.{flat_map};
 ghost use Rattle.et_listing.specs.Lines.{pairs};
 ghost use Rattle.et_asm.specs.Pool.{entry_index};
-ghost use Rattle.et_class.specs.Layout.{u4, u2};
-ghost use Rattle.et_asm.specs.Symbols.{HasIndexOf, places};
-ghost use Rattle.et_asm.specs.Code.{is_short_increment, padding, instruction_size, size, offset_bits, offset2, offset4, argument_count, key_bits, bounds_bytes, table_bytes, pair_bytes, lookup_bytes, branch_bytes, local_bytes, load_bytes, increment_bytes, switch_bytes, instruction_bytes, line_bytes};
+ghost use Rattle.et_class.specs.Layout.{u2};
+ghost use Rattle.et_asm.specs.Symbols.{places};
+ghost use Rattle.et_asm.specs.Code.{is_short_increment, padding, instruction_size, size, offset_bits, offset4, argument_count, key_bits, bounds_bytes, table_bytes, pair_bytes, lookup_bytes, branch_bytes, local_bytes, load_bytes, increment_bytes, switch_bytes, instruction_bytes, line_bytes};
 
 use crate::emit::{put_index, put_u1, put_u2, put_u4};
 use crate::labels::{Labels, place_of};
@@ -47,8 +47,7 @@ fn pair_count(words: &[Word]) -> usize
 
 /// How many bytes an instruction takes at a place of the code.
 fn instruction_size<'a>(symbols: &Symbols<'a>, at: usize, instruction: &Instruction<'a>) -> usize
-    requires { HasIndexOf symbols.now symbols.now.entries.keys }
-    ensures { result ≡ instruction_size symbols.now.entries.keys at instruction.now }
+    ensures { result ≡ instruction_size symbols.now at instruction.now }
 {
     match instruction {
         Instruction::Plain(_) => 1,
@@ -73,8 +72,7 @@ fn instruction_size<'a>(symbols: &Symbols<'a>, at: usize, instruction: &Instruct
 
 /// How many bytes a line takes at a place of the code.
 fn size<'a>(symbols: &Symbols<'a>, at: usize, line: &Line<'a>) -> usize
-    requires { HasIndexOf symbols.now symbols.now.entries.keys }
-    ensures { result ≡ size symbols.now.entries.keys at line.now }
+    ensures { result ≡ size symbols.now at line.now }
 {
     match line {
         Line::Instruction(i) => instruction_size(symbols, at, i),
@@ -88,8 +86,7 @@ pub(crate) fn behind<'a>(
     at: usize,
     line: &Line<'a>,
 ) -> Result<usize, AllocError>
-    requires { HasIndexOf symbols.now symbols.now.entries.keys }
-    ensures { IfOk result (λ place. place ≡ at + size symbols.now.entries.keys at line.now) }
+    ensures { IfOk result (λ place. place ≡ at + size symbols.now at line.now) }
 {
     sum(at, size(symbols, at, line))
 }
@@ -290,9 +287,8 @@ fn put_interface<'a>(
     e: Entry<'a>,
     descriptor: &Word<'a>,
 ) -> Result<(), AllocError>
-    requires { HasIndexOf symbols.now symbols.now.entries.keys }
     ensures { OnOk result (out.new.items ≡ out.old.items ++ (INVOKEINTERFACE ∷ u2
-        (entry_index symbols.now.entries.keys e.entry) ++ argument_count descriptor.now ∷ 0 ∷ [])) }
+        (entry_index symbols.now e.entry) ++ argument_count descriptor.now ∷ 0 ∷ [])) }
 {
     let count = argument_count(alloc, descriptor)?;
     put_u1(out, INVOKEINTERFACE)?;
@@ -310,9 +306,8 @@ fn put_instruction<'a>(
     at: usize,
     instruction: &Instruction<'a>,
 ) -> Result<(), AllocError>
-    requires { HasIndexOf symbols.now symbols.now.entries.keys }
     ensures { OnOk result (out.new.items ≡ out.old.items ++ instruction_bytes
-        symbols.now.entries.keys (places labels.now.entries) at instruction.now) }
+        symbols.now (places labels.now.entries) at instruction.now) }
 {
     match instruction {
         Instruction::Plain(opcode) => put_u1(out, *opcode),
@@ -360,9 +355,8 @@ pub(crate) fn put_line<'a>(
     at: usize,
     line: &Line<'a>,
 ) -> Result<(), AllocError>
-    requires { HasIndexOf symbols.now symbols.now.entries.keys }
     ensures { OnOk result (out.new.items ≡ out.old.items
-        ++ line_bytes symbols.now.entries.keys (places labels.now.entries) at line.now) }
+        ++ line_bytes symbols.now (places labels.now.entries) at line.now) }
 {
     match line {
         Line::Instruction(i) => put_instruction(out, alloc, symbols, labels, at, i),

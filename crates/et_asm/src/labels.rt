@@ -1,8 +1,8 @@
 //! The labels of a body.
 
-ghost use Rattle.std.specs.Prelude.{◌≡◌, ◌+◌, ℕ, List, OnOk, IfOk};
-ghost use Rattle.et_asm.specs.Symbols.{HasIndexOf, places, define};
-ghost use Rattle.et_asm.specs.Code.{size, labels_of, is_defined, label_place};
+ghost use Rattle.std.specs.Prelude.{◌≡◌, ℕ, List, OnOk, IfOk};
+ghost use Rattle.et_asm.specs.Symbols.{places, define};
+ghost use Rattle.et_asm.specs.Code.{labels_of, is_defined, label_place};
 
 use crate::instruction::behind;
 use crate::symbols::Symbols;
@@ -61,9 +61,7 @@ pub(crate) fn labels_of<'a>(
     symbols: &Symbols<'a>,
     body: &[Parsed<'a>],
 ) -> Result<Labels<'a>, AllocError>
-    requires { HasIndexOf symbols.now symbols.now.entries.keys }
-    ensures { IfOk result
-        (λ labels. places labels.entries ≡ labels_of symbols.now.entries.keys body.now) }
+    ensures { IfOk result (λ labels. places labels.entries ≡ labels_of symbols.now body.now) }
 {
     let mut labels = IndexMap::new(alloc);
     let mut at = 0;

@@ -1,7 +1,6 @@
 //! The constant pool of a listing, with its indices.
 
 ghost use Rattle.std.specs.Prelude.{◌≡◌, ◌≤◌, ◌<◌, ◌+◌, ℕ, IfOk, length, take, slice_index};
-ghost use Rattle.et_asm.specs.Symbols.{HasIndexOf};
 ghost use Rattle.et_asm.specs.Pool.{pool, width, index_behind, entry_index};
 
 use crate::uses::pool;
@@ -9,6 +8,7 @@ use et_listing::entry::Entry;
 use et_listing::line::Parsed;
 use indexmap::IndexSet;
 use std::alloc::{AllocError, Global};
+use std::marker::Model;
 
 /// How many indices an entry takes.
 pub(crate) fn width(e: &Entry) -> usize
@@ -45,17 +45,46 @@ fn indices(alloc: Global, entries: &[Entry]) -> Result<(Vec<usize>, usize), Allo
     Ok((indices, next))
 }
 
-/// The constant pool with the index of each entry, and the one behind them.
+/// The constant pool with the index of each entry, and the one behind them. Contracts see it as its
+/// entries.
 #[derive(Drop)]
 pub(crate) struct Symbols<'a> {
-    pub(crate) entries: IndexSet<Entry<'a>>,
-    pub(crate) indices: Vec<usize>,
-    pub(crate) end: usize,
+    entries: IndexSet<Entry<'a>>,
+    indices: Vec<usize>,
+    end: usize,
+}
+
+impl<'a> Model for Symbols<'a> {
+    ghost use Rattle.std.specs.Prelude.{List};
+    ghost use Rattle.et_listing.specs.declared.entry.Entry.{Entry};
+    ghost use Rattle.et_asm.specs.Symbols.{AreIndicesOf};
+
+    ghost Value = { List Entry };
+
+    ghost view = { λ s. s.entries.keys };
+
+    ghost invariant = { λ s. AreIndicesOf s.entries.keys s.indices.items s.end };
+}
+
+impl<'a> Symbols<'a> {
+    /// Its entries, in order.
+    pub(crate) fn entries(&self) -> &[Entry<'a>]
+        ensures { result.now ≡ self.now }
+    {
+        self.entries.as_slice()
+    }
+
+    /// The index behind its entries: the count of the class file.
+    pub(crate) fn end(&self) -> usize
+        ensures { result ≡ index_behind self.now }
+    {
+        self.end
+    }
 }
 
 /// The constant pool of lines, with the index of each entry.
 pub(crate) fn symbols_of<'a>(alloc: Global, lines: &[Parsed<'a>]) -> Result<Symbols<'a>, AllocError>
-    ensures { IfOk result (λ s. HasIndexOf s (pool lines.now)) }
+    ensures { IfOk result (λ s. s ≡ pool lines.now) }
 {
     let entries = pool(alloc, lines)?;
     let (indices, end) = indices(alloc, entries.as_slice())?;
@@ -68,8 +97,7 @@ pub(crate) fn symbols_of<'a>(alloc: Global, lines: &[Parsed<'a>]) -> Result<Symb
 
 /// The index of an entry, or 0 where the pool lacks it.
 pub(crate) fn index_of<'a>(symbols: &Symbols<'a>, e: &Entry<'a>) -> usize
-    requires { HasIndexOf symbols.now symbols.now.entries.keys }
-    ensures { result ≡ entry_index symbols.now.entries.keys e.now }
+    ensures { result ≡ entry_index symbols.now e.now }
 {
     match symbols.entries.get_index_of(e) {
         Some(place) => symbols.indices[place],

@@ -1,4 +1,4 @@
-use Rattle.std.proofs.Common.{◌≡◌, ◌+◌, ◌≤◌, cond, Bool, refl, sym, ap, ◌∙◌, take, get_or, arith, rules}
+use Rattle.std.proofs.Common.{◌≡◌, ◌+◌, cond, Bool, refl, ap, ◌∙◌, get_or, rules}
 use Rattle.std.proofs.Math.Path.{fun_ext}
 use Rattle.et_base.specs.Marks.{first_from}
 use Rattle.et_asm.specs.Code.{labels_of, is_catch}
@@ -13,7 +13,7 @@ use Rattle.et_asm.proofs.check.check_body.Goals as goal
 pub loop-i-init : goal.loop-i-init
 loop-i-init c = record {
   found = refl;
-  seen = λ q. ap (λ es. places es q) c.new-seen.ensures.empty ∙ labels_none c.args.symbols.now.entries.keys q;
+  seen = λ q. ap (λ es. places es q) c.new-seen.ensures.empty ∙ labels_none c.args.symbols.now q;
   at = refl;
   catches = refl;
   few = search rules;
@@ -21,7 +21,7 @@ loop-i-init c = record {
 
 pub loop-i-preserved : goal.loop-i-preserved
 loop-i-preserved c =
-    let entries = c.args.symbols.now.entries.keys in
+    let entries = c.args.symbols.now in
     let body = c.args.body.now in
     let labels = labels_of entries body in
     let i = c.loop-i.i in
@@ -44,4 +44,4 @@ loop-i-preserved c =
     }
 
 pub returns : goal.returns
-returns c = loop_end (body_marks_at c.args.symbols.now.entries.keys (labels_of c.args.symbols.now.entries.keys c.args.body.now) c.args.number) c.args.body.now c.loop-i.i c.loop-i.found _ c.loop-i-test.false c.loop-i.invariant.found
+returns c = loop_end (body_marks_at c.args.symbols.now (labels_of c.args.symbols.now c.args.body.now) c.args.number) c.args.body.now c.loop-i.i c.loop-i.found _ c.loop-i-test.false c.loop-i.invariant.found

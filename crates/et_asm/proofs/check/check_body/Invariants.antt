@@ -8,9 +8,9 @@ use Rattle.et_asm.proofs.check.check_body.Given as goal
 
 abbrev pub invariant-loop-i : goal.invariant-loop-i
 invariant-loop-i l = record {
-  found : first_from l.found (left (body_marks_at l.symbols.entries.keys (labels_of l.symbols.entries.keys l.body) l.number) l.body l.i) ≡ first_from l.fn.first (listed_body_marks l.symbols.entries.keys l.number l.body);
-  seen : (q : List ℕ) → places l.seen.entries q ≡ labels_of l.symbols.entries.keys (take l.i l.body) q;
-  at : l.at ≡ place_behind l.symbols.entries.keys (take l.i l.body);
+  found : first_from l.found (left (body_marks_at l.symbols (labels_of l.symbols l.body) l.number) l.body l.i) ≡ first_from l.fn.first (listed_body_marks l.symbols l.number l.body);
+  seen : (q : List ℕ) → places l.seen.entries q ≡ labels_of l.symbols (take l.i l.body) q;
+  at : l.at ≡ place_behind l.symbols (take l.i l.body);
   catches : l.catches ≡ catch_count (take l.i l.body);
   few : l.catches ≤ l.i;
 }

@@ -1,10 +1,10 @@
-use Rattle.std.proofs.Common.{◌≡◌, ◌+◌, ◌-◌, ◌≤◌, ◌∷◌, [], cond, refl, sym, ap, ◌∙◌, length, take, drop, None, arith, rules}
-use Rattle.std.proofs.lemmas.Grind.{common_steps}
+use Rattle.std.proofs.Common.{◌+◌, ◌-◌, ◌∷◌, [], ap, ◌∙◌, length, take, None}
 use Rattle.et_base.specs.Marks.{marked, first_from, mark}
 use Rattle.et_asm.specs.declared.fault.TheConstants.{ORDER}
 use Rattle.et_asm.specs.Along.{along_lines}
-use Rattle.et_asm.specs.Order.{stage_of, is_finished}
-use Rattle.et_asm.specs.Listings.{count, is_interface_line, is_field_line, is_method_line, line_marks, end_mark}
+use Rattle.et_asm.specs.Order.{is_finished}
+use Rattle.et_asm.specs.Listings.{is_interface_line, is_field_line, is_method_line, line_marks, end_mark}
+use Rattle.et_asm.proofs.Taken.{rest_is}
 use Rattle.et_asm.proofs.Stages.{stage_more, stage_all, count_more, few_more}
 use Rattle.et_asm.proofs.Marked.{loop_more, loop_end, marks_more, marks_none}
 use Rattle.et_asm.proofs.Checked.{line_step, few_is, mark_then}
@@ -12,21 +12,19 @@ use Rattle.et_asm.proofs.check.check_lines.Goals as goal
 
 pub loop-i-preserved : goal.loop-i-preserved
 loop-i-preserved c =
-    let entries = c.args.symbols.now.entries.keys in
+    let entries = c.args.symbols.now in
     let lines = c.args.lines.now in
     let i = c.loop-i.i in
     let p = c.index-lines-i.result in
     let lt = c.loop-i-test.true in
     let is = c.index-lines-i.is in
-    let more = take (length lines - (i + 1)) (drop (i + 1) lines) in
-    let behind : more ≡ drop (i + 1) lines = grind (arith, common_steps) in
     let interfaces = count_more is_interface_line lines i p c.loop-i.counts.interfaces c.with-counts.result.interfaces lt is c.with-counts.ensures.interfaces c.loop-i.invariant.interfaces in
     let fields = count_more is_field_line lines i p c.loop-i.counts.fields c.with-counts.result.fields lt is c.with-counts.ensures.fields c.loop-i.invariant.fields in
     let methods = count_more is_method_line lines i p c.loop-i.counts.methods c.with-counts.result.methods lt is c.with-counts.ensures.methods c.loop-i.invariant.methods in
     let few = few_is (take (i + 1) lines) _ _ _ c.are_few.result c.are_few.ensures interfaces fields methods in
     record {
       found = loop_more (line_marks entries) lines i p c.loop-i.found c.in_ok-found.found _ lt is
-          (c.in_ok-found.ensures ∙ ap (first_from c.loop-i.found) (line_step entries lines i p c.loop-i.stage c.are_few.result more lt is c.loop-i.invariant.stage few behind))
+          (c.in_ok-found.ensures ∙ ap (first_from c.loop-i.found) (line_step entries lines i p c.loop-i.stage c.are_few.result _ lt is c.loop-i.invariant.stage few (rest_is lines i)))
           c.loop-i.invariant.found;
       stage = stage_more lines i p c.loop-i.stage c.step-stage.result lt is c.step-stage.ensures c.loop-i.invariant.stage;
       interfaces = interfaces;
@@ -39,7 +37,7 @@ loop-i-preserved c =
 
 pub returns : goal.returns
 returns c =
-    let entries = c.args.symbols.now.entries.keys in
+    let entries = c.args.symbols.now in
     let lines = c.args.lines.now in
     let i = c.loop-i.i in
     let found = loop_end (line_marks entries) lines i c.loop-i.found _ c.loop-i-test.false c.loop-i.invariant.found in

@@ -8,7 +8,7 @@ use Rattle.et_asm.proofs.check.check_lines.Given as goal
 
 abbrev pub invariant-loop-i : goal.invariant-loop-i
 invariant-loop-i l = record {
-  found : first_from l.found (left (line_marks l.symbols.entries.keys) l.lines l.i) ≡ first_from None (along_lines (line_marks l.symbols.entries.keys) l.lines);
+  found : first_from l.found (left (line_marks l.symbols) l.lines l.i) ≡ first_from None (along_lines (line_marks l.symbols) l.lines);
   stage : l.stage ≡ stage_of (take l.i l.lines);
   interfaces : l.counts.interfaces ≡ count is_interface_line (take l.i l.lines);
   fields : l.counts.fields ≡ count is_field_line (take l.i l.lines);

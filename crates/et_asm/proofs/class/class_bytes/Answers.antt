@@ -9,7 +9,7 @@ use Rattle.et_asm.proofs.class.class_bytes.Goals as goal
 pub returns : goal.returns
 unfolding listed_class_bytes
 returns c =
-    let entries = c.args.symbols.now.entries.keys in
+    let entries = c.args.symbols.now in
     let ps = c.args.lines.now in
     let start = c.new-out.result.items in
     let o1 = c.put_u4.new.out.items in

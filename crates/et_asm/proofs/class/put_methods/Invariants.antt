@@ -7,5 +7,5 @@ use Rattle.et_asm.proofs.class.put_methods.Given as goal
 abbrev pub invariant-loop-i : goal.invariant-loop-i
 invariant-loop-i l = record {
   stage : l.stage ≡ stage_of (take l.i l.lines);
-  put : l.out.items ++ left (method_bytes_at l.symbols.entries.keys) l.lines l.i ≡ l.initial.out.items ++ methods_bytes l.symbols.entries.keys l.lines;
+  put : l.out.items ++ left (method_bytes_at l.symbols) l.lines l.i ≡ l.initial.out.items ++ methods_bytes l.symbols l.lines;
 }

@@ -7,7 +7,7 @@ use Rattle.et_asm.proofs.class.put_value.Goals as goal
 
 pub returns : goal.returns
 returns c =
-    let entries = c.args.symbols.now.entries.keys in
+    let entries = c.args.symbols.now in
     let start = c.args.out.now.items in
     let o1 = c.put_u2.new.out.items in
     let o2 = c.put_index.new.out.items in

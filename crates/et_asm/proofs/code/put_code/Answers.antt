@@ -10,7 +10,7 @@ loop-p-init c = record { at = search rules; put = refl }
 
 pub loop-p-preserved : goal.loop-p-preserved
 loop-p-preserved c =
-    let entries = c.args.symbols.now.entries.keys in
+    let entries = c.args.symbols.now in
     let labels = places c.args.labels.now.entries in
     record {
       at = place_more entries c.args.body.now c.loop-p.p-index c.p-item.result c.loop-p.at c.in_ok-at.at c.loop-p-test.true c.p-item.is c.in_ok-at.ensures c.loop-p.invariant.at;
@@ -19,4 +19,4 @@ loop-p-preserved c =
     }
 
 pub returns : goal.returns
-returns c = along_end (encoded_at c.args.symbols.now.entries.keys (places c.args.labels.now.entries)) c.args.body.now c.loop-p.p-index c.loop-p.out.items _ c.loop-p-test.false c.loop-p.invariant.put
+returns c = along_end (encoded_at c.args.symbols.now (places c.args.labels.now.entries)) c.args.body.now c.loop-p.p-index c.loop-p.out.items _ c.loop-p-test.false c.loop-p.invariant.put

@@ -6,6 +6,6 @@ use Rattle.et_asm.proofs.code.put_code.Given as goal
 
 abbrev pub invariant-loop-p : goal.invariant-loop-p
 invariant-loop-p l = record {
-  at : l.at ≡ place_behind l.symbols.entries.keys (take l.p-index l.body);
-  put : l.out.items ++ left (encoded_at l.symbols.entries.keys (places l.labels.entries)) l.body l.p-index ≡ l.initial.out.items ++ code_bytes l.symbols.entries.keys (places l.labels.entries) l.body;
+  at : l.at ≡ place_behind l.symbols (take l.p-index l.body);
+  put : l.out.items ++ left (encoded_at l.symbols (places l.labels.entries)) l.body l.p-index ≡ l.initial.out.items ++ code_bytes l.symbols (places l.labels.entries) l.body;
 }

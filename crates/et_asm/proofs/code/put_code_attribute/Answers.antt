@@ -5,7 +5,7 @@ use Rattle.et_asm.proofs.code.put_code_attribute.Goals as goal
 
 pub returns : goal.returns
 returns c =
-    let entries = c.args.symbols.now.entries.keys in
+    let entries = c.args.symbols.now in
     let body = c.args.body.now in
     let labels = labels_of entries body in
     let head = c.in_ok-put_code_head.ensures ∙ (ap (λ n. c.args.out.now.items ++ code_head c.args.limits n c.catch_count-rows.result) c.in_ok-size.ensures ∙ ap (λ n. c.args.out.now.items ++ code_head c.args.limits (place_behind entries body) n) c.catch_count-rows.ensures.count) in

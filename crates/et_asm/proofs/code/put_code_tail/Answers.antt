@@ -13,7 +13,7 @@ returns c =
     let o2 = c.put_rows.new.out.items in
     let end = c.put_u2-2.new.out.items in
     let count = u2 (catch_count c.args.body.now) in
-    let rows = flat_map (λ p. row_bytes c.args.symbols.now.entries.keys (places c.args.labels.now.entries) p.line) c.args.body.now in
+    let rows = flat_map (λ p. row_bytes c.args.symbols.now (places c.args.labels.now.entries) p.line) c.args.body.now in
     on_ok (λ last. chain start o1 end count (rows ++ u2 0) (c.in_ok-put_u2.ensures ∙ ap (λ n. start ++ u2 n) c.catch_count.ensures.count)
     (chain o1 o2 end rows (u2 0) c.in_ok-put_rows.ensures last))
     c.put_u2-2.result c.put_u2-2.ensures

@@ -5,6 +5,6 @@ use Rattle.et_asm.proofs.labels.labels_of.Given as goal
 
 abbrev pub invariant-loop-p : goal.invariant-loop-p
 invariant-loop-p l = record {
-  at : l.at ≡ place_behind l.symbols.entries.keys (take l.p-index l.body);
-  labels : (q : List ℕ) → places l.labels.entries q ≡ labels_of l.symbols.entries.keys (take l.p-index l.body) q;
+  at : l.at ≡ place_behind l.symbols (take l.p-index l.body);
+  labels : (q : List ℕ) → places l.labels.entries q ≡ labels_of l.symbols (take l.p-index l.body) q;
 }

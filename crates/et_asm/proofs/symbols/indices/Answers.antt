@@ -1,4 +1,4 @@
-use Rattle.std.proofs.Common.{◌≡◌, ap, ◌+◌, ◌∙◌, arith}
+use Rattle.std.proofs.Common.{ap, ◌+◌, ◌∙◌, arith}
 use Rattle.et_asm.proofs.Indices.{behind_more, indices_more, behind_all, counted_more}
 use Rattle.et_asm.proofs.symbols.indices.Goals as goal
 
