@@ -1,26 +1,19 @@
 //! What the instructions on fields, arrays and classes come to, by their rows.
 ghost use Rattle.std.specs.Prelude.{◌≡◌, ◌+◌, ◌<◌, ◌≤◌, false, IfOk};
-ghost use Rattle.et_event.specs.declared.rows.HeapRow.{HeapRow as OfHeap};
 ghost use Rattle.et_event.specs.Heap.{heap_event};
-ghost use Rattle.et_event.specs.Moments.{Moment, moment};
+ghost use Rattle.et_event.specs.Moments.{moment};
 ghost use Rattle.et_event.specs.Programs.{AreElementsWithin, HasSlots};
-ghost use Rattle.et_event.specs.Sites.{Site};
 ghost use Rattle.et_event.specs.Sound.{IsSoundFor};
-ghost use Rattle.et_program.specs.Entries.{Linked};
 ghost use Rattle.et_refs.specs.Asked.{MayRefer};
-ghost use Rattle.et_refs.specs.Accesses.{MayWant, wanted_outcome};
-ghost use Rattle.et_refs.specs.Changes.{MayExchange, MayMake, exchange_outcome, new_array_outcome};
 ghost use Rattle.et_refs.specs.LiftedChanges.{is_lifted_row};
-ghost use Rattle.et_refs.specs.Refusals.{ComesTo, outcome_of};
+ghost use Rattle.et_refs.specs.Refusals.{ComesTo};
 ghost use Rattle.et_refs.specs.Rows.{MayDo, is_get_static, plan_outcome};
-ghost use Rattle.et_heap.specs.Objects.{Objects};
 ghost use Rattle.et_state.specs.State.{kept_of};
-ghost use Rattle.et_state.specs.Threads.{FrameState};
 ghost use Rattle.et_state.specs.Words.{top};
 
 use crate::arrays::{new_array, new_reference_array};
 use crate::doing::accesses::Wanted;
-use crate::doing::changes::{Change, Exchange, NewArray};
+use crate::doing::changes::Change;
 use crate::refusals::Refusal;
 use crate::slots::static_fields::write_field as write_static_field;
 use crate::types::casts::{TypeTest, type_test};
@@ -40,45 +33,6 @@ pub enum Plan {
     Access(Wanted),
     /// Arrays of some dimensions are made, where their checks allow it (`multianewarray`).
     Arrays,
-}
-
-/// A value that is put in the place of operands, as a plan.
-fn put(answer: Result<Exchange, Refusal>) -> Result<Plan, Refusal>
-    ensures is { (e : Moment) (at : Site) →
-        outcome_of e answer (exchange_outcome e at) ≡ outcome_of e result (plan_outcome e at) }
-    ensures may { (p : Linked) (heap : Objects) (f : FrameState) (r : OfHeap) →
-        IfOk answer (λ x. MayExchange heap f x) → IfOk result (λ x. MayDo p heap f r x) }
-{
-    match answer {
-        Ok(x) => Ok(Plan::Change(Change::Put(x))),
-        Err(refusal) => Err(refusal),
-    }
-}
-
-/// An array that is made, as a plan.
-fn make(answer: Result<NewArray, Refusal>) -> Result<Plan, Refusal>
-    ensures is { (e : Moment) (at : Site) →
-        outcome_of e answer (new_array_outcome e at) ≡ outcome_of e result (plan_outcome e at) }
-    ensures may { (p : Linked) (heap : Objects) (f : FrameState) (r : OfHeap) →
-        IfOk answer (λ x. MayMake f) → IfOk result (λ x. MayDo p heap f r x) }
-{
-    match answer {
-        Ok(x) => Ok(Plan::Change(Change::Make(x))),
-        Err(refusal) => Err(refusal),
-    }
-}
-
-/// What is done with a class, as a plan.
-fn access(answer: Result<Wanted, Refusal>) -> Result<Plan, Refusal>
-    ensures is { (e : Moment) (at : Site) →
-        outcome_of e answer (wanted_outcome e at) ≡ outcome_of e result (plan_outcome e at) }
-    ensures may { (p : Linked) (heap : Objects) (f : FrameState) (r : OfHeap) →
-        IfOk answer (λ x. MayWant p f x) → IfOk result (λ x. MayDo p heap f r x) }
-{
-    match answer {
-        Ok(x) => Ok(Plan::Access(x)),
-        Err(refusal) => Err(refusal),
-    }
 }
 
 /// Whether the row is that of `getstatic`.
@@ -118,23 +72,31 @@ pub fn plan_of<L: Ledger>(
         | HeapRow::LoadElement(_)
         | HeapRow::StoreElement(_)
         | HeapRow::ArrayLength => unreachable!(),
-        HeapRow::PutStatic => access(write_static_field(program, machine, thread, place)),
-        HeapRow::New => access(new_object(program, machine, thread, place)),
+        HeapRow::PutStatic => {
+            let x = write_static_field(program, machine, thread, place)?;
+            Ok(Plan::Access(x))
+        }
+        HeapRow::New => {
+            let x = new_object(program, machine, thread, place)?;
+            Ok(Plan::Access(x))
+        }
         HeapRow::CheckCast => {
-            put(type_test(program, machine, thread, place, TypeTest::CheckCast, visits))
+            let x = type_test(program, machine, thread, place, TypeTest::CheckCast, visits)?;
+            Ok(Plan::Change(Change::Put(x)))
         }
         HeapRow::InstanceOf => {
-            put(type_test(
-                program,
-                machine,
-                thread,
-                place,
-                TypeTest::InstanceOf,
-                visits,
-            ))
+            let test = TypeTest::InstanceOf;
+            let x = type_test(program, machine, thread, place, test, visits)?;
+            Ok(Plan::Change(Change::Put(x)))
         }
-        HeapRow::NewArray => make(new_array(program, machine, thread, place)),
-        HeapRow::NewReferenceArray => make(new_reference_array(program, machine, thread, place)),
+        HeapRow::NewArray => {
+            let x = new_array(program, machine, thread, place)?;
+            Ok(Plan::Change(Change::Make(x)))
+        }
+        HeapRow::NewReferenceArray => {
+            let x = new_reference_array(program, machine, thread, place)?;
+            Ok(Plan::Change(Change::Make(x)))
+        }
         HeapRow::NewMultiArray => Ok(Plan::Arrays),
     }
 }

@@ -1,9 +1,9 @@
 //! The event of `multianewarray` (JVMS 6.5).
-ghost use Rattle.std.specs.Prelude.{◌≡◌, ℕ, ◌+◌, ◌-◌, ◌<◌, ◌≤◌, ◌^◌, true, length, drop, Ok, IfOk, OnOk};
+ghost use Rattle.std.specs.Prelude.{◌≡◌, ℕ, ◌+◌, ◌-◌, ◌<◌, ◌≤◌, length, drop, Ok, IfOk};
 ghost use Rattle.et_state.specs.declared.stage.Turn.TheVariants as turns;
 ghost use Rattle.et_state.specs.Threads.{turn_of};
 ghost use Rattle.et_state.specs.State.{Kept, kept_of};
-ghost use Rattle.et_state.specs.Words.{HasFrame, thread_at, top};
+ghost use Rattle.et_state.specs.Words.{thread_at, top};
 ghost use Rattle.et_state.specs.Outcome.{Outcome, state_after};
 ghost use Rattle.et_program.specs.Resolution.{resolve_class};
 ghost use Rattle.et_event.specs.declared.rows.Row.TheVariants as row_kinds;

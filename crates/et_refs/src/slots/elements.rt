@@ -1,6 +1,6 @@
 //! Elements of arrays (JVMS 6.5, arraylength, iaload, iastore and their kin).
-ghost use Rattle.std.specs.Prelude.{◌≡◌, ℕ, ◌+◌, ◌<◌, ◌≤◌, ◌^◌, true, length, pos, Some, IfOk};
-ghost use Rattle.et_base.specs.declared.value.Value.TheVariants.{Int, Ref};
+ghost use Rattle.std.specs.Prelude.{◌≡◌, ℕ, ◌+◌, ◌<◌, ◌≤◌, ◌^◌, true, length, Some, IfOk};
+ghost use Rattle.et_base.specs.declared.value.Value.TheVariants.{Ref};
 ghost use Rattle.et_state.specs.State.{GuestState, Kept};
 ghost use Rattle.et_heap.specs.Refs.{refs_of_value};
 ghost use Rattle.et_program.specs.Entries.{Linked, class_at};

@@ -5,7 +5,6 @@ use Rattle.et_event.specs.declared.rows.HeapRow.{HeapRow}
 use Rattle.et_event.specs.declared.rows.HeapRow.TheVariants.{ArrayLength, GetField, GetStatic, LoadElement, PutField, StoreElement}
 use Rattle.et_refs.specs.LiftedChanges.{is_lifted_row}
 use Rattle.et_refs.specs.Rows.{is_get_static}
-use Rattle.et_state.specs.Words.{top}
 use Rattle.et_refs.proofs.rows.plan_of.Goals as goal
 
 at_odds : (test : HeapRow → Bool) (r s : HeapRow) → test r ≡ false → test s ≡ true → r ≡ s → ⊥
@@ -22,21 +21,3 @@ no_plan r other not_lifted (inr (inr (inr (inr (inr is))))) = at_odds is_lifted_
 
 pub unreachable-requires : goal.unreachable-requires
 unreachable-requires g c = no_plan c.args.row c.requires.other c.requires.not_lifted c.in-GetStatic.is
-
-pub returns-in-PutStatic-clause-may : goal.returns-in-PutStatic-clause-may
-returns-in-PutStatic-clause-may g c = c.access.ensures.may c.args.program.now c.args.machine.now.heap (top c.args.machine.now.guest c.args.thread) c.args.row c.write_field.ensures.may
-
-pub returns-in-New-clause-may : goal.returns-in-New-clause-may
-returns-in-New-clause-may g c = c.access-in-New.ensures.may c.args.program.now c.args.machine.now.heap (top c.args.machine.now.guest c.args.thread) c.args.row c.new_object.ensures.may
-
-pub returns-in-CheckCast-clause-may : goal.returns-in-CheckCast-clause-may
-returns-in-CheckCast-clause-may g c = c.put.ensures.may c.args.program.now c.args.machine.now.heap (top c.args.machine.now.guest c.args.thread) c.args.row c.type_test.ensures.may
-
-pub returns-in-InstanceOf-clause-may : goal.returns-in-InstanceOf-clause-may
-returns-in-InstanceOf-clause-may g c = c.put-in-InstanceOf.ensures.may c.args.program.now c.args.machine.now.heap (top c.args.machine.now.guest c.args.thread) c.args.row c.type_test-in-InstanceOf.ensures.may
-
-pub returns-in-NewArray-clause-may : goal.returns-in-NewArray-clause-may
-returns-in-NewArray-clause-may g c = c.make.ensures.may c.args.program.now c.args.machine.now.heap (top c.args.machine.now.guest c.args.thread) c.args.row c.new_array.ensures.may
-
-pub returns-in-NewReferenceArray-clause-may : goal.returns-in-NewReferenceArray-clause-may
-returns-in-NewReferenceArray-clause-may g c = c.make-in-NewReferenceArray.ensures.may c.args.program.now c.args.machine.now.heap (top c.args.machine.now.guest c.args.thread) c.args.row c.new_reference_array.ensures.may
