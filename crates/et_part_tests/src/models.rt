@@ -1,8 +1,9 @@
 //! A whole trace, replayed.
-ghost use Rattle.std.specs.Prelude.{◌≤◌, ℕ, [], length};
+ghost use Rattle.std.specs.Prelude.{◌≡◌, ◌≤◌, ℕ, [], length};
 ghost use Rattle.et_replay.specs.Items.{made_objects};
 ghost use Rattle.et_replay.specs.declared.model.Policy.{Policy};
 
+use crate::timelines::TRACE;
 use crate::traces::read;
 use et_io::MemSink;
 use et_models::{Generational, MarkSweep, SemiSpace};
@@ -11,24 +12,6 @@ use et_replay::{HeapModel, Kind, Policy, Timeline, replay, timeline};
 use std::alloc::Global;
 use std::process::Abort;
 use std::test::Fail;
-
-/// Object 1 refers to object 3 and dies with it at event 5; the others die at the end.
-const TRACE: &str = "H 1 0
-C 1 P
-A 1 0 1 1 24 0
-A 2 0 2 1 24 0
-A 3 0 3 1 24 0
-U 4 0 1 0 0 3
-A 6 0 4 1 24 0
-A 7 0 5 1 24 0
-F 8 5
-D 1 5
-D 2 7
-D 3 5
-D 4 7
-D 5 7
-Z 8 0
-";
 
 fn items_of(alloc: Global, text: &str) -> Result<Timeline, Fail> {
     let trace = read(alloc, text.as_bytes(), text.len())?;
@@ -86,6 +69,23 @@ semispace capacity=100 collections=1 copied=48 freed=0 peak=48 exhausted=3
     Ok(())
 }
 
+/// The line of a new model alone, by its policy.
+fn replay_alone(
+    alloc: Global,
+    items: &Timeline,
+    mut model: Box<dyn HeapModel>,
+    policy: Policy,
+    sink: &mut MemSink,
+) -> Result<u32, Fail>
+    requires new { is_new model }
+    requires kind { policy.kind ≡ kind_of model }
+{
+    model.set_policy(policy, items.objects())?;
+    let mut models: Vec<Box<dyn HeapModel>> = Vec::new(alloc);
+    models.push(model)?;
+    Ok(replay(alloc, items, models, sink)?)
+}
+
 fn replay_generations(
     alloc: Global,
     items: &Timeline,
@@ -93,18 +93,13 @@ fn replay_generations(
     old: u64,
     sink: &mut MemSink,
 ) -> Result<u32, Fail> {
-    let mut model = Generational::begin(alloc);
-    model.set_policy(
-        Policy {
-            kind: Kind::Generational,
-            first: nursery,
-            second: old,
-        },
-        items.objects(),
-    )?;
-    let mut models: Vec<Box<dyn HeapModel>> = Vec::new(alloc);
-    models.push(Box::new(alloc, model)?)?;
-    Ok(replay(alloc, items, models, sink)?)
+    let model = Box::new(alloc, Generational::begin(alloc))?;
+    let policy = Policy {
+        kind: Kind::Generational,
+        first: nursery,
+        second: old,
+    };
+    replay_alone(alloc, items, model, policy, sink)
 }
 
 #[test]
@@ -145,18 +140,13 @@ fn replay_counts(
     capacity: u64,
     sink: &mut MemSink,
 ) -> Result<u32, Fail> {
-    let mut model = RefCount::begin(alloc);
-    model.set_policy(
-        Policy {
-            kind: Kind::RefCount,
-            first: capacity,
-            second: 0,
-        },
-        items.objects(),
-    )?;
-    let mut models: Vec<Box<dyn HeapModel>> = Vec::new(alloc);
-    models.push(Box::new(alloc, model)?)?;
-    Ok(replay(alloc, items, models, sink)?)
+    let model = Box::new(alloc, RefCount::begin(alloc))?;
+    let policy = Policy {
+        kind: Kind::RefCount,
+        first: capacity,
+        second: 0,
+    };
+    replay_alone(alloc, items, model, policy, sink)
 }
 
 #[test]

@@ -4,8 +4,8 @@ use et_replay::{Item, timeline};
 use std::process::Abort;
 use std::test::Fail;
 
-/// Two objects die at event 5, and three at event 7; the D lines stand at the end.
-const TRACE: &str = "H 1 0
+/// Object 1 refers to object 3, and both die at event 5; three others die at event 7. The D lines stand at the end.
+pub const TRACE: &str = "H 1 0
 C 1 P
 A 1 0 1 1 24 0
 A 2 0 2 1 24 0
