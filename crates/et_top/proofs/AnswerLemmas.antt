@@ -1,6 +1,6 @@
 -- WHAT IS ANSWERED TO A COMMAND, of what was loaded and of what became of it.
 use Rattle.std.proofs.Common.{◌≡◌, ℕ, false, Bool, List, [], ◌∷◌, map, Some, Result, Ok, Err, refl, sym, ◌∙◌, ap, subst}
-use Rattle.std.specs.Prelude.{IfErr, OnOk, OnErr}
+use Rattle.std.specs.Prelude.{IfErr, IsErrAnd, OnOk, OnErr}
 use Rattle.et_graph.specs.Graph.{Graph, Decides}
 use Rattle.et_io.specs.Faults.{Rose, count_after, is_write_fault}
 use Rattle.et_io.specs.Files.{Held}
@@ -20,7 +20,7 @@ use Rattle.et_files.specs.Loaded.{IsProgramOfFiles, most_of_class}
 use Rattle.et_files.specs.Reads.{ReadsInOrder}
 use Rattle.et_files.specs.Refusals.{status_of}
 use Rattle.et_files.specs.Status.{is_read_status, is_write_status}
-use Rattle.et_files.specs.Told.{IsCause, IsFileRefusal, Tells, cause_of, is_read_cause, is_reading}
+use Rattle.et_files.specs.Told.{IsCause, IsFileRefusal, Tells, cause_of, is_read_cause, is_reading, status_of_result}
 use Rattle.et_files.specs.declared.refusal.Refusal.{Refusal}
 use Rattle.et_files.specs.declared.status.Status.{Status}
 use Rattle.et_files.specs.declared.status.Status.TheVariants as status
@@ -34,7 +34,7 @@ use Rattle.et_top.specs.Top.{Defined, IsAskedDefined, GivesDefined, defined_text
 use Rattle.et_top.specs.Visits.{IsBeforeRun, IsWithoutRun, IsNoTrace, HasUnread}
 use Rattle.et_top.specs.declared.programs.Output.{Output}
 use Rattle.et_top.specs.declared.programs.Output.TheVariants as output
-use Rattle.et_top.proofs.FaultLemmas.{rose_writing, no_usage_writing, no_usage_file}
+use Rattle.et_top.proofs.FaultLemmas.{rose_writing, no_read_writing, no_usage_writing, no_usage_file, write_status}
 use Rattle.et_top.proofs.RunLemmas.{is_run}
 use Rattle.et_top.proofs.TopLemmas.{text_gives, refused_text}
 use Rattle.et_top.proofs.VisitLemmas.{none_unread}
@@ -43,6 +43,11 @@ use Rattle.et_top.proofs.VisitLemmas.{none_unread}
 pub of_arm : {X Y : Type 0} (F : reading.Ghosts X) (O : writing.Ghosts Y) (files files' : X) (out out' : Y) (visits visits' : ℕ) (kinds : List Kind) (x y : Command) (answer : Status)
     → x ≡ y → Answers F O files files' out out' visits visits' kinds (asked_by y) answer → Answers F O files files' out out' visits visits' kinds (asked_by x) answer
 of_arm F O files files' out out' visits visits' kinds x y answer e h = subst (λ (z : Command). Answers F O files files' out out' visits visits' kinds (asked_by z) answer) (sym e) h
+
+-- what was refused is answered by its status
+refused_status : (done : Result (Unit {0}) Refusal) (r : Refusal) → IsErrAnd done (λ e. e ≡ r) → status_of_result done ≡ status_of r
+refused_status (Ok done) r is = absurd is
+refused_status (Err e) r is = ap status_of is
 
 module _ {X Y : Type 0} (F : reading.Ghosts X) (O : writing.Ghosts Y) (files files' : X) (kinds : List Kind) (asked : Asked) where
   -- the files agree with what was read
@@ -74,27 +79,27 @@ module _ {X Y : Type 0} (F : reading.Ghosts X) (O : writing.Ghosts Y) (files fil
     path_read : {A : Type 0} (loaded : Result A Refusal) (answer : Status) → ReadsOne F files files' path (most_of (Some asked)) loaded → ReadsInOrder Agrees (F.asked files) (F.asked files') (most_of (Some asked)) (paths_of (Some asked)) answer
     path_read loaded answer read = subst (λ paths. ReadsInOrder Agrees (F.asked files) (F.asked files') (most_of (Some asked)) paths answer) (sym only) (one_read Agrees (F.asked files) (F.asked files') path (most_of (Some asked)) answer (read.asked.0, read.asked.1))
 
-    pub text_refused : {A : Type 0} (out : Y) (visits : ℕ) (r : Refusal) (answer : Status) → answer ≡ status_of r → ReadsOne {A = A} F files files' path (most_of (Some asked)) (Err r)
+    pub text_refused : {A : Type 0} (out : Y) (visits : ℕ) (r : Refusal) (done : Result (Unit {0}) Refusal) → IsErrAnd done (λ e. e ≡ r) → ReadsOne {A = A} F files files' path (most_of (Some asked)) (Err r)
         → ((held : Held) → Agrees held → (found : Result B Fault) → Found held found → IsCause (Rose (F.faults files) (F.faults files')) found (cause_of r))
-        → Answers F O files files' out out visits visits kinds asked answer
-    text_refused out visits r answer how read causes = refused_answers out visits r answer how read.file read.faults (path_read (Err r) answer read)
+        → Answers F O files files' out out visits visits kinds asked (status_of_result done)
+    text_refused out visits r done is_refused read causes = let answer = status_of_result done in let how = refused_status done r is_refused in refused_answers out visits r answer how read.file read.faults (path_read (Err r) answer read)
         (λ held told d defined reached. let is = defined_by held d defined in refused_text reached (O.taken out) visits visits (Rose (F.faults files) (F.faults files')) (Rose (O.faults out) (O.faults out)) text is.0 r d answer is.2 (causes held told is.0 is.1) how)
 
     -- A TEXT THAT WAS WRITTEN, or not whole
 
-    pub text_answers : {A : Type 0} (out out' : Y) (visits : ℕ) (a : A) (wrote : Result (Unit {0}) RunFault) (answer : Status) → answer ≡ status_of_writing wrote → is_read_status answer ≡ false → is_write_status answer ≡ is_write_fault wrote
+    pub text_answers : {A : Type 0} (out out' : Y) (visits : ℕ) (a : A) (wrote : Result (Unit {0}) RunFault) (answer : Status) → answer ≡ status_of_writing wrote
         → O.faults out' ≡ count_after (is_write_fault wrote) (O.faults out) → ReadsOne F files files' path (most_of (Some asked)) (Ok a)
         → ((held : Held) → Agrees held → (found : Result B Fault) → Found held found → (b : B) × (found ≡ Ok b)
         × ((reached : Graph → ℕ → Bool) → Decides reached → OnOk wrote (O.taken out' ≡ with_more (O.taken out) (text reached b)) × OnErr wrote (TakesPrefix (O.taken out) (O.taken out') (text reached b))))
         → Answers F O files files' out out' visits visits kinds asked answer
-    text_answers out out' visits a wrote answer how no_read writes counted read puts = record {
+    text_answers out out' visits a wrote answer how counted read puts = record {
       gives = λ held told d defined reached decides.
           let is = defined_by held d defined in
           let put = puts held told is.0 is.1 in
           text_gives reached (O.taken out) (O.taken out') visits visits (Rose (F.faults files) (F.faults files')) (Rose (O.faults out) (O.faults out')) text is.0 put.0 d wrote answer is.2 put.1 how (put.2 reached decides).0 (put.2 reached decides).1 (rose_writing wrote _ _ counted);
       usage = λ e. no_usage_writing wrote (sym how ∙ e);
-      read_fault = counted_as false (is_read_status answer) _ _ read.faults no_read;
-      write_fault = counted_as (is_write_fault wrote) (is_write_status answer) _ _ counted writes;
+      read_fault = counted_as false (is_read_status answer) _ _ read.faults (ap is_read_status how ∙ no_read_writing wrote);
+      write_fault = counted_as (is_write_fault wrote) (is_write_status answer) _ _ counted (ap is_write_status how ∙ write_status wrote);
       reads = path_read (Ok a) answer read;
       no_visits = λ without. refl;
       no_trace = λ held told d defined none. refl;

@@ -3,6 +3,7 @@ ghost use Rattle.std.specs.Prelude.{◌≡◌, false};
 ghost use Rattle.et_io.specs.Faults.{is_write_fault};
 ghost use Rattle.et_files.specs.Refusals.{status_of};
 ghost use Rattle.et_files.specs.Status.{is_read_status, is_write_status};
+ghost use Rattle.et_files.specs.Told.{status_of_result};
 ghost use Rattle.et_top.specs.Told.{refusal_of, status_of_writing};
 ghost use Rattle.et_top.specs.Visits.{IsBeforeRun};
 
@@ -29,14 +30,22 @@ pub fn answer_fault<E: Sink>(alloc: Global, fault: RunFault, err: &mut E) -> Sta
     refuse(alloc, err, &of_fault(fault))
 }
 
-/// The status of a text that was written, or was not.
-pub fn written<E: Sink>(alloc: Global, wrote: Result<(), RunFault>, err: &mut E) -> Status
-    ensures status { result ≡ status_of_writing wrote }
-    ensures no_read { is_read_status result ≡ false }
-    ensures writes { is_write_status result ≡ is_write_fault wrote }
+/// What became of a text that was written, or was not.
+pub fn written<'a>(wrote: Result<(), RunFault>) -> Result<(), Refusal<'a>>
+    ensures { status_of_result result ≡ status_of_writing wrote }
 {
     match wrote {
+        Ok(()) => Ok(()),
+        Err(fault) => Err(of_fault(fault)),
+    }
+}
+
+/// The status of what was done, or was refused, of which err is told.
+pub fn answer<E: Sink>(alloc: Global, done: Result<(), Refusal<'_>>, err: &mut E) -> Status
+    ensures { result ≡ status_of_result done.entry }
+{
+    match done {
         Ok(()) => Status::Done,
-        Err(fault) => answer_fault(alloc, fault, err),
+        Err(refusal) => refuse(alloc, err, &refusal),
     }
 }

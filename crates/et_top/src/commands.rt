@@ -2,6 +2,7 @@
 ghost use Rattle.std.specs.Prelude.{◌<◌, ℕ, List, All, length, map, string_bytes};
 ghost use Rattle.et_replay.specs.declared.model.Kind.{Kind};
 ghost use Rattle.et_command.specs.Command as words;
+ghost use Rattle.et_files.specs.Told.{status_of_result};
 ghost use Rattle.et_top.specs.Answers.{Answers};
 
 use crate::answers::written;
@@ -10,7 +11,7 @@ use crate::verdict::tell_verdict;
 use et_command::Models;
 use et_convert::convert_bytes;
 use et_files::{
-    Status, follow_file, load_bytes, load_listing, load_program, load_trace_to, refuse,
+    Refusal, Status, follow_file, load_bytes, load_listing, load_program, load_trace_to, refuse,
 };
 use et_io::{Files, Sink, put_all};
 use et_replay::{Curve, Happenings, HeapModel};
@@ -18,21 +19,18 @@ use et_snapshot::snapshot_lines;
 use std::alloc::Global;
 
 /// The command `asm`.
-pub fn assemble<F: Files, O: Sink, E: Sink>(
+pub fn assemble<'a, F: Files, O: Sink>(
     alloc: Global,
-    path: &str,
+    path: &'a str,
     files: &mut F,
     out: &mut O,
-    err: &mut E,
-) -> Status
+) -> Result<(), Refusal<'a>>
     ensures { (kinds : List Kind) (visits : ℕ) →
         Answers F.Files O.Sink files.old files.new out.old out.new visits visits
-        kinds (words.Assemble path.now) result }
+        kinds (words.Assemble path.now) (status_of_result result) }
 {
-    match load_listing(alloc, path, files) {
-        Ok(bytes) => written(alloc, put_all(out, bytes.as_slice()), err),
-        Err(refusal) => refuse(alloc, err, &refusal),
-    }
+    let bytes = load_listing(alloc, path, files)?;
+    written(put_all(out, bytes.as_slice()))
 }
 
 /// The command `verify`.
@@ -55,81 +53,66 @@ pub fn verify<F: Files, O: Sink, E: Sink>(
 }
 
 /// The command `convert`.
-pub fn convert<F: Files, O: Sink, E: Sink>(
+pub fn convert<'a, F: Files, O: Sink>(
     alloc: Global,
-    path: &str,
+    path: &'a str,
     files: &mut F,
     out: &mut O,
-    err: &mut E,
-) -> Status
+) -> Result<(), Refusal<'a>>
     ensures { (kinds : List Kind) (visits : ℕ) →
         Answers F.Files O.Sink files.old files.new out.old out.new visits visits
-        kinds (words.Convert path.now) result }
+        kinds (words.Convert path.now) (status_of_result result) }
 {
-    match load_bytes(alloc, path, files) {
-        Ok(bytes) => written(alloc, convert_bytes(alloc, &bytes, out), err),
-        Err(refusal) => refuse(alloc, err, &refusal),
-    }
+    let bytes = load_bytes(alloc, path, files)?;
+    written(convert_bytes(alloc, &bytes, out))
 }
 
 /// The command `curve`.
-pub fn curve<F: Files, O: Sink, E: Sink>(
+pub fn curve<'a, F: Files, O: Sink>(
     alloc: Global,
-    path: &str,
+    path: &'a str,
     files: &mut F,
     out: &mut O,
-    err: &mut E,
-) -> Status
+) -> Result<(), Refusal<'a>>
     ensures { (kinds : List Kind) (visits : ℕ) →
         Answers F.Files O.Sink files.old files.new out.old out.new visits visits
-        kinds (words.Curve path.now) result }
+        kinds (words.Curve path.now) (status_of_result result) }
 {
-    match follow_file(alloc, path, files, Curve::begin(alloc)) {
-        Ok(curve) => written(alloc, curve.put(alloc, out), err),
-        Err(refusal) => refuse(alloc, err, &refusal),
-    }
+    let curve = follow_file(alloc, path, files, Curve::begin(alloc))?;
+    written(curve.put(alloc, out))
 }
 
 /// The command `snapshot`.
-pub fn snapshot<F: Files, O: Sink, E: Sink>(
+pub fn snapshot<'a, F: Files, O: Sink>(
     alloc: Global,
-    path: &str,
+    path: &'a str,
     event: u64,
     files: &mut F,
     out: &mut O,
-    err: &mut E,
-) -> Status
+) -> Result<(), Refusal<'a>>
     ensures { (kinds : List Kind) (visits : ℕ) →
         Answers F.Files O.Sink files.old files.new out.old out.new visits visits
-        kinds (words.Snapshot path.now event) result }
+        kinds (words.Snapshot path.now event) (status_of_result result) }
 {
-    match load_trace_to(alloc, path, event, files) {
-        Ok(trace) => written(alloc, snapshot_lines(alloc, &trace, event, out), err),
-        Err(refusal) => refuse(alloc, err, &refusal),
-    }
+    let trace = load_trace_to(alloc, path, event, files)?;
+    written(snapshot_lines(alloc, &trace, event, out))
 }
 
 /// The command `replay`.
-pub fn replay<F: Files, O: Sink, E: Sink>(
+pub fn replay<'a, F: Files, O: Sink>(
     alloc: Global,
     asked: &Models,
-    path: &str,
+    path: &'a str,
     files: &mut F,
     out: &mut O,
-    err: &mut E,
     models: Vec<Box<dyn HeapModel>>,
-) -> Status
+) -> Result<(), Refusal<'a>>
     requires new { All (λ b. is_new b) models.items }
     ensures { (visits : ℕ) →
         Answers F.Files O.Sink files.old files.new out.old out.new visits visits
-        (map (λ b. kind_of b) models.items) (words.Replay asked.now path.now) result }
+        (map (λ b. kind_of b) models.items) (words.Replay asked.now path.now)
+        (status_of_result result) }
 {
-    match follow_file(alloc, path, files, Happenings::begin(alloc)) {
-        Ok(happenings) => written(
-            alloc,
-            replay_trace(alloc, asked, happenings, models, out),
-            err,
-        ),
-        Err(refusal) => refuse(alloc, err, &refusal),
-    }
+    let happenings = follow_file(alloc, path, files, Happenings::begin(alloc))?;
+    written(replay_trace(alloc, asked, happenings, models, out))
 }

@@ -12,7 +12,7 @@ ghost use Rattle.et_top.specs.Runs.{defines, history_of, status_of_run};
 ghost use Rattle.et_top.specs.Top.{GivesDefined, status_of_end};
 ghost use Rattle.et_top.specs.Visits.{IsBeforeRun};
 
-use crate::answers::answer_fault;
+use crate::answers::{answer, answer_fault};
 use crate::discard::Discard;
 use et_base::{End, MethodId, Steps};
 use et_files::{Escaped, Refusal, Status, refuse};
@@ -64,10 +64,7 @@ pub fn answer_end<E: Sink>(alloc: Global, program: &Program, end: End, err: &mut
     ensures no_write { is_write_status result ≡ false }
     ensures of_run { IsBeforeRun result → ⊥ }
 {
-    match ended(program, end) {
-        Ok(()) => Status::Done,
-        Err(refusal) => refuse(alloc, err, &refusal),
-    }
+    answer(alloc, ended(program, end), err)
 }
 
 /// The status of a run, of which err is told where it isn't done.

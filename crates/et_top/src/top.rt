@@ -12,6 +12,7 @@ ghost use Rattle.et_files.specs.Status.{is_read_status, is_write_status};
 ghost use Rattle.et_top.specs.Top.{Defined, IsDefined, GivesDefined};
 ghost use Rattle.et_top.specs.Visits.{IsWithoutRun, IsNoTrace, HasUnread};
 
+use crate::answers::answer;
 use crate::bench::{CELLS, ROUNDS, bench};
 use crate::commands::{assemble, convert, curve, replay, snapshot, verify};
 use crate::programs::{Output, run};
@@ -47,15 +48,17 @@ fn perform<F: Files, O: Sink, E: Sink, L: Ledger>(
             let loaded = load_program(alloc, *paths, files);
             run(alloc, Output::Prints, options, loaded, out, err, visits)
         }
-        Command::Assemble(path) => assemble(alloc, *path, files, out, err),
+        Command::Assemble(path) => answer(alloc, assemble(alloc, *path, files, out), err),
         Command::Verify(paths) => verify(alloc, *paths, files, out, err),
         Command::Replay {
             models: asked,
             path,
-        } => replay(alloc, asked, *path, files, out, err, models),
-        Command::Convert(path) => convert(alloc, *path, files, out, err),
-        Command::Curve(path) => curve(alloc, *path, files, out, err),
-        Command::Snapshot { path, event } => snapshot(alloc, *path, *event, files, out, err),
+        } => answer(alloc, replay(alloc, asked, *path, files, out, models), err),
+        Command::Convert(path) => answer(alloc, convert(alloc, *path, files, out), err),
+        Command::Curve(path) => answer(alloc, curve(alloc, *path, files, out), err),
+        Command::Snapshot { path, event } => {
+            answer(alloc, snapshot(alloc, *path, *event, files, out), err)
+        }
         Command::Bench(number) => bench(alloc, *number, CELLS, ROUNDS, out, err, visits),
     }
 }

@@ -10,7 +10,7 @@ ghost use Rattle.et_top.specs.Top.{verified_text, Verifies, GivesDefined};
 ghost use Rattle.et_verify.specs.Typings.{IsVerified};
 ghost use Rattle.et_verify.specs.Verdicts.{verified_count};
 
-use crate::answers::written;
+use crate::answers::{answer, written};
 use et_base::{MethodId, NoMemory};
 use et_files::{Escaped, Refusal, Status, refuse};
 use et_io::{Sink, put_all};
@@ -37,7 +37,7 @@ fn put_count<O: Sink, E: Sink>(alloc: Global, count: u32, out: &mut O, err: &mut
     ensures usage { result ≡ Status.Usage → ⊥ }
 {
     match verified_line(alloc, count) {
-        Ok(line) => written(alloc, put_all(out, line.as_bytes()), err),
+        Ok(line) => answer(alloc, written(put_all(out, line.as_bytes())), err),
         Err(_) => refuse(alloc, err, &Refusal::NoMemory),
     }
 }

@@ -20,22 +20,22 @@ returns-in-Run g c = of_arm _ _ _ _ _ _ _ _ _ _ _ _ c.in-Run.is (run_answers g.F
     c.run-in-Run.ensures.gives c.run-in-Run.ensures.usage c.run-in-Run.ensures.read_fault c.run-in-Run.ensures.write_fault c.run-in-Run.ensures.refused c.run-in-Run.ensures.no_visits c.run-in-Run.ensures.unread)
 
 pub returns-in-Assemble : goal.returns-in-Assemble
-returns-in-Assemble g c = of_arm _ _ _ _ _ _ _ _ _ _ _ _ c.in-Assemble.is (c.assemble.ensures _ _)
+returns-in-Assemble g c = of_arm _ _ _ _ _ _ _ _ _ _ _ _ c.in-Assemble.is (rw c.answer.ensures (c.assemble.ensures _ _))
 
 pub returns-in-Verify : goal.returns-in-Verify
 returns-in-Verify g c = of_arm _ _ _ _ _ _ _ _ _ _ _ _ c.in-Verify.is (c.verify.ensures _ _)
 
 pub returns-in-Convert : goal.returns-in-Convert
-returns-in-Convert g c = of_arm _ _ _ _ _ _ _ _ _ _ _ _ c.in-Convert.is (c.convert.ensures _ _)
+returns-in-Convert g c = of_arm _ _ _ _ _ _ _ _ _ _ _ _ c.in-Convert.is (rw c.answer-in-Convert.ensures (c.convert.ensures _ _))
 
 pub returns-in-Curve : goal.returns-in-Curve
-returns-in-Curve g c = of_arm _ _ _ _ _ _ _ _ _ _ _ _ c.in-Curve.is (c.curve.ensures _ _)
+returns-in-Curve g c = of_arm _ _ _ _ _ _ _ _ _ _ _ _ c.in-Curve.is (rw c.answer-in-Curve.ensures (c.curve.ensures _ _))
 
 pub returns-in-Snapshot : goal.returns-in-Snapshot
-returns-in-Snapshot g c = of_arm _ _ _ _ _ _ _ _ _ _ _ _ c.in-Snapshot.is (c.snapshot.ensures _ _)
+returns-in-Snapshot g c = of_arm _ _ _ _ _ _ _ _ _ _ _ _ c.in-Snapshot.is (rw c.answer-in-Snapshot.ensures (c.snapshot.ensures _ _))
 
 pub returns-in-Replay : goal.returns-in-Replay
-returns-in-Replay g c = of_arm _ _ _ _ _ _ _ _ _ _ _ _ c.in-Replay.is (c.replay.ensures _)
+returns-in-Replay g c = of_arm _ _ _ _ _ _ _ _ _ _ _ _ c.in-Replay.is (rw c.answer-in-Replay.ensures (c.replay.ensures _))
 
 pub returns-in-Bench : goal.returns-in-Bench
 returns-in-Bench g c = of_arm g.F.Files g.O.Sink c.args.files.now c.args.files.now c.args.out.now c.bench.new.out c.args.visits.now c.bench.new.visits _ _ _ c.bench.result c.in-Bench.is (record {
